@@ -366,27 +366,27 @@ each_is most (Tick now ∷ calls) e =
 
 told_in_time : List Call → Bool
 told_in_time [] = true
-told_in_time (Hear port rise width ∷ calls) = nat_le (last_tick start calls) (rise + width + 1000) && told_in_time calls
+told_in_time (Hear port rise width ∷ calls) = nat_le (last_tick start calls) (rise + width + 3000) && told_in_time calls
 told_in_time (Tick now ∷ calls) = told_in_time calls
 
 told_is : (calls : List Call) → told_in_time calls ≡ true → AreToldInTime start calls []
 unfolding told_in_time
 told_is [] e = tt
 told_is (Hear port rise width ∷ calls) e =
-    let a = split_and (nat_le (last_tick start calls) (rise + width + 1000)) (told_in_time calls) e in
-    (subst (λ (c : List Call). last_tick start c ≤ rise + width + 1000) (sym (append-nil calls)) (leb-true (last_tick start calls) (rise + width + 1000) a.0), told_is calls a.1)
+    let a = split_and (nat_le (last_tick start calls) (rise + width + 3000)) (told_in_time calls) e in
+    (subst (λ (c : List Call). last_tick start c ≤ rise + width + 3000) (sym (append-nil calls)) (leb-true (last_tick start calls) (rise + width + 3000) a.0), told_is calls a.1)
 told_is (Tick now ∷ calls) e = told_is calls e
 
 in_turn : List Call → Bool
 in_turn [] = true
-in_turn (call ∷ calls) = nat_le (latest start calls) (made_at call + 1000) && in_turn calls
+in_turn (call ∷ calls) = nat_le (latest start calls) (made_at call + 3000) && in_turn calls
 
 turn_is : (calls : List Call) → in_turn calls ≡ true → AreMadeInTurn start calls []
 unfolding in_turn
 turn_is [] e = tt
 turn_is (call ∷ calls) e =
-    let a = split_and (nat_le (latest start calls) (made_at call + 1000)) (in_turn calls) e in
-    (subst (λ (c : List Call). latest start c ≤ made_at call + 1000) (sym (append-nil calls)) (leb-true (latest start calls) (made_at call + 1000) a.0), turn_is calls a.1)
+    let a = split_and (nat_le (latest start calls) (made_at call + 3000)) (in_turn calls) e in
+    (subst (λ (c : List Call). latest start c ≤ made_at call + 3000) (sym (append-nil calls)) (leb-true (latest start calls) (made_at call + 3000) a.0), turn_is calls a.1)
 
 -- a run of the calls, with the least time that was named since the last tick, and if each tick came
 -- soon behind it
@@ -461,7 +461,7 @@ goes_is late (Tick now ∷ calls) e =
 
 -- ---- so the laws speak of them
 
-in_a_row : (m : ℕ) (calls : List Call) → 400 ≤ m → ((i : ℕ) → i < 2 → pulses_on i calls ≡ sent i m) → ((i : ℕ) → i < 5 → 2 < i → pulses_on i calls ≡ []) → AreInOrder start of.Three calls → edges 4 + 2000 ≤ last_tick start calls → ComeInARow (IsTrueLately 450) noon edges made start 1 calls []
+in_a_row : (m : ℕ) (calls : List Call) → 400 ≤ m → ((i : ℕ) → i < 2 → pulses_on i calls ≡ sent i m) → ((i : ℕ) → i < 5 → 2 < i → pulses_on i calls ≡ []) → AreInOrder start of.Three calls → edges 4 + 3000 ≤ last_tick start calls → ComeInARow (IsTrueLately 450) noon edges made start 1 calls []
 in_a_row m calls long are none order late =
     let same : calls ++ [] ≡ calls = append-nil calls in
     record {
@@ -475,13 +475,13 @@ in_a_row m calls long are none order late =
       ticked = omega arith;
       past = omega arith;
       whole = λ n low. subst (ComesWhole noon edges device (1 + n)) (sym same) (comes_whole m calls are n low (omega (arith, long, low)));
-      last = subst (λ (c : List Call). edges 4 + 2000 ≤ last_tick start c) (sym same) late;
+      last = subst (λ (c : List Call). edges 4 + 3000 ≤ last_tick start c) (sym same) late;
     }
 
 pub second_4 : IsSecond noon 4 (at 43204)
 second_4 = record { from = omega arith; to = omega arith; sod = omega arith; sum = refl }
 
-polls_late : edges 4 + 2000 ≤ last_tick start by_polls
+polls_late : edges 4 + 3000 ≤ last_tick start by_polls
 unfolding by_polls
 polls_late = omega arith
 
@@ -496,7 +496,7 @@ polls_told = refl
 polls_announce : Announces edges device 4 (at 43204) (by_polls ++ [])
 polls_announce = polling_announces noon edges made start 1 95000 by_polls [] (at 43204) (in_a_row 405 by_polls (omega arith) polls_pulses polls_rest polls_in_order polls_late) (omega arith) (each_is 95000 by_polls polls_each) (told_is by_polls polls_told) second_4
 
-waits_late : edges 4 + 2000 ≤ last_tick start by_wait
+waits_late : edges 4 + 3000 ≤ last_tick start by_wait
 unfolding by_wait
 waits_late = omega arith
 

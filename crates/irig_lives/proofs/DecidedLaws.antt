@@ -81,10 +81,10 @@ order_is start r (Hear port rise width ∷ calls) e =
     (ltb-true _ _ a.0, (λ narrow. (let c = both (is_after (pulses_on port calls) rise) _ (if_so (is_pulse width) _ b.0 narrow) in (after_is (pulses_on port calls) rise c.0, leb-true _ _ c.1))), order_is start r calls b.1)
 order_is start r (Tick now ∷ calls) e =
     let a = both (nat_le (last_tick start calls) now) _ e in
-    let b = both (nat_lt (now + 500000) (last_tick start calls + 1800000000)) _ a.1 in
-    let c = both (have_risen now calls) _ b.1 in
+    let b = both (nat_lt (now + 504000) (last_tick start calls + 1800000000)) _ a.1 in
+    let c = both (have_risen (now + 4000) calls) _ b.1 in
     let order = order_is start r calls c.1 in
-    (leb-true _ _ a.0, ltb-true _ _ b.0, risen_is start r now calls c.0 order, order)
+    (leb-true _ _ a.0, ltb-true _ _ b.0, risen_is start r (now + 4000) calls c.0 order, order)
 
 order_from : (start : ℕ) (r : Redundancy) (calls : List Call) → AreInOrder start r calls → in_order start r calls ≡ true
 unfolding in_order
@@ -92,7 +92,7 @@ order_from start r [] h = refl
 order_from start r (Hear port rise width ∷ calls) h =
     and_from _ _ (lt-ltb _ _ h.0) (and_from _ _ (so_if (is_pulse width) _ (λ narrow. and_from _ _ (after_from (pulses_on port calls) rise (h.1 narrow).0) (le-leb _ _ (h.1 narrow).1))) (order_from start r calls h.2))
 order_from start r (Tick now ∷ calls) h =
-    and_from _ _ (le-leb _ _ h.0) (and_from _ _ (lt-ltb _ _ h.1) (and_from _ _ (risen_from now calls h.2) (order_from start r calls h.3)))
+    and_from _ _ (le-leb _ _ h.0) (and_from _ _ (lt-ltb _ _ h.1) (and_from _ _ (risen_from (now + 4000) calls h.2) (order_from start r calls h.3)))
 
 pub order_decided : (start : ℕ) (r : Redundancy) (calls : List Call) → AreInOrder start r calls ↔ (in_order start r calls ≡ true)
 order_decided start r calls = (order_from start r calls, order_is start r calls)

@@ -37,7 +37,7 @@ use Rattle.irig_timekeeper.proofs.LifeLaws.{TellAlwaysTruly, device_true}
 use Rattle.irig_timekeeper.proofs.StampLaws.{stamped}
 use Rattle.irig_timekeeper.proofs.StrayLaws.{never_strays}
 use Rattle.irig_lives.proofs.SentLines.{sent_is_checked, checked_is_line}
-use Rattle.irig_lives.proofs.LifeFacts.{at, noon, no_table, is_device, rules, claim_of, new_lines, are_new, silence, frame_0, frame_1, frame_2, told_0, told_1, true_claim, width_of}
+use Rattle.irig_lives.proofs.LifeFacts.{at, noon, no_delays, no_table, is_device, rules, claim_of, new_lines, are_new, silence, frame_0, frame_1, frame_2, told_0, told_1, true_claim, width_of}
 use Rattle.irig_lives.specs.Decided.{is_after, have_risen, in_order, is_same, is_pulse_of, last_before, are_lately, are_true_lately, are_true_at_ticks}
 use Rattle.irig_lives.proofs.DecidedLaws.{order_is, truly_is}
 
@@ -51,7 +51,7 @@ steady = record { few = omega arith; steady = record { least = λ n. omega arith
 
 -- lines that are so exact
 abbrev clock_of : ℕ → ClockRules
-clock_of within = record { reader_rules = record { lock_after = 1; holdover = 100 }; redundancy = of.Three; within = within_of within; drift_us = 1 }
+clock_of within = record { reader_rules = record { lock_after = 1; holdover = 100 }; redundancy = of.Three; within = within_of within; drift_us = 1; delays = no_delays }
 
 abbrev clock : ClockRules
 clock = clock_of 10
@@ -193,7 +193,7 @@ made = record { limits = None; rules = rules; clock = clock; table = no_table; l
 
 no_stray : (life_of made (Tick now_2 ∷ calls_2)).state.strays ≡ 0
 unfolding made
-no_stray = never_strays (IsTrueLately 10) noon edges made 900000 (Tick now_2 ∷ calls_2) (record { is = by_counter; order = order.1.3; truth = truth.1 }) truly
+no_stray = never_strays noon edges made 900000 (Tick now_2 ∷ calls_2) (record { is = by_counter; order = order.1.3; truth = truth.1 })
 
 -- ---- what that exactness asks
 

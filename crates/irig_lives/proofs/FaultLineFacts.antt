@@ -28,7 +28,7 @@ use Rattle.irig_port.specs.Told.{told_of}
 use Rattle.irig_port.proofs.CarriesLaws.{carries_is_told}
 use Rattle.irig_timekeeper.specs.Edges.{IsQuartz}
 use Rattle.irig_timekeeper.specs.Refusals.{within_of}
-use Rattle.irig_timekeeper.specs.Lines.{line_of, IsLastBefore, IsFrameOf, IsCheckedLineOf, HasOneFaultInPlace, IsTrueButForFaults}
+use Rattle.irig_timekeeper.specs.Lines.{line_of, AreEven, IsLastBefore, IsFrameOf, IsCheckedLineOf, HasOneFaultInPlace, IsTrueButForFaults}
 use Rattle.irig_timekeeper.proofs.FaultLines.{faults_are_true, dropped, taken, faultless}
 use Rattle.irig_lives.proofs.LifeFacts.{noon, rules, frame_0, told_0}
 use Rattle.irig_lives.proofs.SentLines.{sent_is_checked}
@@ -125,18 +125,20 @@ module _ (edges : ℕ → ℕ) (start : edges 0 ≡ 1000000) (step : ℕ) (long 
       let left = dropped 450 line edges n k (pulses step off k) (are k most) in
       faultless 450 line edges left.0 (take 100 (drop n (pulses step off k))) (taken 450 line edges 100 left.0 (drop n (pulses step off k)) left.1)
 
-frame_by : (ps : List Pulse) (end : ℕ) → AreOnTime 100 ps → symbols_of_last 100 ps ≡ frame_0 → IsLastBefore end ps → IsFrameOf rules claim end ps
-frame_by ps end on same last = record {
+frame_by : (ps : List Pulse) (end : ℕ) → AreOnTime 100 ps → symbols_of_last 100 ps ≡ frame_0 → IsLastBefore end ps → AreEven 450 100 ps → IsFrameOf 450 100 rules claim end ps
+frame_by ps end on same last even = record {
   late = 0;
   on_time = on;
   carries = (carries_is_told rules (symbols_of_last 100 ps) claim).0 (ap (told_of rules) same ∙ told_0);
   last = last;
+  even = even;
 }
 
--- ---- two pulses came in place of P98 and P99, as early as they may: the frame ends 2.452 ms early
+-- ---- two pulses came in place of P98 and P99, the later one as early as an even frame may have it: the
+-- frame ends 1.547 ms early
 
 abbrev early : List Pulse
-early = pulse_at 1987648 8000 ∷ (pulse_at 1978648 2000 ∷ pulses 10001 0 98)
+early = pulse_at 1988553 8000 ∷ (pulse_at 1978648 2000 ∷ pulses 10001 0 98)
 
 early_symbols : symbols_of_last 100 early ≡ frame_0
 unfolding line
@@ -150,7 +152,7 @@ early_line now = record { line = line; is_line = is_checked; few = λ n soon. by
       one = record {
         element = 98;
         after = [];
-        fault = pulse_at 1987648 8000 ∷ (pulse_at 1978648 2000 ∷ []);
+        fault = pulse_at 1988553 8000 ∷ (pulse_at 1978648 2000 ∷ []);
         before = pulses 10001 0 98;
         parts = refl;
         few = omega arith;
@@ -174,8 +176,8 @@ early_line now = record { line = line; is_line = is_checked; few = λ n soon. by
     }
     by (suc (suc n)) = rest_is fast refl 10001 refl 0 (omega arith) n 98 (omega arith)
 
-early_frame : IsFrameOf rules claim 1997648 early × (1997648 + 2452 ≡ fast 1)
-early_frame = (frame_by early 1997648 (refl, (refl, in_time 10001 (omega arith) (omega arith) 0 97 (omega arith))) early_symbols refl, refl)
+early_frame : IsFrameOf 450 100 rules claim 1998553 early × (1998553 + 1547 ≡ fast 1)
+early_frame = (frame_by early 1998553 (refl, (refl, in_time 10001 (omega arith) (omega arith) 0 97 (omega arith))) early_symbols refl (omega arith, omega arith), refl)
 
 -- ---- P99 came as late as it may: the frame ends 1.450 ms late
 
@@ -205,14 +207,14 @@ late_line now = record { line = line; is_line = is_checked; few = λ n soon. by 
     }
     by (suc n) = rest_is slow refl 9999 refl 898 (omega arith) n 99 (omega arith)
 
-late_frame : IsFrameOf rules claim 2001350 late × (2001350 ≡ slow 1 + 1450)
-late_frame = (frame_by late 2001350 (refl, in_time 9999 (omega arith) (omega arith) 898 98 (omega arith)) late_symbols refl, refl)
+late_frame : IsFrameOf 450 100 rules claim 2001350 late × (2001350 ≡ slow 1 + 1450)
+late_frame = (frame_by late 2001350 (refl, in_time 9999 (omega arith) (omega arith) 898 98 (omega arith)) late_symbols refl (omega arith, omega arith), refl)
 
--- ---- two pulses, of which the later one rose behind the time of P99: the frame ends 2.450 ms late, so
+-- ---- two pulses, of which the later one rose behind the time of P99: the frame ends 1.547 ms late, so
 -- a line on which that was one fault would not tell truly
 
 abbrev past : List Pulse
-past = pulse_at 1992350 8000 ∷ (pulse_at 1981351 2000 ∷ pulses 9999 898 98)
+past = pulse_at 1991447 8000 ∷ (pulse_at 1981351 2000 ∷ pulses 9999 898 98)
 
 past_symbols : symbols_of_last 100 past ≡ frame_0
 unfolding line
@@ -222,7 +224,7 @@ past_fault : HasOneFault line slow 450 past
 past_fault = record {
   element = 98;
   after = [];
-  fault = pulse_at 1992350 8000 ∷ (pulse_at 1981351 2000 ∷ []);
+  fault = pulse_at 1991447 8000 ∷ (pulse_at 1981351 2000 ∷ []);
   before = pulses 9999 898 98;
   parts = refl;
   few = omega arith;
@@ -230,10 +232,10 @@ past_fault = record {
   earlier = are slow refl 9999 refl 898 (omega arith) 98 (omega arith);
 }
 
-past_frame : IsFrameOf rules claim 2002350 past × (2002350 ≡ slow 1 + 2450)
-past_frame = (frame_by past 2002350 (refl, (refl, in_time 9999 (omega arith) (omega arith) 898 97 (omega arith))) past_symbols refl, refl)
+past_frame : IsFrameOf 450 100 rules claim 2001447 past × (2001447 ≡ slow 1 + 1547)
+past_frame = (frame_by past 2001447 (refl, (refl, in_time 9999 (omega arith) (omega arith) 898 97 (omega arith))) past_symbols refl (omega arith, omega arith), refl)
 
-past_line : (now : ℕ) → now ≤ 2102350 → ¬ (IsTrueButForFaults 450 rules noon slow now past)
+past_line : (now : ℕ) → now ≤ 2101447 → ¬ (IsTrueButForFaults 450 rules noon slow now past)
 past_line now soon is =
-    let near = faults_are_true (within_of 450) rules noon 100 slow slow_steady now 2002350 past claim is past_frame.0 (omega (arith, soon)) in
+    let near = faults_are_true (within_of 450) rules noon 100 slow slow_steady now 2001447 past claim is past_frame.0 (omega (arith, soon)) in
     omega (arith, near.near.least, near.near.most)

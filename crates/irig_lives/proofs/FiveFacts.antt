@@ -29,12 +29,12 @@ use Rattle.irig_timekeeper.specs.Life.Call.{Hear, Tick}
 use Rattle.irig_timekeeper.proofs.LineLaws.{true_lately}
 use Rattle.irig_timekeeper.proofs.LifeLaws.{device_true}
 use Rattle.irig_lives.proofs.SentLines.{sent_is_checked, checked_is_line}
-use Rattle.irig_lives.proofs.LifeFacts.{edges, steady, at, noon, no_table, is_device, rules, claim_of, new_lines, are_new, frame_0, frame_1, told_0, true_claim, width_of}
+use Rattle.irig_lives.proofs.LifeFacts.{edges, steady, at, noon, no_delays, no_table, is_device, rules, claim_of, new_lines, are_new, frame_0, frame_1, told_0, true_claim, width_of}
 use Rattle.irig_lives.specs.Decided.{is_after, have_risen, in_order, is_same, is_pulse_of, last_before, are_lately, are_true_lately, are_true_at_ticks}
 use Rattle.irig_lives.proofs.DecidedLaws.{order_is, truly_is}
 
 abbrev clock : ClockRules
-clock = record { reader_rules = record { lock_after = 1; holdover = 100 }; redundancy = of.Five; within = within_of 450; drift_us = 100 }
+clock = record { reader_rules = record { lock_after = 1; holdover = 100 }; redundancy = of.Five; within = within_of 450; drift_us = 100; delays = no_delays }
 
 is_device_of_five : IsDevice noon 100 edges clock.reader_rules no_table
 is_device_of_five = record { steady = steady; sound = is_device.sound; knows = is_device.knows; short = is_device.short }

@@ -1,7 +1,7 @@
 -- A short life for which all premises of a device's laws hold: three lines, of which one lies, by a
 -- counter that is 100 us a second slow and wraps; four ticks.
 use Rattle.std.proofs.Common.{◌≡◌, ℕ, zero, suc, ◌+◌, ◌-◌, ◌*◌, ◌/◌, ◌%◌, ◌^◌, ◌<◌, ◌≤◌, ◌⊎◌, Bool, true, false, cond, not, ◌&&◌, List, [], ◌∷◌, ◌++◌, length, Some, None, refl, sym, subst, ap, ◌∙◌, arith, inl, inr}
-use Rattle.std.specs.Prelude.{slice_get, ◌==◌, nat_lt, nat_le, get_or}
+use Rattle.std.specs.Prelude.{pos, slice_get, ◌==◌, nat_lt, nat_le, get_or}
 use Rattle.std.proofs.lemmas.Bool.{cases_Bool, lt-ltb}
 use Rattle.std.proofs.lemmas.Option.{same_Some, slice_get-get_or}
 use Rattle.irig_frame.specs.declared.symbol.Symbol.{Symbol}
@@ -42,6 +42,7 @@ use Rattle.irig_timekeeper.specs.declared.lines.Line.{Line}
 use Rattle.irig_timekeeper.specs.declared.lines.Lines.{Lines}
 use Rattle.irig_timekeeper.specs.declared.lines.Vote.{Vote}
 use Rattle.irig_timekeeper.specs.declared.clock.Beat.{Beat}
+use Rattle.irig_timekeeper.specs.declared.delay.Delays.{Delays}
 use Rattle.irig_timekeeper.specs.declared.setup.ClockRules.{ClockRules}
 use Rattle.irig_timekeeper.specs.Refusals.{within_of}
 use Rattle.irig_timekeeper.specs.Edges.{IsQuartz}
@@ -81,8 +82,12 @@ no_table = table 0 []
 true_table : IsTrueTable noon no_table
 true_table = record { leaps = λ day end from to. absurd (omega (arith, from, to)) }
 
+-- no line is late
+abbrev pub no_delays : Delays
+no_delays = record { a = pos 0; b = pos 0; c = pos 0; d = pos 0; e = pos 0 }
+
 abbrev pub clock : ClockRules
-clock = record { reader_rules = record { lock_after = 2; holdover = 100 }; redundancy = of.Three; within = within_of 450; drift_us = 100 }
+clock = record { reader_rules = record { lock_after = 2; holdover = 100 }; redundancy = of.Three; within = within_of 450; drift_us = 100; delays = no_delays }
 
 pub is_device : IsDevice noon 100 edges clock.reader_rules no_table
 is_device = record { steady = steady; sound = is_timeline; knows = inl true_table; short = omega arith }
@@ -94,13 +99,13 @@ abbrev pub claim_of : ℕ → Claim
 claim_of sod = record { at = at sod; mark = Unspoken }
 
 abbrev new_line : Line
-new_line = record { sync = record { rise_us = 0; place = 0; was_marker = 1 }; frame = None }
+new_line = record { sync = record { rise_us = 0; place = 0; was_marker = 1 }; begin_us = 0; frame = None; seen = None; is_heard = false }
 
 abbrev pub new_lines : Lines
 new_lines = record { a = new_line; b = new_line; c = new_line; d = new_line; e = new_line }
 
 is_new : IsNewLine new_line
-is_new = record { sync = record { place = refl; last = refl }; frame = refl }
+is_new = record { sync = record { place = refl; last = refl }; frame = refl; seen = refl; heard = refl }
 
 pub are_new : AreNewLines new_lines
 are_new = record { a = is_new; b = is_new; c = is_new; d = is_new; e = is_new }
@@ -343,7 +348,7 @@ made_450 = record { limits = None; rules = rules; clock = clock; table = no_tabl
 
 no_stray : (life_of made_450 (Tick now_4 ∷ (Tick now_3 ∷ calls_3))).state.strays ≡ 0
 unfolding made_450
-no_stray = never_strays (IsTrueLately 450) noon edges made_450 4293400000 (Tick now_4 ∷ (Tick now_3 ∷ calls_3)) (record { is = is_device; order = order_4; truth = truth_4 }) truly_told
+no_stray = never_strays noon edges made_450 4293400000 (Tick now_4 ∷ (Tick now_3 ∷ calls_3)) (record { is = is_device; order = order_4; truth = truth_4 })
 
 later_4 : IsLaterSecond noon (at 43203) (at 43204)
 later_4 = device_in_order None rules clock no_table new_lines 4293400000 are_new (IsTrueLately 450 rules noon edges) noon edges 0 0 is_device (omega arith) truly_told calls_3 [] now_3 now_4 beat_3 beat_4 (at 43203) (at 43204) order_4 truth_4 answer_3 refl answer_4 refl
@@ -466,10 +471,10 @@ rotating is = elim (cases_Bool (is.untrue 0)) [
 power_cut : (start : ℕ) (calls : List Call) → ¬ AreInOrder start of.Three (Tick (last_tick start calls + 1800000000) ∷ calls)
 power_cut start calls order = omega (arith, order.1)
 
--- nor is a tick before a pulse rose that was told, or a pulse behind a tick of more than half a second
--- after it rose
-too_early : (start rise : ℕ) → ¬ AreInOrder start of.Three (Tick rise ∷ (Hear 0 (rise + 1) 2000 ∷ []))
-too_early start rise order = (let risen : rise + 1 ≤ rise = order.2 0 in omega (arith, risen))
+-- nor is a tick more than 4 ms before a pulse rose that was told, or a pulse behind a tick of more than
+-- half a second after it rose
+too_early : (start rise : ℕ) → ¬ AreInOrder start of.Three (Tick rise ∷ (Hear 0 (rise + 4001) 2000 ∷ []))
+too_early start rise order = (let risen : rise + 4001 ≤ rise + 4000 = order.2 0 in omega (arith, risen))
 
 too_late : (start rise : ℕ) → ¬ AreInOrder start of.Three (Hear 0 rise 2000 ∷ (Tick (rise + 500001) ∷ []))
 too_late start rise order = (let late : rise + 500001 ≤ rise + 500000 = (order.1 refl).1 in omega (arith, late))

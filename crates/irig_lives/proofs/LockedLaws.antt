@@ -29,8 +29,10 @@ use Rattle.irig_timekeeper.specs.declared.lines.Vote.{Vote}
 use Rattle.irig_timekeeper.specs.Counting.{edges_own, edges_to_vote, edge_behind}
 use Rattle.irig_timekeeper.specs.Steps.{settled, taken, agreed, if_come}
 use Rattle.irig_timekeeper.specs.Rule.{missed, step_behind}
-use Rattle.irig_timekeeper.specs.Clock.{bound_of, beat_by, step_to, after_vote, answer_to_vote, after_own, answer_alone, own_edge, clock_by, answer_by, settled_at}
+use Rattle.irig_timekeeper.specs.Clock.{bound_of, beat_by, step_to, after_vote, answer_to_vote, after_own, answer_alone, own_edge, clock_by, answer_by, settled_at, is_unsteady}
 use Rattle.irig_timekeeper.specs.Keeping.{Keeping, vote_at, after_tick, answer_at}
+use Rattle.irig_timekeeper.proofs.DoubtedSteps.{says_all}
+use Rattle.irig_timekeeper.proofs.EvenLaws.{dark_is_steady}
 use Rattle.irig_timekeeper.proofs.SinceLaws.{begun_age, voted_age}
 
 -- ---- a step that announces by a vote
@@ -69,8 +71,8 @@ module _ (rules : ReaderRules) (table : TableValue) where
       (λ h w is e says. (let same : w ≡ u = cc in record { h = (voted_by table h c).new; is = refl; last = voted_last h c w e ∙ same; age = voted_age table h c w e }))
 
   -- without a vote none is so
-  never_alone : (u : UtcSecond) (s : State) → ¬ ((step_of rules table s None).report ≡ voted_report u)
-  never_alone u s = none_cases (λ step. ¬ (step.report ≡ voted_report u)) rules table s (λ c e. (let no : None ≡ Some u = ap (λ (r : Report). r.announce) e in cc)) (λ h w is e says. (let other : lock.Holdover (alone_by table h rules.holdover).new.age ≡ lock.Locked = ap (λ (r : Report). r.lock) says in cc))
+  never_alone : (s : State) → ¬ ((step_of rules table s None).report.lock ≡ lock.Locked)
+  never_alone s = none_cases (λ step. ¬ (step.report.lock ≡ lock.Locked)) rules table s (λ c e. (let no : lock.Unlocked ≡ lock.Locked = e in cc)) (λ h w is e says. (let other : lock.Holdover (alone_by table h rules.holdover).new.age ≡ lock.Locked = says in cc))
 
 -- ---- a tick that does
 
@@ -91,7 +93,7 @@ module _ (c : ClockRules) (table : TableValue) (s : ClockState) (u : UtcSecond) 
     | inr some ↦
         let is : Some (beat_by c s (step_to c table s n None) (n - 1) (own_edge s.edge_us n) s.bound_us) ≡ Some beat = rw some at e in
         let same : beat_by c s (step_to c table s n None) (n - 1) (own_edge s.edge_us n) s.bound_us ≡ beat = cc in
-        absurd (never_alone c.reader_rules table u (missed c.reader_rules table (n - 1) s.reader) (ap (λ (b : Beat). b.report) same ∙ says))
+        absurd (never_alone c.reader_rules table (missed c.reader_rules table (n - 1) s.reader) (ap (λ (b : Beat). b.report.lock) same ∙ ap (λ (r : Report). r.lock) says))
   ]
 
   left_voted : (v : Vote) (n : ℕ) → answer_to_vote c table s v n ≡ Some beat → IsLeft u beat (after_vote c table s v n)
@@ -122,7 +124,7 @@ pub left_by : (k : Keeping) (clock : ℕ) (u : UtcSecond) (beat : Beat) → answ
 left_by k clock u beat answer says = of (vote_at k clock) answer
   where
     s : ClockState
-    s = settled_at k.state clock
+    s = settled_at k.clock k.state clock
 
     of : (o : Option Vote) → answer_by k.clock k.table s clock o ≡ Some beat → IsLeft u beat (clock_by k.clock k.table s clock o)
     of None e =
@@ -141,16 +143,18 @@ pub record SaysAlone (k : Keeping) (clock e n : ℕ) (u : UtcSecond) : Type 0 wh
   pub edge : beat.edge_us ≡ edge_behind e (suc n)
   pub bound : k.state.bound_us ≤ beat.bound_us
 
-pub says_alone : (k : Keeping) (clock e n : ℕ) (u : UtcSecond) (lines : Lines) → k.state.lines ≡ taken lines → k.state.edge_us ≡ Some e → edges_own (Some e) clock ≡ suc n
+pub says_alone : (k : Keeping) (clock e n : ℕ) (u : UtcSecond) (lines : Lines) → k.state.lines ≡ taken lines → k.state.edge_us ≡ Some e → k.state.doubt ≡ 0 → edges_own (Some e) clock ≡ suc n
     → (step_behind k.clock.reader_rules k.table n k.state.reader None).report.announce ≡ Some u → SaysAlone k clock e n u
-says_alone k clock e n u lines dark edge count says =
-    let s : ClockState = settled_at k.state clock in
+says_alone k clock e n u lines dark edge certain count says =
+    let s : ClockState = settled_at k.clock k.state clock in
     let none : vote_at k clock ≡ None = ap (λ (x : Lines). if_come clock (agreed k.clock (settled clock x))) dark in
     let so_many : edges_own k.state.edge_us clock ≡ suc n = ap (λ (o : Option ℕ). edges_own o clock) edge ∙ count in
     let less : suc n - 1 ≡ n = omega arith in
     let some : (suc n == 0) ≡ false = grind arith in
     let counted_on : answer_alone k.clock k.table s (suc n) ≡ Some (beat_by k.clock s (step_to k.clock k.table s (suc n) None) (suc n - 1) (own_edge k.state.edge_us (suc n)) k.state.bound_us) = rw some refl in
-    let step : (step_to k.clock k.table s (suc n) None).report.announce ≡ Some u = ap (λ (m : ℕ). (step_behind k.clock.reader_rules k.table m k.state.reader None).report.announce) less ∙ says in
+    let steady : is_unsteady k.clock k.state clock ≡ false = dark_is_steady k clock lines dark in
+    let nothing : s.doubt ≡ 0 = rw steady certain in
+    let step : (step_to k.clock k.table s (suc n) None).report.announce ≡ Some u = says_all s.doubt None (step_behind k.clock.reader_rules k.table (suc n - 1) k.state.reader None).report.announce nothing ∙ ap (λ (m : ℕ). (step_behind k.clock.reader_rules k.table m k.state.reader None).report.announce) less ∙ says in
     record {
       beat = beat_by k.clock s (step_to k.clock k.table s (suc n) None) (suc n - 1) (own_edge k.state.edge_us (suc n)) k.state.bound_us;
       answer = ap (answer_by k.clock k.table s clock) none ∙ ap (answer_alone k.clock k.table s) so_many ∙ counted_on;

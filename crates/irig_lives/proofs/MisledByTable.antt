@@ -32,6 +32,7 @@ use Rattle.irig_timekeeper.specs.Life.{Call, Made, pulses_on, AreInOrder, AreTru
 use Rattle.irig_timekeeper.specs.Life.Call.{Tick}
 use Rattle.irig_lives.specs.Misled.{IsMisled}
 use Rattle.irig_timekeeper.proofs.LineLaws.{true_lately}
+use Rattle.irig_timekeeper.proofs.StrayLaws.{never_doubts}
 use Rattle.irig_timekeeper.proofs.LifeLaws.{truth_before, begins, lines_after, ticks}
 use Rattle.irig_lives.proofs.LifeFacts.{new_lines, are_new}
 use Rattle.irig_lives.proofs.LockedLaws.{left_by, says_alone, IsAloneAt, many_alone}
@@ -177,14 +178,15 @@ module _ (rules : Rules) (clock : ClockRules) (range : IsReaderRules clock.reade
       let alone = stands a.now k.state.reader k.state.bound_us k.state.edge_us e left.h left.edge left.reader left.last left.age track in
       let many = (many_alone clock.reader_rules deletion lie lie_is (record { leaps = λ day end from to. refl }) n 57 k.state.reader then_second alone (omega (arith, long)) then_seconds of_that_day).1 in
       let late : a.now ≤ now = omega (arith, told.at.soon) in
-      let order : AreInOrder 9999000 clock.redundancy (Tick now ∷ calls) = (late, omega (arith, told.at.come), (λ line. still_after (pulses_on line a.earlier) a.now now late (told.order.2 line)), told.order) in
+      let order : AreInOrder 9999000 clock.redundancy (Tick now ∷ calls) = (late, omega (arith, told.at.come), (λ line. still_after (pulses_on line a.earlier) (a.now + 4000) (now + 4000) (omega (arith, late)) (told.order.2 line)), told.order) in
       let setup = (lines_after new 9999000 (begins None rules clock deletion new_lines 9999000 are_new) calls now order).same in
       let says : (step_behind k.clock.reader_rules k.table 57 k.state.reader None).report.announce ≡ Some new_month =
       ap (λ (c : ClockRules). (step_behind c.reader_rules k.table 57 k.state.reader None).report.announce) setup.clock
       ∙ ap (λ (x : TableValue). (step_behind clock.reader_rules x 57 k.state.reader None).report.announce) setup.table ∙ many in
       let come : own_come told.edge now ≡ 58 = omega arith in
       let count : edges_own (Some e) (now % 2 ^ 32) ≡ 58 = own_count a.now now late (omega (arith, told.at.come)) e told.edge told.at ∙ come in
-      let then = says_alone k (now % 2 ^ 32) e 57 new_month left.lines left.dark left.edge count says in
+      let certain = never_doubts lie edges made 9999000 calls (record { is = device; order = told.order; truth = told.truth }) in
+      let then = says_alone k (now % 2 ^ 32) e 57 new_month left.lines left.dark left.edge certain count says in
       let edge = own_edge_at a.now now late (omega (arith, told.at.come)) e told.edge told.at 58 (sym come) (omega arith) in
       let same : told.m ≡ n = omega (arith, told.second.sum, (second n (omega arith)).sum) in
       let truths = truth_before (IsTrueLately clock.within.us rules truth edges) (f_of clock.redundancy) a.later calls

@@ -207,7 +207,7 @@ module _ (line : ℕ → Symbol) (right : IsTrueLine line) where
           )
 
       tick_in_order : (k : ℕ) → AreInOrder 9999000 r (elements k) → AreInOrder 9999000 r (Tick (tick k) ∷ elements k)
-      tick_in_order k order = let last = last_of k in (omega (arith, last), omega (arith, last), risen k (tick k) (omega arith), order)
+      tick_in_order k order = let last = last_of k in (omega (arith, last), omega (arith, last), risen k (tick k + 4000) (omega arith), order)
 
       pub in_order : (k : ℕ) → AreInOrder 9999000 r (elements k)
       unfolding elements

@@ -213,7 +213,7 @@ module _ (rules : Rules) (clock : ClockRules) (range : IsReaderRules clock.reade
       last = ends;
     }
       where
-        ends : edges (1 + 1 + clock.reader_rules.lock_after) + 2000 ≤ last_tick 9999000 (calls ++ [])
+        ends : edges (1 + 1 + clock.reader_rules.lock_after) + 3000 ≤ last_tick 9999000 (calls ++ [])
         ends = let last = ap (last_tick 9999000) (append-nil calls) ∙ last_of line is_line.right n (100 * seconds + 2) in omega (arith, last)
 
     pub announced : (u : UtcSecond) → IsSecond t (1 + 1 + clock.reader_rules.lock_after) u → Announces edges (device_of made) (1 + 1 + clock.reader_rules.lock_after) u calls

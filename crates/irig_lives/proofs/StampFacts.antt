@@ -34,7 +34,7 @@ use Rattle.irig_timekeeper.proofs.LineLaws.{true_lately}
 use Rattle.irig_timekeeper.proofs.RowLaws.{in_a_row, none_lost}
 use Rattle.irig_timekeeper.proofs.StampLaws.{stamped, near_instant}
 use Rattle.irig_lives.proofs.SentLines.{sent_is_checked, checked_is_line}
-use Rattle.irig_lives.proofs.LifeFacts.{at, noon, no_table, is_device, rules, claim_of, new_lines, are_new, silence, frame_0, frame_1, told_0, told_1, true_claim, width_of}
+use Rattle.irig_lives.proofs.LifeFacts.{at, noon, no_delays, no_table, is_device, rules, claim_of, new_lines, are_new, silence, frame_0, frame_1, told_0, told_1, true_claim, width_of}
 use Rattle.irig_lives.specs.Decided.{is_after, have_risen, in_order, is_same, is_pulse_of, last_before, are_lately, are_true_lately, are_true_at_ticks}
 use Rattle.irig_lives.proofs.DecidedLaws.{order_is, truly_is}
 
@@ -56,7 +56,7 @@ slow_steady : IsQuartz 100 slow
 slow_steady = record { few = omega arith; steady = record { least = λ n. omega arith; most = λ n. omega arith } }
 
 abbrev clock : ClockRules
-clock = record { reader_rules = record { lock_after = 1; holdover = 100 }; redundancy = of.One; within = within_of 450; drift_us = 100 }
+clock = record { reader_rules = record { lock_after = 1; holdover = 100 }; redundancy = of.One; within = within_of 450; drift_us = 100; delays = no_delays }
 
 by_counter : (edges : ℕ → ℕ) → IsQuartz 100 edges → IsDevice noon 100 edges clock.reader_rules no_table
 by_counter edges steady = record { steady = steady; sound = is_device.sound; knows = is_device.knows; short = is_device.short }
@@ -158,7 +158,7 @@ together =
 -- their bound, 10 us: that of a true line's frame, 9 us and 1 us for the drift of an element
 
 abbrev exact : ClockRules
-exact = record { reader_rules = record { lock_after = 1; holdover = 100 }; redundancy = of.One; within = within_of 10; drift_us = 100 }
+exact = record { reader_rules = record { lock_after = 1; holdover = 100 }; redundancy = of.One; within = within_of 10; drift_us = 100; delays = no_delays }
 
 abbrev exact_device : Keeping
 exact_device = new_keeping None rules exact no_table new_lines

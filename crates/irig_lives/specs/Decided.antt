@@ -40,8 +40,8 @@ in_order start redundancy (Hear port rise width ∷ calls) =
     && in_order start redundancy calls)
 in_order start redundancy (Tick now ∷ calls) =
     nat_le (last_tick start calls) now
-    && (nat_lt (now + 500000) (last_tick start calls + 1800000000)
-    && (have_risen now calls && in_order start redundancy calls))
+    && (nat_lt (now + 504000) (last_tick start calls + 1800000000)
+    && (have_risen (now + 4000) calls && in_order start redundancy calls))
 
 -- ---- a line that is true of late
 

@@ -5,6 +5,7 @@ ghost use Rattle.std.specs.Prelude.{◌≡◌, ◌+◌, ◌-◌, ◌*◌, ◌%�
 ghost use Rattle.irig_frame.specs.declared.symbol.Symbol.{Symbol};
 ghost use Rattle.irig_sync.specs.declared.sync.Sync.{Sync};
 ghost use Rattle.irig_sync.specs.Sync.{place_of};
+ghost use Rattle.irig_sync.specs.Edges.{element_drift};
 ghost use Rattle.irig_sync.specs.Lines.{Pulse, pulse_at, IsAfter, IsSoon};
 ghost use Rattle.irig_time.specs.Timelines.{TimelineValue, IsSecond};
 ghost use Rattle.irig_reader.specs.declared.rule.State.{State};
@@ -18,11 +19,11 @@ ghost use Rattle.irig_vote.specs.Vote.{f_of};
 ghost use Rattle.irig_port.specs.Limits.{told_within};
 ghost use Rattle.irig_port.specs.Hearing.{heard_at, IsHearing};
 ghost use Rattle.irig_timekeeper.specs.Edges.{IsQuartz, IsNear, IsTrueNear};
-ghost use Rattle.irig_timekeeper.specs.Lines.{IsTrueLately, IsFrameOf, IfKept, IsAnyEnd, HasJustCome};
+ghost use Rattle.irig_timekeeper.specs.Lines.{IsTrueLately, KnowsBegin, IsFrameOf, IfKept, IsAnyEnd, HasJustCome};
 ghost use Rattle.irig_timekeeper.specs.Counting.{edges_between, edges_to, edges_own};
 ghost use Rattle.irig_timekeeper.specs.Refusals.{clock_fault};
-ghost use Rattle.irig_timekeeper.specs.Steps.{frame_behind, claim_kept, line_at, all_kept, agrees, agreed, settled, tells_of, wait_by};
-ghost use Rattle.irig_timekeeper.specs.Clock.{answer_to_vote, lasted};
+ghost use Rattle.irig_timekeeper.specs.Steps.{begin_behind, frame_behind, claim_kept, line_at, all_kept, agrees, agreed, settled, tells_of, wait_by};
+ghost use Rattle.irig_timekeeper.specs.Clock.{answer_to_vote, doubted_s, is_unsteady, lasted};
 ghost use Rattle.irig_timekeeper.specs.Keeping.{Keeping, vote_at, after_tick, answer_at, wait_at, stamp_at};
 ghost use Rattle.irig_timekeeper.specs.Truth.{AreHeardTruly, IsTrueVote, IsOnTrack, IsToldTruly, IsToldInHoldover, IsLaterSecond, IsDevice, IsEdgeAt, AreApartBeats, IsStampedTruly, IsInstant};
 ghost use Rattle.irig_timekeeper.specs.Announcing.{AreWellHeard, Announces};
@@ -30,9 +31,10 @@ ghost use Rattle.irig_timekeeper.specs.Life.{Call, Made, AreInOrder, AreTrueLate
 ghost use Rattle.irig_timekeeper.specs.Life.Call.{Tick};
 ghost use Rattle.irig_timekeeper.specs.Rows.{AreToldLast};
 ghost use Rattle.irig_timekeeper.specs.Since.{since_vote, HasItsBound};
+ghost use Rattle.irig_timekeeper.specs.Doubts.{voted_since, NoneStrays, SaysTheRule};
 ghost use Rattle.irig_timekeeper.specs.Healing.{HasHealed};
 ghost use Rattle.irig_timekeeper.specs.Intervals.{by_vote, carried, cut, contradicts, LiesBetween, AreNear};
-ghost use Rattle.irig_timekeeper.specs.Exactness.{most_drift_us, end_off_us, window_us, most_vote_us, most_held_us};
+ghost use Rattle.irig_timekeeper.specs.Exactness.{most_drift_us, end_off_us, window_us, vote_us, most_vote_us, most_held_us};
 
 use irig_port::Limits;
 use irig_reader::{Cause, ReaderRules};
@@ -54,16 +56,24 @@ pub fn counting_is_right()
         → edges_to (edge % 2 ^ 32) (end % 2 ^ 32) ≡ edges_between edge end }
 {}
 
-/// What a line keeps is a frame of its pulses: none at first, and a pulse more goes on, as a
+/// What a line keeps is an even frame of its pulses: none at first, and a pulse more goes on, as a
 /// timekeeper hears it, whether its port was emptied before or not.
 pub fn lines_keep_frames()
-    ensures { (limits : Option Limits) (rules : Rules) (frame : Option KeptFrame)
-        (heard : List Symbol) (s : Sync) (pulses : List Pulse) (now time width : ℕ)
-        → IsHearing heard s pulses now → IfKept IsAnyEnd rules (claim_kept frame) pulses
-        → IsAfter pulses time → IsSoon now time → IfKept IsAnyEnd rules (claim_kept (frame_behind
-        (place_of s (time % 2 ^ 32) width) (time % 2 ^ 32)
+    ensures kept { (limits : Option Limits) (rules : Rules) (clock : ClockRules)
+        (frame : Option KeptFrame) (heard : List Symbol) (s : Sync) (pulses : List Pulse)
+        (begin now time width : ℕ) → IsHearing heard s pulses now → KnowsBegin begin pulses
+        → IfKept IsAnyEnd clock.within.us clock.drift_us rules (claim_kept frame) pulses
+        → IsAfter pulses time → IsSoon now time
+        → IfKept IsAnyEnd clock.within.us clock.drift_us rules (claim_kept (frame_behind
+        clock (place_of s (time % 2 ^ 32) width) begin (time % 2 ^ 32)
         (told_within limits rules
         (heard_at (place_of s (time % 2 ^ 32) width) heard width)) frame))
+        (pulse_at time width ∷ pulses) }
+    // In a frame the line knows when the pulse rose that began it.
+    ensures begun { (heard : List Symbol) (s : Sync) (pulses : List Pulse)
+        (begin now time width : ℕ) → IsHearing heard s pulses now → KnowsBegin begin pulses
+        → IsAfter pulses time → IsSoon now time
+        → KnowsBegin (begin_behind (place_of s (time % 2 ^ 32) width) (time % 2 ^ 32) begin)
         (pulse_at time width ∷ pulses) }
 {}
 
@@ -74,7 +84,7 @@ pub fn lines_keep_frames()
 pub fn kept_frames_are_true()
     ensures { (within : Within) (rules : Rules) (t : TimelineValue) (d now end : ℕ)
         (edges : ℕ → ℕ) (pulses : List Pulse) (claim : Claim) → IsQuartz d edges
-        → IsTrueLately within.us rules t edges now pulses → IsFrameOf rules claim end pulses
+        → IsTrueLately within.us rules t edges now pulses → IsFrameOf within.us d rules claim end pulses
         → now ≤ end + 100000
         → IsTrueNear t edges (end_off_us within.us d) (end_off_us within.us d) end claim }
 {}
@@ -87,16 +97,35 @@ pub fn kept_frames_are_true()
 pub fn votes_are_true()
     ensures vote { (t : TimelineValue) (edges : ℕ → ℕ) (k : Keeping) (now : ℕ)
         (pulses : ℕ → List Pulse) (vote : Vote) → IsQuartz k.clock.drift_us edges
-        → AreHeardTruly (IsTrueLately k.clock.within.us k.rules t edges now) k.rules (f_of k.clock.redundancy) now
-        k.state.lines pulses
+        → AreHeardTruly (IsTrueLately k.clock.within.us k.rules t edges now) k.clock.within.us
+        k.clock.drift_us k.rules (f_of k.clock.redundancy) now k.state.lines pulses
         → vote_at k (now % 2 ^ 32) ≡ Some vote → IsTrueVote t edges 0 0 now vote }
     ensures second { (t : TimelineValue) (edges : ℕ → ℕ) (k : Keeping) (now : ℕ)
         (pulses : ℕ → List Pulse) (beat : Beat) (u : UtcSecond) → IsQuartz k.clock.drift_us edges
         → IsTimeline t
-        → AreHeardTruly (IsTrueLately k.clock.within.us k.rules t edges now) k.rules (f_of k.clock.redundancy) now
-        k.state.lines pulses
+        → AreHeardTruly (IsTrueLately k.clock.within.us k.rules t edges now) k.clock.within.us
+        k.clock.drift_us k.rules (f_of k.clock.redundancy) now k.state.lines pulses
         → answer_at k (now % 2 ^ 32) ≡ Some beat → beat.report.cause ≡ Cause.Voted
         → beat.report.announce ≡ Some u → IsToldTruly t edges beat.bound_us beat.bound_us now beat u }
+    // So it is by any counter, whatever the setup says of it: the edge lies no further off than that of
+    // a vote by such a counter.
+    ensures any_counter { (t : TimelineValue) (d : ℕ) (edges : ℕ → ℕ) (k : Keeping) (now : ℕ)
+        (pulses : ℕ → List Pulse) (beat : Beat) (u : UtcSecond) → IsQuartz d edges → IsTimeline t
+        → AreHeardTruly (IsTrueLately k.clock.within.us k.rules t edges now) k.clock.within.us
+        k.clock.drift_us k.rules (f_of k.clock.redundancy) now k.state.lines pulses
+        → answer_at k (now % 2 ^ 32) ≡ Some beat → beat.report.cause ≡ Cause.Voted
+        → beat.report.announce ≡ Some u → IsToldTruly t edges (vote_us k.clock.within.us d)
+        (vote_us k.clock.within.us d) now beat u }
+    // Nor further off than the bound that is told, if the drift of an element is by that counter, and
+    // not by the setup: 1 us more at most.
+    ensures any_bound { (t : TimelineValue) (d : ℕ) (edges : ℕ → ℕ) (k : Keeping) (now : ℕ)
+        (pulses : ℕ → List Pulse) (beat : Beat) (u : UtcSecond) → IsQuartz d edges → IsTimeline t
+        → AreHeardTruly (IsTrueLately k.clock.within.us k.rules t edges now) k.clock.within.us
+        k.clock.drift_us k.rules (f_of k.clock.redundancy) now k.state.lines pulses
+        → answer_at k (now % 2 ^ 32) ≡ Some beat → beat.report.cause ≡ Cause.Voted
+        → beat.report.announce ≡ Some u → IsToldTruly t edges
+        (beat.bound_us + element_drift d - element_drift k.clock.drift_us)
+        (beat.bound_us + element_drift d - element_drift k.clock.drift_us) now beat u }
 {}
 
 /// A device tells the truth all its life: of every list of calls in order, whenever it was ticked,
@@ -147,8 +176,8 @@ pub fn a_device_tells_the_truth()
         → now ≤ tick + 1800000000
         → IsOnTrack t edges 0 0 k.clock.drift_us last k.clock.reader_rules k.table tick
         k.state.reader k.state.bound_us k.state.edge_us
-        → AreHeardTruly (IsTrueLately k.clock.within.us k.rules t edges now) k.rules (f_of k.clock.redundancy) now
-        k.state.lines pulses
+        → AreHeardTruly (IsTrueLately k.clock.within.us k.rules t edges now) k.clock.within.us
+        k.clock.drift_us k.rules (f_of k.clock.redundancy) now k.state.lines pulses
         → IsOnTrack t edges 0 0 k.clock.drift_us last k.clock.reader_rules k.table now
         (after_tick k (now % 2 ^ 32)).state.reader (after_tick k (now % 2 ^ 32)).state.bound_us
         (after_tick k (now % 2 ^ 32)).state.edge_us }
@@ -156,7 +185,8 @@ pub fn a_device_tells_the_truth()
 
 /// Votes do not stray: in every life in which at each tick all but at most f lines were true in the
 /// last 1.2 s, and the counter is as steady as its setup says, no vote contradicts those before it:
-/// the edge lies in the interval that they leave, carried on by the drift from second to second.
+/// the edge lies in the interval that they leave, carried on by the drift from second to second. Nor do
+/// frames tell that the counter is unsteady: a true line's are even.
 pub fn votes_do_not_stray()
     ensures { (t : TimelineValue) (edges : ℕ → ℕ) (made : Made) (start : ℕ) (calls : List Call)
         → LivesTruly (IsTrueLately made.clock.within.us) t edges made start calls
@@ -185,6 +215,38 @@ pub fn what_strays_is_seen()
     ensures apart { (x y : Interval) (from to others others_to : ℕ) → LiesBetween from to x
         → LiesBetween others others_to y → AreNear from to others others_to
         → (to < others) ⊎ (others_to < from) → contradicts (Some x) y ≡ true }
+{}
+
+/// What has strayed is not held: behind a vote that contradicted those before it, or frames that told
+/// that the counter is unsteady, nothing is announced without a vote, until as many seconds were voted
+/// as a holdover may last, 1,000 at most and one at least, and none strayed in its turn.
+pub fn what_strays_is_not_held()
+    ensures held { (made : Made) (before now : ℕ) (earlier later : List Call) (beat : Beat)
+        → ¬ ((life_of made (Tick before ∷ earlier)).state.strays
+        ≡ (life_of made earlier).state.strays)
+        → voted_since (device_of made) later (Tick before ∷ earlier) < doubted_s made.clock
+        → vote_at (life_of made (later ++ (Tick before ∷ earlier))) (now % 2 ^ 32) ≡ None
+        → answer_at (life_of made (later ++ (Tick before ∷ earlier))) (now % 2 ^ 32) ≡ Some beat
+        → beat.report.announce ≡ None }
+    // Behind so many voted seconds the reader's rule alone says what is announced, but where frames
+    // tell again that the counter is unsteady.
+    ensures over { (made : Made) (now : ℕ) (earlier later : List Call) (beat : Beat)
+        → NoneStrays (device_of made) later earlier
+        → doubted_s made.clock ≤ voted_since (device_of made) later earlier
+        → is_unsteady made.clock (life_of made (later ++ earlier)).state (now % 2 ^ 32) ≡ false
+        → answer_at (life_of made (later ++ earlier)) (now % 2 ^ 32) ≡ Some beat
+        → SaysTheRule (life_of made (later ++ earlier)) (now % 2 ^ 32) beat }
+    // By a vote it says that always.
+    ensures voted { (made : Made) (now : ℕ) (calls : List Call) (vote : Vote) (beat : Beat)
+        → vote_at (life_of made calls) (now % 2 ^ 32) ≡ Some vote
+        → answer_at (life_of made calls) (now % 2 ^ 32) ≡ Some beat
+        → SaysTheRule (life_of made calls) (now % 2 ^ 32) beat }
+    // So it does as long as at each tick all but at most f lines were true in the last 1.2 s.
+    ensures none { (t : TimelineValue) (edges : ℕ → ℕ) (made : Made) (start now : ℕ)
+        (calls : List Call) (beat : Beat)
+        → LivesTruly (IsTrueLately made.clock.within.us) t edges made start (Tick now ∷ calls)
+        → answer_at (life_of made calls) (now % 2 ^ 32) ≡ Some beat
+        → SaysTheRule (life_of made calls) (now % 2 ^ 32) beat }
 {}
 
 /// In order, whatever lines carry and however the counter drifts: the edges that are told lie half
@@ -270,11 +332,11 @@ pub fn enough_lines_vote()
         → (vote : Vote) × (agreed clock lines ≡ Some vote) }
     ensures come { (t : TimelineValue) (edges : ℕ → ℕ) (k : Keeping) (now : ℕ)
         (pulses : ℕ → List Pulse) (vote : Vote) → IsQuartz k.clock.drift_us edges
-        → (heard : AreHeardTruly (IsTrueLately k.clock.within.us k.rules t edges now) k.rules
-        (f_of k.clock.redundancy) now k.state.lines pulses)
+        → (heard : AreHeardTruly (IsTrueLately k.clock.within.us k.rules t edges now) k.clock.within.us
+        k.clock.drift_us k.rules (f_of k.clock.redundancy) now k.state.lines pulses)
         → ((i : ℕ) → i < 5 → heard.untrue i ≡ false
-        → IfKept (HasJustCome k.clock.within.us now) k.rules (claim_kept (line_at k.state.lines i).frame)
-        (pulses i))
+        → IfKept (HasJustCome k.clock.within.us now) k.clock.within.us k.clock.drift_us k.rules
+        (claim_kept (line_at k.state.lines i).frame) (pulses i))
         → agreed k.clock (settled (now % 2 ^ 32) k.state.lines) ≡ Some vote
         → vote_at k (now % 2 ^ 32) ≡ Some vote }
 {}
@@ -315,7 +377,7 @@ pub fn waiting_is_right()
         → AreInOrder start made.clock.redundancy (Tick then ∷ calls)
         → agreed (life_of made calls).clock
         (settled (now % 2 ^ 32) (life_of made calls).state.lines) ≡ Some vote
-        → vote.edge_us ≡ edge % 2 ^ 32 → edge ≤ now + 11000 → now ≤ edge + 98000
+        → vote.edge_us ≡ edge % 2 ^ 32 → edge ≤ now + 15000 → now ≤ edge + 98000
         → now + wait_at (life_of made calls) (now % 2 ^ 32) ≤ then → then ≤ edge + 98000
         → vote_at (life_of made calls) (then % 2 ^ 32) ≡ Some vote }
     ensures counts { (e edge tick now more : ℕ) → IsEdgeAt e edge tick → tick ≤ now

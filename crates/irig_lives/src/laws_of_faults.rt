@@ -2,7 +2,6 @@
 
 ghost use Rattle.std.specs.Prelude.{◌≡◌, ◌+◌, ◌*◌, ◌%◌, ◌^◌, ◌<◌, ◌≤◌, ℕ, List, ◌∷◌, ◌++◌, Option, Some};
 ghost use Rattle.irig_frame.specs.declared.symbol.Symbol.{Symbol};
-ghost use Rattle.irig_sync.specs.Edges.{element_drift};
 ghost use Rattle.irig_sync.specs.Lines.{Pulse};
 ghost use Rattle.irig_sync.specs.FaultyLines.{ArePulsesBefore};
 ghost use Rattle.irig_time.specs.Timelines.{TimelineValue, IsTrueClaim};
@@ -19,7 +18,7 @@ ghost use Rattle.irig_timekeeper.specs.Truth.{IsToldInHoldover, IsLaterSecond, I
 ghost use Rattle.irig_timekeeper.specs.Life.{Call, Made, AreInOrder, AreTrueAtTicks, LivesTruly, device_of, life_of};
 ghost use Rattle.irig_timekeeper.specs.Life.Call.{Tick};
 ghost use Rattle.irig_timekeeper.specs.Rows.{AreToldLast};
-ghost use Rattle.irig_timekeeper.specs.Exactness.{most_vote_us};
+ghost use Rattle.irig_timekeeper.specs.Exactness.{end_off_us, fault_early_us, fault_late_us, most_drift_us, most_vote_us};
 
 use irig_reader::{Cause, ReaderRules};
 use irig_time::{Claim, Rules, UtcSecond};
@@ -28,35 +27,37 @@ use irig_timekeeper::{Beat, Stamp, Within};
 /// Lines with faults tell truly: what [`a_device_tells_the_truth`](crate::a_device_tells_the_truth)
 /// says holds too if a line counts as true that had one fault of any kind in each hundred pulses of
 /// the last 1.2 s: a pulse was lost, late, early, doubled, cut in two or of another width, or one
-/// was added. But a frame may then end up to 2.002 ms earlier, and up to 1 ms later: each of the two
-/// pulses that a fault may leave in place of the last ones may come up to 1 ms early by the pulse
-/// before it, and by an element's drift more.
+/// was added. But a frame may then end so much earlier and later as one may that is even, if its last
+/// pulse is at fault and its first one true (`fault_early_us`): lines and a counter exact to 10 us and
+/// 50 us a second tell 117 us earlier at most. It never ends more than 1 ms later (`fault_late_us`).
 pub fn lines_with_faults_tell_truly()
     // A frame that ended at most 100 ms ago claims the true second before an edge, and ends near
     // that edge.
     ensures kept { (within : Within) (rules : Rules) (t : TimelineValue) (d now end : ℕ)
         (edges : ℕ → ℕ) (pulses : List Pulse) (claim : Claim) → IsQuartz d edges
-        → IsTrueButForFaults within.us rules t edges now pulses → IsFrameOf rules claim end pulses
-        → now ≤ end + 100000
-        → IsTrueNear t edges (1999 + within.us + element_drift (3 * d))
-        (998 + within.us + element_drift (2 * d)) end claim }
+        → IsTrueButForFaults within.us rules t edges now pulses
+        → IsFrameOf within.us d rules claim end pulses → now ≤ end + 100000
+        → IsTrueNear t edges (end_off_us within.us d + fault_early_us within.us d)
+        (end_off_us within.us d + fault_late_us within.us d) end claim }
     // So a device tells the truth all its life: the edge that it tells lies no further off than its
-    // bound, and 2.002 ms more before the true one and 1 ms more behind it.
+    // bound, and so much more before the true one and behind it.
     ensures life { (t : TimelineValue) (edges : ℕ → ℕ) (made : Made) (start now : ℕ)
         (calls : List Call) (beat : Beat) (u : UtcSecond)
         → LivesTruly (IsTrueButForFaults made.clock.within.us) t edges made start (Tick now ∷ calls)
         → answer_at (life_of made calls) (now % 2 ^ 32) ≡ Some beat
         → beat.report.announce ≡ Some u
-        → IsToldInHoldover t edges 2002 1000 made.clock.within.us made.clock.drift_us
-        made.clock.reader_rules.holdover now beat u }
+        → IsToldInHoldover t edges (fault_early_us made.clock.within.us made.clock.drift_us)
+        (fault_late_us made.clock.within.us made.clock.drift_us) made.clock.within.us
+        made.clock.drift_us made.clock.reader_rules.holdover now beat u }
     // Some of its lines may have faults while others lose any pulses.
     ensures either { (t : TimelineValue) (edges : ℕ → ℕ) (made : Made) (start now : ℕ)
         (calls : List Call) (beat : Beat) (u : UtcSecond)
         → LivesTruly (IsTrueOrFaulty made.clock.within.us) t edges made start (Tick now ∷ calls)
         → answer_at (life_of made calls) (now % 2 ^ 32) ≡ Some beat
         → beat.report.announce ≡ Some u
-        → IsToldInHoldover t edges 2002 1000 made.clock.within.us made.clock.drift_us
-        made.clock.reader_rules.holdover now beat u }
+        → IsToldInHoldover t edges (fault_early_us made.clock.within.us made.clock.drift_us)
+        (fault_late_us made.clock.within.us made.clock.drift_us) made.clock.within.us
+        made.clock.drift_us made.clock.reader_rules.holdover now beat u }
     // In order: what a later tick announces is a later second.
     ensures order { (t : TimelineValue) (edges : ℕ → ℕ) (made : Made) (start before now : ℕ)
         (earlier later : List Call) (beat then : Beat) (u v : UtcSecond)
@@ -72,7 +73,7 @@ pub fn lines_with_faults_tell_truly()
         → LivesTruly (IsTrueButForFaults made.clock.within.us) t edges made start (Tick now ∷ calls)
         → answer_at (life_of made calls) (now % 2 ^ 32) ≡ Some beat
         → ¬ (beat.report.cause ≡ Cause.Jump) }
-    // Stamps lie no further off than their bound and 2.002 ms.
+    // Stamps lie no further off than their bound and so much more.
     ensures stamps { (t : TimelineValue) (edges : ℕ → ℕ) (made : Made) (start time now : ℕ)
         (calls : List Call) (stamp : Stamp)
         → IsDevice t made.clock.drift_us edges made.clock.reader_rules made.table
@@ -80,7 +81,7 @@ pub fn lines_with_faults_tell_truly()
         → AreTrueAtTicks (IsTrueOrFaulty made.clock.within.us made.rules t edges) (f_of made.clock.redundancy) calls
         → time ≤ now → now ≤ time + 1800000000
         → stamp_at (life_of made calls) (time % 2 ^ 32) ≡ Some stamp
-        → IsStampedTruly t edges 2002 time stamp }
+        → IsStampedTruly t edges (fault_early_us made.clock.within.us made.clock.drift_us) time stamp }
     // Of two seconds that are told in a row the edges lie less than a second and a half apart, if none
     // was missed between, so that no event between them is without a stamp.
     ensures row { (t : TimelineValue) (edges : ℕ → ℕ) (made : Made) (start edge next : ℕ)
@@ -88,10 +89,14 @@ pub fn lines_with_faults_tell_truly()
         → LivesTruly (IsTrueOrFaulty made.clock.within.us) t edges made start calls
         → AreToldLast (device_of made) calls beat then edge next
         → beat.report.announce ≡ Some u → then.missed ≡ 0 → next < edge + 1500000 }
+    // It comes to 1.1 ms at most.
+    ensures most { (within : Within) (d : ℕ) → d ≤ most_drift_us
+        → (fault_early_us within.us d < 1100) × (fault_late_us within.us d ≤ 1000)
+        × (fault_late_us within.us d ≤ fault_early_us within.us d) }
     // The bound is less than half a second.
-    ensures half { (t : TimelineValue) (d : ℕ) (edges : ℕ → ℕ) (rules : ReaderRules)
-        (table : TableValue) (far : ℕ) → IsDevice t d edges rules table → far ≤ rules.holdover
-        → 2002 + most_vote_us + far * d < 500000 }
+    ensures half { (t : TimelineValue) (within : Within) (d : ℕ) (edges : ℕ → ℕ)
+        (rules : ReaderRules) (table : TableValue) (far : ℕ) → IsDevice t d edges rules table
+        → far ≤ rules.holdover → fault_early_us within.us d + most_vote_us + far * d < 500000 }
     // A line may have faults that sends n frames, each of which carries the true claim of its second,
     // and nothing behind them.
     ensures lines { (rules : Rules) (t : TimelineValue) (n : ℕ) (frames : ℕ → List Symbol)

@@ -9,29 +9,29 @@ ghost use Rattle.irig_timekeeper.specs.Loops.{ComeInARow, TicksEach, AreToldInTi
 
 use irig_time::UtcSecond;
 
-/// A device that ticks at least each 96 ms announces, from any state: let as many seconds in a row
+/// A device that ticks at least each 95 ms announces, from any state: let as many seconds in a row
 /// as it locks after, and two more, come whole on more than f lines, and each pulse be told before
-/// a tick that comes more than 1 ms behind its end. Then a tick at most 98 ms behind the edge of
+/// a tick that comes more than 3 ms behind its end. Then a tick at most 98 ms behind the edge of
 /// the last of these seconds announces it by a vote, whatever the other lines send.
 pub fn a_polling_device_announces()
     ensures { (t : TimelineValue) (edges : ℕ → ℕ) (made : Made) (start m most : ℕ)
         (calls before : List Call) (u : UtcSecond)
         → ComeInARow (IsTrueLately made.clock.within.us) t edges made start m calls before
-        → most ≤ 96000 → TicksEach most start calls before → AreToldInTime start calls before
+        → most ≤ 95000 → TicksEach most start calls before → AreToldInTime start calls before
         → IsSecond t (m + 1 + made.clock.reader_rules.lock_after) u
         → Announces edges (device_of made) (m + 1 + made.clock.reader_rules.lock_after) u
         (calls ++ before) }
 {}
 
-/// A device that ticks when `wait` says, or up to 96 ms later, announces so too: each tick comes so
+/// A device that ticks when `wait` says, or up to 95 ms later, announces so too: each tick comes so
 /// soon behind each time that it named since the tick before, when it was asked behind each tick
 /// and behind each frame's last pulse. Its calls are made one after another, each pulse told when
-/// it has ended, but for 1 ms.
+/// it has ended, but for 3 ms.
 pub fn a_waiting_device_announces()
     ensures { (t : TimelineValue) (edges : ℕ → ℕ) (made : Made) (start m late : ℕ)
         (calls before : List Call) (u : UtcSecond)
         → ComeInARow (IsTrueLately made.clock.within.us) t edges made start m calls before
-        → late ≤ 96000 → GoesByWait late (device_of made) calls before
+        → late ≤ 95000 → GoesByWait late (device_of made) calls before
         → AreMadeInTurn start calls before
         → IsSecond t (m + 1 + made.clock.reader_rules.lock_after) u
         → Announces edges (device_of made) (m + 1 + made.clock.reader_rules.lock_after) u

@@ -6,6 +6,7 @@ mod laws;
 mod laws_of_calls;
 mod laws_of_faults;
 mod laws_of_limits;
+mod laws_of_lines;
 mod laws_of_loops;
 
 pub use laws::{
@@ -16,4 +17,5 @@ pub use laws::{
 pub use laws_of_calls::conditions_compute;
 pub use laws_of_faults::lines_with_faults_tell_truly;
 pub use laws_of_limits::{a_false_table_misleads, a_majority_misleads};
+pub use laws_of_lines::what_is_said_of_lines_is_so;
 pub use laws_of_loops::{a_polling_device_announces, a_waiting_device_announces};

@@ -20,13 +20,13 @@ pub record IsAgreed (untrue : ℕ → Bool) (is_such : Option KeptClaim → Bool
   pub true_line : untrue (from + i) ≡ false
   pub same : is_such (Some y) ≡ true
 
-one_of : (b : Bool) → b ≡ true → ◌≡◌ {A = ℕ} (cond b 1 0) 1
+pub one_of : (b : Bool) → b ≡ true → ◌≡◌ {A = ℕ} (cond b 1 0) 1
 one_of b e = rw e refl
 
-none_of : (b : Bool) → b ≡ false → ◌≡◌ {A = ℕ} (cond b 1 0) 0
+pub none_of : (b : Bool) → b ≡ false → ◌≡◌ {A = ℕ} (cond b 1 0) 0
 none_of b e = rw e refl
 
-at_most_one : (b : Bool) → cond b 1 0 ≤ 1
+pub at_most_one : (b : Bool) → cond b 1 0 ≤ 1
 at_most_one true = omega arith
 at_most_one false = omega arith
 

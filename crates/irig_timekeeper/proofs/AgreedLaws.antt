@@ -180,17 +180,17 @@ late_gone clock frame y e late = of (claim_kept (still_kept clock frame)) refl
         let same : z ≡ y = (let both : Some z ≡ Some y = sym kept.0 ∙ e in cc) in
         absurd (let both : true ≡ false = sym late ∙ ap (λ (x : KeptClaim). is_late x.end_us clock) (sym same) ∙ kept.1 in cc)
 
-late_past : (end then : ℕ) → end ≤ then + 10000 → then + 10000 < end + 2 ^ 32 → is_late (end % 2 ^ 32) (then % 2 ^ 32) ≡ true → end + 100000 < then
+late_past : (end then : ℕ) → end ≤ then + 14000 → then + 14000 < end + 2 ^ 32 → is_late (end % 2 ^ 32) (then % 2 ^ 32) ≡ true → end + 100000 < then
 late_past end then ahead turn late =
-    let gap : (clock_gap (end % 2 ^ 32) (then % 2 ^ 32) + 10000) % 2 ^ 32 ≡ then + 10000 - end = omega (arith, ahead, turn) in
-    let far = ltb-true 110000 ((clock_gap (end % 2 ^ 32) (then % 2 ^ 32) + 10000) % 2 ^ 32) late in
+    let gap : (clock_gap (end % 2 ^ 32) (then % 2 ^ 32) + 14000) % 2 ^ 32 ≡ then + 14000 - end = omega (arith, ahead, turn) in
+    let far = ltb-true 114000 ((clock_gap (end % 2 ^ 32) (then % 2 ^ 32) + 14000) % 2 ^ 32) late in
     omega (arith, gap, far, ahead)
 
 -- ---- a tick when the edge has come
 
 module _ (new : Keeping) (start : ℕ) (begun : AreLinesAt new new (λ i. []) start start) where
   module _ (calls : List Call) (now then : ℕ) (order : AreInOrder start new.clock.redundancy (Tick now ∷ calls)) (order' : AreInOrder start new.clock.redundancy (Tick then ∷ calls)) (on : now ≤ then) (v : Vote) (agrees_now : agreed (after_calls new calls).clock (settled (now % 2 ^ 32) (after_calls new calls).state.lines) ≡ Some v) (edge : ℕ)
-      (at : v.edge_us ≡ edge % 2 ^ 32) (ahead : edge ≤ now + 11000) (behind : now ≤ edge + 101000) (come : edge ≤ then) (soon : then ≤ edge + 98000) where
+      (at : v.edge_us ≡ edge % 2 ^ 32) (ahead : edge ≤ now + 15000) (behind : now ≤ edge + 101000) (come : edge ≤ then) (soon : then ≤ edge + 98000) where
     abbrev c : ClockRules
     c = (after_calls new calls).clock
 
@@ -232,14 +232,14 @@ module _ (new : Keeping) (start : ℕ) (begun : AreLinesAt new new (λ i. []) st
     record Stays (z : KeptClaim) : Type 0 where
       end : ℕ
       clock : z.end_us ≡ end % 2 ^ 32
-      most : end ≤ now + 10000
+      most : end ≤ now + 14000
       least : then ≤ end + 100000
 
     record IsGone (y : KeptClaim) : Type 0 where
       there : IsKeptThere new start begun calls now order y
       end : ℕ
       clock : y.end_us ≡ end % 2 ^ 32
-      most : end ≤ now + 10000
+      most : end ≤ now + 14000
       least : now ≤ end + 100000
       low : 10000 ≤ end
       past : end + 100000 < then
@@ -249,7 +249,7 @@ module _ (new : Keeping) (start : ℕ) (begun : AreLinesAt new new (λ i. []) st
     kept_now j small y kept =
         let l = (lines_after new start begun calls now order).lines j small in
         let raw = kept_by new start begun calls then order' j small y kept in
-        let h = subst (λ (o : Option KeptClaim). IfKept (IsEndAt (pulses_on j calls) (last_tick start calls) now) (after_calls new calls).rules o (pulses_on j calls)) raw.0 l.kept in
+        let h = subst (λ (o : Option KeptClaim). IfKept (IsEndAt (pulses_on j calls) (last_tick start calls) now) (after_calls new calls).clock.within.us (after_calls new calls).clock.drift_us (after_calls new calls).rules o (pulses_on j calls)) raw.0 l.kept in
         let soon = not_late h.0 then (omega (arith, h.3.0, on)) (omega (arith, h.3.1, order'.1)) (subst (λ (e : ℕ). is_late e (then % 2 ^ 32) ≡ false) h.1 raw.1) in
         ap claim_kept (frame_settled (now % 2 ^ 32) lines j small)
         ∙ stays_kept (now % 2 ^ 32) (line_at lines j).frame y raw.0 (ap (λ (x : ℕ). is_late x (now % 2 ^ 32)) h.1 ∙ in_time h.0 now h.3.0 (omega (arith, soon, on)))
@@ -263,9 +263,9 @@ module _ (new : Keeping) (start : ℕ) (begun : AreLinesAt new new (λ i. []) st
         of (Some y) e o' e' =
             let l = (lines_after new start begun calls now order).lines j small in
             let raw = kept_by new start begun calls now order j small y e in
-            let h = subst (λ (o : Option KeptClaim). IfKept (IsEndAt (pulses_on j calls) (last_tick start calls) now) (after_calls new calls).rules o (pulses_on j calls)) raw.0 l.kept in
+            let h = subst (λ (o : Option KeptClaim). IfKept (IsEndAt (pulses_on j calls) (last_tick start calls) now) (after_calls new calls).clock.within.us (after_calls new calls).clock.drift_us (after_calls new calls).rules o (pulses_on j calls)) raw.0 l.kept in
             let soon = not_late h.0 now h.3.0 (omega (arith, h.3.1, order.1)) (subst (λ (e : ℕ). is_late e (now % 2 ^ 32) ≡ false) h.1 raw.1) in
-            let turn : then + 10000 < h.0 + 2 ^ 32 = omega (arith, h.3.1, order'.1) in
+            let turn : then + 14000 < h.0 + 2 ^ 32 = omega (arith, h.3.1, order'.1) in
             elim (cases_Bool (is_late y.end_us (then % 2 ^ 32))) [
               | inl late ↦
                   let past = late_past h.0 then (omega (arith, h.3.0, on)) turn (subst (λ (x : ℕ). is_late x (then % 2 ^ 32) ≡ true) h.1 late) in
@@ -346,12 +346,12 @@ module _ (new : Keeping) (start : ℕ) (begun : AreLinesAt new new (λ i. []) st
         come_is there = rw there refl
 
   -- how long to wait for it
-  pub waits_for : (now edge : ℕ) (o : Option ℕ) (v : Vote) → v.edge_us ≡ edge % 2 ^ 32 → edge ≤ now + 11000 → now ≤ edge + 101000 → (edge ≤ now + wait_by (now % 2 ^ 32) o (Some v)) × (wait_by (now % 2 ^ 32) o (Some v) ≤ 11000)
+  pub waits_for : (now edge : ℕ) (o : Option ℕ) (v : Vote) → v.edge_us ≡ edge % 2 ^ 32 → edge ≤ now + 15000 → now ≤ edge + 101000 → (edge ≤ now + wait_by (now % 2 ^ 32) o (Some v)) × (wait_by (now % 2 ^ 32) o (Some v) ≤ 15000)
   waits_for now edge o v at ahead behind = of (nat_lt (clock_gap (now % 2 ^ 32) v.edge_us) (2 ^ 31)) refl
     where
-      gap : (e : ℕ) → e ≡ edge % 2 ^ 32 → (clock_gap (now % 2 ^ 32) e < 2 ^ 31 → (edge ≤ now + clock_gap (now % 2 ^ 32) e) × (clock_gap (now % 2 ^ 32) e ≤ 11000)) × (2 ^ 31 ≤ clock_gap (now % 2 ^ 32) e → edge ≤ now)
+      gap : (e : ℕ) → e ≡ edge % 2 ^ 32 → (clock_gap (now % 2 ^ 32) e < 2 ^ 31 → (edge ≤ now + clock_gap (now % 2 ^ 32) e) × (clock_gap (now % 2 ^ 32) e ≤ 15000)) × (2 ^ 31 ≤ clock_gap (now % 2 ^ 32) e → edge ≤ now)
       gap e clock = (λ low. (omega (arith, clock, ahead, behind, low), omega (arith, clock, ahead, behind, low)), λ high. omega (arith, clock, ahead, behind, high))
 
-      of : (test : Bool) → nat_lt (clock_gap (now % 2 ^ 32) v.edge_us) (2 ^ 31) ≡ test → (edge ≤ now + cond test (clock_gap (now % 2 ^ 32) v.edge_us) 0) × (cond test (clock_gap (now % 2 ^ 32) v.edge_us) 0 ≤ 11000)
+      of : (test : Bool) → nat_lt (clock_gap (now % 2 ^ 32) v.edge_us) (2 ^ 31) ≡ test → (edge ≤ now + cond test (clock_gap (now % 2 ^ 32) v.edge_us) 0) × (cond test (clock_gap (now % 2 ^ 32) v.edge_us) 0 ≤ 15000)
       of true e = (gap v.edge_us at).0 (ltb-true (clock_gap (now % 2 ^ 32) v.edge_us) (2 ^ 31) e)
       of false e = (let high = ltb-false (clock_gap (now % 2 ^ 32) v.edge_us) (2 ^ 31) e in let past = (gap v.edge_us at).1 high in omega (arith, past), omega arith)

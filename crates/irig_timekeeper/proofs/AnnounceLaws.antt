@@ -50,7 +50,7 @@ quiet : (k : Keeping) (clock : ℕ) → vote_at k clock ≡ None → edges_own k
 quiet k clock none nothing = of (vote_at k clock) none
   where
     s : ClockState
-    s = settled_at k.state clock
+    s = settled_at k.clock k.state clock
 
     by : (n : ℕ) → n ≡ 0 → IsQuiet k.state (after_own k.clock k.table s n)
     by n e = rw e (record { edge = refl; reader = refl })
@@ -76,11 +76,11 @@ voted_by c table s v n = elim (cases_Bool (n == 0)) [
       rw more (record { edge = refl; none = λ e. absurd (apart e); some = λ e. refl; tells = λ e. (beat_by c s (step_to c table s n (Some v.claim)) (n - 1) v.edge_us v.bound_us, refl, refl) })
 ]
 
-voted : (k : Keeping) (clock : ℕ) (v : Vote) → vote_at k clock ≡ Some v → IsVoted k.clock k.table (settled_at k.state clock) v (edges_to_vote k.state.edge_us v.edge_us) (after_tick k clock).state (answer_at k clock)
+voted : (k : Keeping) (clock : ℕ) (v : Vote) → vote_at k clock ≡ Some v → IsVoted k.clock k.table (settled_at k.clock k.state clock) v (edges_to_vote k.state.edge_us v.edge_us) (after_tick k clock).state (answer_at k clock)
 voted k clock v e = of (vote_at k clock) e
   where
     s : ClockState
-    s = settled_at k.state clock
+    s = settled_at k.clock k.state clock
 
     of : (o : Option Vote) → o ≡ Some v → IsVoted k.clock k.table s v (edges_to_vote k.state.edge_us v.edge_us) (clock_by k.clock k.table s clock o) (answer_by k.clock k.table s clock o)
     of None e = absurd cc
@@ -99,7 +99,7 @@ stepped : (k : Keeping) (clock : ℕ) → Stepped k.clock k.table k.state.reader
 stepped k clock = of (vote_at k clock)
   where
     s : ClockState
-    s = settled_at k.state clock
+    s = settled_at k.clock k.state clock
 
     own : (n : ℕ) (test : Bool) → (n == 0) ≡ test → Stepped k.clock k.table k.state.reader (after_own k.clock k.table s n).reader
     own n true e = rw e (inl refl)
@@ -127,7 +127,7 @@ pub record IsServed (IsTrue : ℕ → List Pulse → Type 0) (t : TimelineValue)
   pub are : calls ≡ Tick now ∷ others
   pub early : last_tick start (others ++ before) ≤ edges m + 3000
   pub soon : now ≤ edges m + 98000
-  pub comes : ((edges m + vote_us new.clock.within.us new.clock.drift_us ≤ now) × ComesWhole t edges new m (others ++ before)) ⊎ ((edges m ≤ now + 11000) × ((v : Vote) × (vote_at (after_calls new (others ++ before)) (now % 2 ^ 32) ≡ Some v)))
+  pub comes : ((edges m + vote_us new.clock.within.us new.clock.drift_us ≤ now) × ComesWhole t edges new m (others ++ before)) ⊎ ((edges m ≤ now + 15000) × ((v : Vote) × (vote_at (after_calls new (others ++ before)) (now % 2 ^ 32) ≡ Some v)))
   pub truth : AreTrueOver IsTrue (f_of new.clock.redundancy) calls before
 
 -- so many in a row
@@ -270,7 +270,7 @@ module _ (IsTrue : ℕ → List Pulse → Type 0) (t : TimelineValue) (edges : �
     votes : List (Option Claim)
     voted_at : IsVotedAt m votes calls
 
-  step_reads : (k : Keeping) (n : ℕ) (votes : List (Option Claim)) (v : Vote) → k.clock ≡ new.clock → k.table ≡ new.table → Reads votes k.state.reader → (step_to k.clock k.table (settled_at k.state 0) n (Some v.claim)).state ≡ state_of new.clock.reader_rules new.table (Some v.claim ∷ then_none (n - 1) votes)
+  step_reads : (k : Keeping) (n : ℕ) (votes : List (Option Claim)) (v : Vote) → k.clock ≡ new.clock → k.table ≡ new.table → Reads votes k.state.reader → (step_to k.clock k.table (settled_at k.clock k.state 0) n (Some v.claim)).state ≡ state_of new.clock.reader_rules new.table (Some v.claim ∷ then_none (n - 1) votes)
   step_reads k n votes v clock table reads =
       ap (λ (c : ClockRules). (step_of c.reader_rules k.table (missed c.reader_rules k.table (n - 1) k.state.reader) (Some v.claim)).state) clock
       ∙ ap (λ (x : TableValue). (step_of new.clock.reader_rules x (missed new.clock.reader_rules x (n - 1) k.state.reader) (Some v.claim)).state) table
@@ -325,13 +325,13 @@ module _ (IsTrue : ℕ → List Pulse → Type 0) (t : TimelineValue) (edges : �
           at = vote.at;
           near = vote.near;
           set = set_here vote.V now calls v is_voted vote.at;
-          reads = left.some some ∙ ap (λ (x : ℕ). (step_to k.clock k.table (settled_at k.state 0) x (Some v.claim)).state) one ∙ step_reads k 1 votes v (same_clock calls now order) (same_table calls now order) at.reads ∙ ap (λ (o : Option Claim). state_of new.clock.reader_rules new.table (o ∷ votes)) claim;
+          reads = left.some some ∙ ap (λ (x : ℕ). (step_to k.clock k.table (settled_at k.clock k.state 0) x (Some v.claim)).state) one ∙ step_reads k 1 votes v (same_clock calls now order) (same_table calls now order) at.reads ∙ ap (λ (o : Option Claim). state_of new.clock.reader_rules new.table (o ∷ votes)) claim;
         };
         beat = told.0;
         answer = told.1;
         report =
             told.2
-            ∙ ap (λ (x : ℕ). (step_to k.clock k.table (settled_at k.state 0) x (Some v.claim)).report) one
+            ∙ ap (λ (x : ℕ). (step_to k.clock k.table (settled_at k.clock k.state 0) x (Some v.claim)).report) one
             ∙ ap (λ (c : ClockRules). (step_of c.reader_rules k.table k.state.reader (Some v.claim)).report) (same_clock calls now order)
             ∙ ap (λ (x : TableValue). (step_of new.clock.reader_rules x k.state.reader (Some v.claim)).report) (same_table calls now order)
             ∙ ap (λ (s : State). (step_of new.clock.reader_rules new.table s (Some v.claim)).report) at.reads
@@ -341,7 +341,7 @@ module _ (IsTrue : ℕ → List Pulse → Type 0) (t : TimelineValue) (edges : �
   -- ---- over the calls of a second
 
   Waits : ℕ → List (Option Claim) → List Call → List Call → Type 0
-  Waits m votes later older = IsVotedAt m votes (later ++ older) × HaveNoVotes new (edges (m + 1) - 11000) later older
+  Waits m votes later older = IsVotedAt m votes (later ++ older) × HaveNoVotes new (edges (m + 1) - 15000) later older
 
   Goes : ℕ → List (Option Claim) → List Call → List Call → Type 0
   Goes m votes later older = IsVotedAt (m + 1) (truth_at t m ∷ votes) (later ++ older) × IsReported (m + 1) (truth_at t m) votes later older
@@ -374,15 +374,15 @@ module _ (IsTrue : ℕ → List Pulse → Type 0) (t : TimelineValue) (edges : �
           inr (next.voted_at, record { now = now; x = []; y = later; are = refl; soon = omega (arith, early); beat = next.beat; answer = next.answer; report = next.report })
 
   -- the last tick of a second has a vote, if none has
-  has_one : (m : ℕ) → 1 ≤ m → (older : List Call) (told : ℕ) → HaveRisen told older → told + 11000 < edges m → (others : List Call) (now : ℕ) → AreInOrder start new.clock.redundancy (Tick now ∷ (others ++ older)) → HaveNoVotes new (edges m - 11000) others older
-      → AreTrueLately IsTrue f now (others ++ older) → now ≤ edges m + 98000 → ((edges m + vote_us new.clock.within.us new.clock.drift_us ≤ now) × ComesWhole t edges new m (others ++ older)) ⊎ ((edges m ≤ now + 11000) × ((v : Vote) × (vote_at (after_calls new (others ++ older)) (now % 2 ^ 32) ≡ Some v)))
-      → (edges m ≤ now + 11000) × ((v : Vote) × (vote_at (after_calls new (others ++ older)) (now % 2 ^ 32) ≡ Some v))
+  has_one : (m : ℕ) → 1 ≤ m → (older : List Call) (told : ℕ) → HaveRisen told older → told + 11000 < edges m → (others : List Call) (now : ℕ) → AreInOrder start new.clock.redundancy (Tick now ∷ (others ++ older)) → HaveNoVotes new (edges m - 15000) others older
+      → AreTrueLately IsTrue f now (others ++ older) → now ≤ edges m + 98000 → ((edges m + vote_us new.clock.within.us new.clock.drift_us ≤ now) × ComesWhole t edges new m (others ++ older)) ⊎ ((edges m ≤ now + 15000) × ((v : Vote) × (vote_at (after_calls new (others ++ older)) (now % 2 ^ 32) ≡ Some v)))
+      → (edges m ≤ now + 15000) × ((v : Vote) × (vote_at (after_calls new (others ++ older)) (now % 2 ^ 32) ≡ Some v))
   has_one m some older told risen past others now order none lately soon (inr voted) = voted
   has_one m some older told risen past others now order none lately soon (inl come) =
       let whole = come.1 in (
         omega (arith, come.0),
         has_vote IsTrue t edges new is.steady start begun truly m some older told risen past (others ++ older) now order soon whole.whole whole.many
-            (λ i small is_whole. (let w = whole.frames i small is_whole in whole_kept t new.clock.drift_us edges is.steady new start begun i small m older told risen past others now order none soon w.0 w.1)) come.0 lately,
+            (λ i small is_whole. (let w = whole.frames i small is_whole in whole_kept t edges new is.steady start begun i small m older told risen past others now order none soon w.0 w.1)) come.0 lately,
       )
 
   -- the last of them has one, if none has
@@ -427,7 +427,7 @@ module _ (IsTrue : ℕ → List Pulse → Type 0) (t : TimelineValue) (edges : �
               ∙ ap (λ (s : State). (step_of new.clock.reader_rules new.table s step.1).state) (missed_are_none new.clock.reader_rules new.table step.0 (state calls).reader before.votes before.reads);
         }
 
-    walk_first : (m : ℕ) (older later : List Call) → AreInOrder start new.clock.redundancy (later ++ older) → AreTrueOver IsTrue f later older → last_tick start (later ++ older) ≤ edges m + 3000 → HaveNoVotes new (edges m - 11000) later older ⊎ IsFirstVoted m (later ++ older)
+    walk_first : (m : ℕ) (older later : List Call) → AreInOrder start new.clock.redundancy (later ++ older) → AreTrueOver IsTrue f later older → last_tick start (later ++ older) ≤ edges m + 3000 → HaveNoVotes new (edges m - 15000) later older ⊎ IsFirstVoted m (later ++ older)
     walk_first m older [] order truth early = inl tt
     walk_first m older (Hear port rise width ∷ later) order truth early = elim (walk_first m older later order.2 truth early) [
       | inl none ↦ inl none
@@ -440,9 +440,9 @@ module _ (IsTrue : ℕ → List Pulse → Type 0) (t : TimelineValue) (edges : �
       | inl none ↦ by none (vote_at (after_calls new (later ++ older)) (now % 2 ^ 32)) refl
     ]
       where
-        by : HaveNoVotes new (edges m - 11000) later older → (o : Option Vote) → vote_at (after_calls new (later ++ older)) (now % 2 ^ 32) ≡ o → HaveNoVotes new (edges m - 11000) (Tick now ∷ later) older ⊎ IsFirstVoted m (Tick now ∷ (later ++ older))
+        by : HaveNoVotes new (edges m - 15000) later older → (o : Option Vote) → vote_at (after_calls new (later ++ older)) (now % 2 ^ 32) ≡ o → HaveNoVotes new (edges m - 15000) (Tick now ∷ later) older ⊎ IsFirstVoted m (Tick now ∷ (later ++ older))
         by none None e = inl (λ _. e, none)
-        by none (Some v) e = elim (cases_lt (now + 11000) (edges m)) [
+        by none (Some v) e = elim (cases_lt (now + 15000) (edges m)) [
           | inl before ↦ inl (λ from. absurd (omega (arith, from, before)), none)
           | inr behind ↦
               let vote = vote_of m now (later ++ older) order truth.0 (omega (arith, behind)) (omega (arith, early)) v e in
@@ -471,10 +471,10 @@ module _ (IsTrue : ℕ → List Pulse → Type 0) (t : TimelineValue) (edges : �
       voted_at : IsVotedAt (a + n) (then_true t a n votes) calls
       told : ℕ
       risen : HaveRisen told calls
-      upto : told ≤ edges (a + n) + 98000
+      upto : told ≤ edges (a + n) + 102000
 
-    risen_by : (m : ℕ) (last older : List Call) (w : IsServed IsTrue t edges new start m last older) → AreInOrder start new.clock.redundancy (last ++ older) → HaveRisen w.now (last ++ older)
-    risen_by m last older w order = subst (λ (x : List Call). HaveRisen w.now (x ++ older)) (sym w.are) (subst (λ (x : List Call). AreInOrder start new.clock.redundancy (x ++ older)) w.are order).2
+    risen_by : (m : ℕ) (last older : List Call) (w : IsServed IsTrue t edges new start m last older) → AreInOrder start new.clock.redundancy (last ++ older) → HaveRisen (w.now + 4000) (last ++ older)
+    risen_by m last older w order = subst (λ (x : List Call). HaveRisen (w.now + 4000) (x ++ older)) (sym w.are) (subst (λ (x : List Call). AreInOrder start new.clock.redundancy (x ++ older)) w.are order).2
 
     row : (a : ℕ) → 1 ≤ a → (before : List Call) (told : ℕ) → HaveRisen told before → told + 11000 < edges a → (n : ℕ) (calls : List Call) → AreServed IsTrue t edges new start a (suc n) calls before → AreInOrder start new.clock.redundancy calls → (votes : List (Option Claim)) × IsRow a n votes calls
     unfolding Goes
@@ -489,9 +489,9 @@ module _ (IsTrue : ℕ → List Pulse → Type 0) (t : TimelineValue) (edges : �
           first.votes,
           record {
             voted_at = subst (λ (m : ℕ). IsVotedAt m first.votes calls) (sym same) (subst (IsVotedAt a first.votes) (sym are) first.voted_at);
-            told = w.now;
-            risen = subst (HaveRisen w.now) (sym are) (risen_by a last before w ordered);
-            upto = subst (λ (m : ℕ). w.now ≤ edges m + 98000) (sym same) w.soon;
+            told = w.now + 4000;
+            risen = subst (HaveRisen (w.now + 4000)) (sym are) (risen_by a last before w ordered);
+            upto = subst (λ (m : ℕ). w.now + 4000 ≤ edges m + 102000) (sym same) (omega (arith, w.soon));
           },
         )
     row a some before told risen past (suc n) calls heard order =
@@ -505,9 +505,9 @@ module _ (IsTrue : ℕ → List Pulse → Type 0) (t : TimelineValue) (edges : �
           rec.0,
           record {
             voted_at = subst (λ (m : ℕ). IsVotedAt m (then_true t a (suc n) rec.0) calls) (sym same) (subst (IsVotedAt (a + n + 1) (then_true t a (suc n) rec.0)) (sym heard.2) goes.0);
-            told = heard.3.now;
-            risen = subst (HaveRisen heard.3.now) (sym heard.2) (risen_by (a + suc n) last older heard.3 ordered);
-            upto = heard.3.soon;
+            told = heard.3.now + 4000;
+            risen = subst (HaveRisen (heard.3.now + 4000)) (sym heard.2) (risen_by (a + suc n) last older heard.3 ordered);
+            upto = omega (arith, heard.3.soon);
           },
         )
       where

@@ -56,7 +56,7 @@ pub record HasBound (c : ClockRules) (new : ClockState) (answer : Option Beat) :
 
 module _ (k : Keeping) (clock : ℕ) where
   abbrev s : ClockState
-  s = settled_at k.state clock
+  s = settled_at k.clock k.state clock
 
   abbrev most : ℕ
   most = vote_us k.clock.within.us k.clock.drift_us

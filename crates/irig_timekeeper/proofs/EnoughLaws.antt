@@ -172,10 +172,10 @@ one_edge d edges quartz i j less more = elim (cases_lt i j) [
         let rise = subst (λ (x : ℕ). edges i + (j - i) * 999900 ≤ edges x) there (rises d edges quartz i (j - i)) in
         omega (arith, rise, less)
 
-module _ (t : TimelineValue) (d : ℕ) (edges : ℕ → ℕ) (quartz : IsQuartz d edges) (new : Keeping) (start : ℕ) (begun : AreLinesAt new new (λ i. []) start start)
+module _ (t : TimelineValue) (edges : ℕ → ℕ) (new : Keeping) (quartz : IsQuartz new.clock.drift_us edges) (start : ℕ) (begun : AreLinesAt new new (λ i. []) start start)
     (m : ℕ) (some : 1 ≤ m) (older : List Call) (told : ℕ) (risen : HaveRisen told older) (past : told + 11000 < edges m) (calls : List Call) (now : ℕ) (upto : now ≤ edges m + 98000)
-    (whole : ℕ → Bool) (many : f_of new.clock.redundancy < count_by whole (range_with_len 0 5)) (keeps : (i : ℕ) (small : i < 5) → whole i ≡ true → Keeps t d edges quartz new start begun i small m older told risen past calls)
-    (ahead : (i : ℕ) (small : i < 5) (is : whole i ≡ true) → (keeps i small is).end ≤ now + 10000) where
+    (whole : ℕ → Bool) (many : f_of new.clock.redundancy < count_by whole (range_with_len 0 5)) (keeps : (i : ℕ) (small : i < 5) → whole i ≡ true → Keeps t edges new quartz start begun i small m older told risen past calls)
+    (ahead : (i : ℕ) (small : i < 5) (is : whole i ≡ true) → (keeps i small is).end ≤ now + 14000) where
   abbrev clock : ℕ
   clock = now % 2 ^ 32
 
@@ -232,15 +232,15 @@ module _ (t : TimelineValue) (d : ℕ) (edges : ℕ → ℕ) (quartz : IsQuartz 
 
 module _ (IsTrue : ℕ → List Pulse → Type 0) (t : TimelineValue) (edges : ℕ → ℕ) (new : Keeping) (quartz : IsQuartz new.clock.drift_us edges) (start : ℕ) (begun : AreLinesAt new new (λ i. []) start start) (truly : TellAlwaysTruly IsTrue new.clock.within.us new.clock.drift_us new.rules t edges 0 0)
     (m : ℕ) (some : 1 ≤ m) (older : List Call) (told : ℕ) (risen : HaveRisen told older) (past : told + 11000 < edges m) (calls : List Call) (now : ℕ) (order : AreInOrder start new.clock.redundancy (Tick now ∷ calls)) (upto : now ≤ edges m + 98000)
-    (whole : ℕ → Bool) (many : f_of new.clock.redundancy < count_by whole (range_with_len 0 5)) (keeps : (i : ℕ) (small : i < 5) → whole i ≡ true → Keeps t new.clock.drift_us edges quartz new start begun i small m older told risen past calls) where
+    (whole : ℕ → Bool) (many : f_of new.clock.redundancy < count_by whole (range_with_len 0 5)) (keeps : (i : ℕ) (small : i < 5) → whole i ≡ true → Keeps t edges new quartz start begun i small m older told risen past calls) where
   abbrev heard_lines : Lines
   heard_lines = (after_calls new calls).state.lines
 
   abbrev IsHeard : Type 0
-  IsHeard = AreHeardTruly (IsTrue now) new.rules (f_of new.clock.redundancy) now heard_lines (λ i. pulses_on i calls)
+  IsHeard = AreHeardTruly (IsTrue now) new.clock.within.us new.clock.drift_us new.rules (f_of new.clock.redundancy) now heard_lines (λ i. pulses_on i calls)
 
   -- what a true line keeps then ends at this edge
-  ready : edges m + vote_us new.clock.within.us new.clock.drift_us ≤ now → (h : IsHeard) → AreReady (IsTrue now) new.rules t new.clock edges quartz 0 0 (omega arith) now heard_lines (λ i. pulses_on i calls) (truly now) h
+  ready : edges m + vote_us new.clock.within.us new.clock.drift_us ≤ now → (h : IsHeard) → AreReady (IsTrue now) new.rules t new.clock new.clock.drift_us edges quartz 0 0 (omega arith) now heard_lines (λ i. pulses_on i calls) (truly now) h
   ready from h i low right y end is frame ahead soon keeps =
       let near = truly now end (pulses_on i calls) y.claim (h.true_lines i low right) frame soon in
       let few = new.clock.within.few in
@@ -251,6 +251,6 @@ module _ (IsTrue : ℕ → List Pulse → Type 0) (t : TimelineValue) (edges : �
   pub has_vote : edges m + vote_us new.clock.within.us new.clock.drift_us ≤ now → AreTrueLately IsTrue (f_of new.clock.redundancy) now calls → (v : Vote) × (vote_at (after_calls new calls) (now % 2 ^ 32) ≡ Some v)
   has_vote from lately =
       let h = heard_truly IsTrue t edges 0 0 new start begun calls now order lately in
-      let v = some_agree t new.clock.drift_us edges quartz new start begun m some older told risen past calls now upto whole many keeps (λ i small is. (let k = keeps i small is in omega (arith, k.is, ended t new.clock.drift_us edges quartz new start begun i small m older told risen past calls now order))) in
+      let v = some_agree t edges new quartz start begun m some older told risen past calls now upto whole many keeps (λ i small is. (let k = keeps i small is in omega (arith, k.is, ended t edges new quartz start begun i small m older told risen past calls now order))) in
       let same = ap (λ (c : ClockRules). if_come (now % 2 ^ 32) (agreed c (settled (now % 2 ^ 32) heard_lines))) (lines_after new start begun calls now order).same.clock in
-      (v.0, same ∙ vote_comes (IsTrue now) new.rules t new.clock edges quartz 0 0 (omega arith) now heard_lines (λ i. pulses_on i calls) (truly now) h (ready from h) v.0 v.1)
+      (v.0, same ∙ vote_comes (IsTrue now) new.rules t new.clock new.clock.drift_us edges quartz 0 0 (omega arith) now heard_lines (λ i. pulses_on i calls) (truly now) h (ready from h) v.0 v.1)

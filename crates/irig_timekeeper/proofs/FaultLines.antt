@@ -1,6 +1,6 @@
 -- A line with one fault in each hundred pulses tells truly: which element each pulse of a frame is.
 use Rattle.std.proofs.Common.{◌≡◌, ℕ, zero, suc, ◌+◌, ◌-◌, ◌*◌, ◌/◌, ◌%◌, ◌<◌, ◌≤◌, ◌⊎◌, true, List, [], ◌∷◌, ◌++◌, length, length-append, take, drop, Some, refl, sym, subst, ap, ◌∙◌, arith, inl, inr}
-use Rattle.std.specs.Prelude.{slice_get, slice_set, get_or}
+use Rattle.std.specs.Prelude.{slice_get, slice_set, get_or, min}
 use Rattle.std.proofs.lemmas.Bool.{cases_eq, cases_lt}
 use Rattle.std.proofs.lemmas.Grind.{get_or-set_at}
 use Rattle.std.proofs.lemmas.List.{ext_get_or, get_or_append_left, get_or-append-add, length-set}
@@ -24,9 +24,9 @@ use Rattle.irig_time.specs.Carries.{Carries}
 use Rattle.irig_time.specs.Timelines.{TimelineValue}
 use Rattle.irig_port.proofs.FaultLaws.{odd_place, first_odd, second_odd, odd_at, misplaced, marker_at}
 use Rattle.irig_timekeeper.specs.declared.within.Within.{Within}
-use Rattle.irig_timekeeper.specs.Exactness.{end_off_us}
+use Rattle.irig_timekeeper.specs.Exactness.{end_off_us, fault_early_us, fault_late_us}
 use Rattle.irig_timekeeper.specs.Edges.{IsQuartz, IsTrueNear}
-use Rattle.irig_timekeeper.specs.Lines.{IsLastBefore, IsFrameOf, StandButForOne, IsCheckedLineOf, RoseBefore, HasOneFaultInPlace, RoseLately, IsTrueButForFaults, IsTrueOrFaulty}
+use Rattle.irig_timekeeper.specs.Lines.{rise_before, AreEven, IsLastBefore, IsFrameOf, StandButForOne, IsCheckedLineOf, RoseBefore, HasOneFaultInPlace, RoseLately, IsTrueButForFaults, IsTrueOrFaulty}
 use Rattle.irig_timekeeper.proofs.LineLaws.{clock_of, true_lately}
 use Rattle.irig_timekeeper.proofs.LifeLaws.{TellAlwaysTruly}
 
@@ -35,6 +35,18 @@ use Rattle.irig_timekeeper.proofs.LifeLaws.{TellAlwaysTruly}
 -- the j-th, the newest first
 abbrev nth : List Pulse → ℕ → Pulse
 nth ps j = get_or ps j (pulse_at 0 0)
+
+nth_rise : (j : ℕ) (ps : List Pulse) → (nth ps j).rise ≡ rise_before j ps
+nth_rise j [] = refl
+nth_rise zero (p ∷ ps) = refl
+nth_rise (suc j) (p ∷ ps) = nth_rise j ps
+
+-- of the newest ones each is the same
+taken_rise : (n j : ℕ) (ps : List Pulse) → j < n → rise_before j (take n ps) ≡ rise_before j ps
+taken_rise zero j ps less = absurd (omega (arith, less))
+taken_rise (suc n) j [] less = refl
+taken_rise (suc n) zero (p ∷ ps) less = refl
+taken_rise (suc n) (suc j) (p ∷ ps) less = taken_rise n j ps (omega (arith, less))
 
 -- so many on time are so many
 many_on : (n : ℕ) (ps : List Pulse) → AreOnTime (suc (suc n)) ps → suc (suc n) ≤ length ps
@@ -85,10 +97,10 @@ module _ (within : Within) (line : ℕ → Symbol) (edges : ℕ → ℕ) where
   abbrev IsBack : ℕ → ℕ → Pulse → Type 0
   IsBack last j p = (e : ℕ) × (e + j ≡ last) × IsPulseOf line edges within.us e p
 
-  -- an element behind the newest pulse lies so near the end of the last element's frame: two pulses in
-  -- place of its last two may rise 1 ms early each, and one 1 ms late
+  -- an element behind the newest pulse lies at most so far behind the end of the last element's frame: a
+  -- pulse in place of its last one may rise 1 ms late
   abbrev IsNewest : ℕ → ℕ → Pulse → Type 0
-  IsNewest d last p = (edges (last / 100 + 1) ≤ p.rise + 10000 + (1999 + within.us + element_drift (3 * d))) × (p.rise + 10000 ≤ edges (last / 100 + 1) + (998 + within.us + element_drift (2 * d)))
+  IsNewest d last p = p.rise + 10000 ≤ edges (last / 100 + 1) + (998 + within.us + element_drift (2 * d))
 
   -- but for one, or for two at the beginning or the end, a hundred pulses are of elements in a row
   record AreButForOne (d : ℕ) (ps : List Pulse) : Type 0 where
@@ -111,19 +123,18 @@ module _ (within : Within) (line : ℕ → Symbol) (edges : ℕ → ℕ) where
     exact last p is end =
         let time = is.2.0 in
         let at = in_frame last is.0 0 is.1 (omega arith) end in
-        (omega (arith, at, time.0, steady.steady.most (last / 100), steady.few, within.some), omega (arith, at, time.1, steady.steady.least (last / 100), steady.few, within.some))
+        omega (arith, at, time.1, steady.steady.least (last / 100), steady.few, within.some)
 
     -- what stands in place of the last of a frame, or of the last two
     one_new : (e last : ℕ) (p q : Pulse) → e + 1 ≡ last → IsTimeOf edges within.us e q.rise → (q.rise + 9000 ≤ p.rise) × (p.rise < q.rise + 11000) → last % 100 ≡ 99 → IsNewest d last p
     one_new e last p q is time gap end =
         let at = in_frame last e 1 is (omega arith) end in
-        (omega (arith, at, time.0, gap.0, steady.steady.most (last / 100), steady.few, within.some), omega (arith, at, time.1, gap.1, steady.steady.least (last / 100), steady.few, within.some))
+        omega (arith, at, time.1, gap.1, steady.steady.least (last / 100), steady.few, within.some)
 
-    two_new : (e last : ℕ) (p q r : Pulse) → e + 2 ≡ last → IsTimeOf edges within.us e r.rise → q.rise + 9000 ≤ p.rise → r.rise + 9000 ≤ q.rise → p.rise < element_at edges last + within.us → last % 100 ≡ 99 → IsNewest d last p
-    two_new e last p q r is time first second most end =
-        let at = in_frame last e 2 is (omega arith) end in
+    two_new : (last : ℕ) (p : Pulse) → p.rise < element_at edges last + within.us → last % 100 ≡ 99 → IsNewest d last p
+    two_new last p most end =
         let here = in_frame last last 0 (omega arith) (omega arith) end in
-        (omega (arith, at, time.0, first, second, steady.steady.most (last / 100), steady.few, within.some), omega (arith, here, most, steady.steady.least (last / 100), steady.few, within.some))
+        omega (arith, here, most, steady.steady.least (last / 100), steady.few, within.some)
 
   module _ (d : ℕ) (steady : IsQuartz d edges) (k : ℕ) (after fault before : List Pulse) (later : ArePulsesBefore line edges within.us (length after + suc k) after) (earlier : ArePulsesBefore line edges within.us k before)
       (on : AreOnTime 100 (after ++ (fault ++ before))) (many : 100 ≤ length (after ++ (fault ++ before))) where
@@ -257,11 +268,7 @@ module _ (within : Within) (line : ℕ → Symbol) (edges : ℕ → ℕ) where
             | inr here ↦ elim (cases_lt 0 j) [ inl low ↦ absurd (n (omega (arith, low, here))) | inr low ↦ absurd (m (omega (arith, low))) ]
           ];
       beside = inr (inl (refl, refl));
-      newest = λ end.
-          let it = older 2 0 (omega (arith, at, two)) (omega (arith, at, two, total, many)) in
-          let first = apart_at 100 0 all on (omega arith) in
-          let second = apart_at 100 1 all on (omega arith) in
-          two_new d steady it.0 (k + 1) (nth all 0) (nth all 1) (nth all 2) (omega (arith, it.1)) it.2.0 first.0 second.0 most end;
+      newest = λ end. two_new d steady (k + 1) (nth all 0) most end;
     }
 
   -- ---- by what is at fault
@@ -367,6 +374,45 @@ module _ (within : Within) (line : ℕ → Symbol) (edges : ℕ → ℕ) (right 
     ]
   ]
 
+  -- ---- where it ends
+
+  -- it ends so near the edge behind its second
+  abbrev EndsNear : Type 0
+  EndsNear = (edges (second + 1) ≤ (nth ps 0).rise + 10000 + (end_off_us within.us d + fault_early_us within.us d)) × ((nth ps 0).rise + 10000 ≤ edges (second + 1) + (end_off_us within.us d + fault_late_us within.us d))
+
+  -- by its last pulse
+  near_by_last : IsQuartz d edges → IsBack within line edges is.last 0 (nth ps 0) → EndsNear
+  near_by_last steady it =
+      let time = it.2.0 in
+      let at = in_frame within line edges d steady is.last it.0 0 it.1 (omega arith) whole in
+      let least : edges (second + 1) ≤ (nth ps 0).rise + 10000 + end_off_us within.us d = omega (arith, at, time.0, steady.steady.most second, steady.few, within.some) in
+      let most : (nth ps 0).rise + 10000 ≤ edges (second + 1) + end_off_us within.us d = omega (arith, at, time.1, steady.steady.least second, steady.few, within.some) in
+      (omega (arith, least), omega (arith, most))
+
+  -- by its first one, as it is even
+  near_by_first : IsQuartz d edges → AreEven within.us d ps → IsBack within line edges is.last 99 (nth ps 99) → EndsNear
+  near_by_first steady even it =
+      let time = it.2.0 in
+      let at = in_frame within line edges d steady is.last it.0 99 it.1 (omega arith) whole in
+      let begin = nth_rise 99 ps in
+      let rise = nth_rise 0 ps in
+      let least : edges (second + 1) ≤ (nth ps 0).rise + 10000 + (end_off_us within.us d + fault_early_us within.us d) = omega (arith, at, time.0, begin, rise, even.0, steady.steady.most second, steady.few, within.some) in
+      let most : (nth ps 0).rise + 10000 ≤ edges (second + 1) + (end_off_us within.us d + fault_early_us within.us d) = omega (arith, at, time.1, begin, rise, even.1, steady.steady.least second, steady.few, within.some) in
+      let newest : (nth ps 0).rise + 10000 ≤ edges (second + 1) + (end_off_us within.us d + (999 + element_drift (2 * d) - element_drift d)) = (let new = is.newest whole in omega (arith, new, within.some)) in
+      (least, under_both ((nth ps 0).rise + 10000) (edges (second + 1)) (end_off_us within.us d) (fault_early_us within.us d) (999 + element_drift (2 * d) - element_drift d) most newest)
+    where
+      under_both : (x y off a b : ℕ) → x ≤ y + (off + a) → x ≤ y + (off + b) → x ≤ y + (off + min a b)
+      under_both x y off a b p q = grind (arith, p, q)
+
+  ends_near : IsQuartz d edges → AreEven within.us d ps → EndsNear
+  ends_near steady even = elim (cases_eq 0 is.odd) [
+    | inl e ↦ near_by_first steady even (is.rest 99 (omega arith) (λ f. omega (arith, e, f)) (λ f. omega (arith, e, f, close.1)))
+    | inr n ↦ elim (cases_eq 0 is.other) [
+      | inl e ↦ near_by_first steady even (is.rest 99 (omega arith) (λ f. omega (arith, e, f, close.0)) (λ f. omega (arith, e, f)))
+      | inr m ↦ near_by_last steady (is.rest 0 (omega arith) n m)
+    ]
+  ]
+
 -- ---- lines
 
 lately : (now n : ℕ) (p : Pulse) (ps : List Pulse) → AreOnTime (suc n) (p ∷ ps) → now + 11000 * n ≤ p.rise + 1200000 → RoseLately now (take (suc n) (p ∷ ps))
@@ -377,9 +423,13 @@ lately now (suc n) p (q ∷ ps) on soon =
     (omega (arith, soon), lately now n q ps on.1 (omega (arith, soon, gap.0, gap.1)))
 
 module _ (within : Within) (rules : Rules) (t : TimelineValue) (d : ℕ) (edges : ℕ → ℕ) (steady : IsQuartz d edges) where
+  -- a frame with a fault ends so near its edge
+  abbrev IsNearEdge : ℕ → Claim → Type 0
+  IsNearEdge end claim = IsTrueNear t edges (end_off_us within.us d + fault_early_us within.us d) (end_off_us within.us d + fault_late_us within.us d) end claim
+
   framed : (line : ℕ → Symbol) (end : ℕ) (p : Pulse) (ps : List Pulse) (claim : Claim) → IsCheckedLineOf rules t line → HasOneFaultInPlace within.us line edges (take 100 (p ∷ ps)) → AreOnTime 100 (p ∷ ps)
-      → Carries rules (symbols_of_last 100 (p ∷ ps)) claim → end ≡ p.rise + 10000 → IsTrueNear t edges (1999 + within.us + element_drift (3 * d)) (998 + within.us + element_drift (2 * d)) end claim
-  framed line end p ps claim checked one on carries at =
+      → Carries rules (symbols_of_last 100 (p ∷ ps)) claim → end ≡ p.rise + 10000 → AreEven within.us d (p ∷ ps) → IsNearEdge end claim
+  framed line end p ps claim checked one on carries at even =
       let hundred : List Pulse = take 100 (p ∷ ps) in
       let on_time = on-take 100 (p ∷ ps) on in
       let is = fits within line edges d steady hundred one on_time in
@@ -387,37 +437,37 @@ module _ (within : Within) (rules : Rules) (t : TimelineValue) (d : ℕ) (edges 
       let same = last-take 100 (p ∷ ps) in
       let carried = subst (λ (s : List Symbol). Carries rules s claim) (sym same) carries in
       let f : ℕ = is.last / 100 in
-      let end_of : is.last % 100 ≡ 99 = whole within line edges checked.right hundred d is many carried.coded carried.reads in
-      let newest = is.newest end_of in
+      let first = taken_rise 100 99 (p ∷ ps) (omega arith) in
+      let near = ends_near within line edges checked.right hundred d is many carried.coded carried.reads steady (omega (arith, first, even.0), omega (arith, first, even.1)) in
       record {
         second = f;
         near = record {
-          least = omega (arith, at, newest.0);
-          most = omega (arith, at, newest.1);
+          least = omega (arith, at, near.0);
+          most = omega (arith, at, near.1);
         };
         truth = checked.truth f (99 - is.odd) (symbols_of_last 100 hundred) claim (stand within line edges checked.right hundred d is many carried.coded carried.reads) carried;
       }
 
   ended : (line : ℕ → Symbol) (now end : ℕ) (run : List Pulse) (claim : Claim) → IsCheckedLineOf rules t line → (RoseLately now (take 100 run) → HasOneFaultInPlace within.us line edges (take 100 run)) → AreOnTime 100 run
-      → IsLastBefore end run → Carries rules (symbols_of_last 100 run) claim → now ≤ end + 100000 → IsTrueNear t edges (1999 + within.us + element_drift (3 * d)) (998 + within.us + element_drift (2 * d)) end claim
-  ended line now end [] claim checked few on at carries soon = absurd at
-  ended line now end (p ∷ ps) claim checked few on at carries soon = framed line end p ps claim checked (few (lately now 99 p ps on (omega (arith, at, soon)))) on carries at
+      → IsLastBefore end run → Carries rules (symbols_of_last 100 run) claim → AreEven within.us d run → now ≤ end + 100000 → IsNearEdge end claim
+  ended line now end [] claim checked few on at carries even soon = absurd at
+  ended line now end (p ∷ ps) claim checked few on at carries even soon = framed line end p ps claim checked (few (lately now 99 p ps on (omega (arith, at, soon)))) on carries at even
 
-  pub faults_are_true : (now end : ℕ) (pulses : List Pulse) (claim : Claim) → IsTrueButForFaults within.us rules t edges now pulses → IsFrameOf rules claim end pulses → now ≤ end + 100000 → IsTrueNear t edges (1999 + within.us + element_drift (3 * d)) (998 + within.us + element_drift (2 * d)) end claim
-  faults_are_true now end pulses claim is frame soon = ended is.line now end (drop frame.late pulses) claim is.is_line (is.few frame.late) frame.on_time frame.last frame.carries soon
+  pub faults_are_true : (now end : ℕ) (pulses : List Pulse) (claim : Claim) → IsTrueButForFaults within.us rules t edges now pulses → IsFrameOf within.us d rules claim end pulses → now ≤ end + 100000 → IsNearEdge end claim
+  faults_are_true now end pulses claim is frame soon = ended is.line now end (drop frame.late pulses) claim is.is_line (is.few frame.late) frame.on_time frame.last frame.carries frame.even soon
 
--- so they tell truly but for 2.002 ms before an edge and 1 ms behind it
-pub faults_tell_truly : (within : Within) (rules : Rules) (t : TimelineValue) (d : ℕ) (edges : ℕ → ℕ) → IsQuartz d edges → TellAlwaysTruly (IsTrueButForFaults within.us rules t edges) within.us d rules t edges 2002 1000
+-- so they tell truly, but for so much more before an edge and behind it
+pub faults_tell_truly : (within : Within) (rules : Rules) (t : TimelineValue) (d : ℕ) (edges : ℕ → ℕ) → IsQuartz d edges → TellAlwaysTruly (IsTrueButForFaults within.us rules t edges) within.us d rules t edges (fault_early_us within.us d) (fault_late_us within.us d)
 faults_tell_truly within rules t d edges steady now end pulses claim is frame soon =
     let near = faults_are_true within rules t d edges steady now end pulses claim is frame soon in
     record {
       second = near.second;
-      near = record { least = omega (arith, near.near.least, steady.few, within.some); most = omega (arith, near.near.most, steady.few, within.some) };
+      near = record { least = omega (arith, near.near.least); most = omega (arith, near.near.most) };
       truth = near.truth;
     }
 
 -- the same of lines of which any pulses may be lost, or which may have faults
-pub either_tells_truly : (within : Within) (rules : Rules) (t : TimelineValue) (d : ℕ) (edges : ℕ → ℕ) → IsQuartz d edges → TellAlwaysTruly (IsTrueOrFaulty within.us rules t edges) within.us d rules t edges 2002 1000
+pub either_tells_truly : (within : Within) (rules : Rules) (t : TimelineValue) (d : ℕ) (edges : ℕ → ℕ) → IsQuartz d edges → TellAlwaysTruly (IsTrueOrFaulty within.us rules t edges) within.us d rules t edges (fault_early_us within.us d) (fault_late_us within.us d)
 either_tells_truly within rules t d edges steady now end pulses claim (inr is) frame soon = faults_tell_truly within rules t d edges steady now end pulses claim is frame soon
 either_tells_truly within rules t d edges steady now end pulses claim (inl is) frame soon =
     let near = true_lately within rules t d edges now end pulses claim steady is frame soon in
@@ -426,6 +476,21 @@ either_tells_truly within rules t d edges steady now end pulses claim (inl is) f
       near = record { least = omega (arith, near.near.least); most = omega (arith, near.near.most) };
       truth = near.truth;
     }
+
+-- less is allowed behind the edge than before it
+pub late_below : (within d : ℕ) → fault_late_us within d ≤ fault_early_us within d
+late_below within d = of (fault_early_us within d) (999 + element_drift (2 * d) - element_drift d)
+  where
+    of : (a b : ℕ) → min a b ≤ a
+    of a b = grind arith
+
+-- so much more is 1.1 ms at most
+pub fault_small : (within : Within) (d : ℕ) → d ≤ 100 → (fault_early_us within.us d < 1100) × (fault_late_us within.us d ≤ 1000) × (fault_late_us within.us d ≤ fault_early_us within.us d)
+fault_small within d few =
+    (omega (arith, few, within.few), of (fault_early_us within.us d) (999 + element_drift (2 * d) - element_drift d) (omega (arith, few)), late_below within.us d)
+  where
+    of : (a b : ℕ) → b ≤ 1000 → min a b ≤ 1000
+    of a b h = grind (arith, h)
 
 -- ---- lines of such kinds
 

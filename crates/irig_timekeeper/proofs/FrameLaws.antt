@@ -1,5 +1,5 @@
 -- A frame that a line has sent whole is kept until a tick takes it.
-use Rattle.std.specs.Prelude.{◌==◌, nat_lt}
+use Rattle.std.specs.Prelude.{◌==◌, ◌&&◌, nat_lt, nat_le}
 use Rattle.std.proofs.Common.{◌≡◌, ◌∙◌, ◌⊎◌, ℕ, zero, suc, ◌+◌, ◌-◌, ◌*◌, ◌/◌, ◌%◌, ◌^◌, ◌<◌, ◌≤◌, Bool, true, false, cond, List, [], ◌∷◌, ◌++◌, drop, length, length-append, Option, Some, None, refl, sym, ap, subst, arith, inl, inr}
 use Rattle.std.proofs.lemmas.Bool.{cases_Bool, eqb-true, eqb-false}
 use Rattle.irig_frame.specs.declared.symbol.Symbol.{Symbol}
@@ -21,6 +21,8 @@ use Rattle.irig_port.specs.declared.told.Told.TheVariants as tells
 use Rattle.irig_port.specs.Limits.{told_within}
 use Rattle.irig_port.specs.Hearing.{heard_at, heard_of_last}
 use Rattle.irig_port.proofs.RunLaws.{holds_place}
+use Rattle.irig_timekeeper.specs.declared.setup.ClockRules.{ClockRules}
+use Rattle.irig_timekeeper.specs.Lines.{rise_before}
 use Rattle.irig_timekeeper.specs.declared.lines.KeptFrame.{KeptFrame}
 use Rattle.irig_timekeeper.specs.declared.lines.KeptClaim.{KeptClaim}
 use Rattle.irig_timekeeper.specs.declared.lines.Line.{Line}
@@ -29,17 +31,17 @@ use Rattle.irig_timekeeper.specs.declared.lines.Vote.{Vote}
 use Rattle.irig_timekeeper.specs.declared.within.Within.{Within}
 use Rattle.irig_timekeeper.specs.declared.clock.ClockState.{ClockState}
 use Rattle.irig_timekeeper.specs.Counting.{is_late, edges_own}
-use Rattle.irig_timekeeper.specs.Steps.{is_pulse, line_at, line_heard, frame_behind, still_kept, settled, claim_told, claim_kept}
+use Rattle.irig_timekeeper.specs.Steps.{is_pulse, is_even, line_at, line_heard, frame_behind, still_kept, settled, claim_told, claim_kept}
 use Rattle.irig_timekeeper.specs.Clock.{clock_by, settled_at}
 use Rattle.irig_timekeeper.specs.Keeping.{Keeping, place_told, heard_by, heard_then, vote_at, after_pulse, after_tick}
 use Rattle.irig_timekeeper.specs.Life.{Call, after_calls, pulses_on, last_tick, HaveRisen, AreInOrder}
 use Rattle.irig_timekeeper.specs.Life.Call.{Hear, Tick}
-use Rattle.irig_timekeeper.proofs.VoteLaws.{frame_settled}
+use Rattle.irig_timekeeper.proofs.VoteLaws.{frame_settled, claim_of_even}
 use Rattle.irig_timekeeper.proofs.LifeLaws.{AreLinesAt, IsLineAt, line_soon, lines_after, line_same, own_pulses, others_pulses, no_pulse, has_risen, unheard}
-use Rattle.irig_timekeeper.proofs.WholeLaws.{whole_of, AreSorted, whole_here, not_whole, whole_apart, whole_by}
+use Rattle.irig_timekeeper.proofs.WholeLaws.{begin_here, whole_of, AreSorted, whole_here, not_whole, whole_apart, whole_by}
 use Rattle.irig_timekeeper.proofs.OrderLaws.{five, own_pulse, others_pulse}
 use Rattle.irig_timekeeper.specs.Edges.{IsQuartz}
-use Rattle.irig_timekeeper.specs.Exactness.{end_off_us}
+use Rattle.irig_timekeeper.specs.Exactness.{end_off_us, uneven_us}
 use Rattle.irig_timekeeper.specs.Announcing.{LeavesTheFirst, IsWhole}
 use Rattle.irig_timekeeper.proofs.LineLaws.{clock_of}
 
@@ -128,7 +130,19 @@ pub record EndsWhole (within d : ℕ) (edges : ℕ → ℕ) (m : ℕ) (pulses : 
   pub most : p.rise + 10000 ≤ edges m + end_off_us within d
   pub close_least : ends_at edges m ≤ p.rise + 10000 + (within - 1)
   pub close_most : p.rise + 10000 ≤ ends_at edges m + (within - 1)
+  pub begins_least : edges (m - 1) < rise_before 99 (p ∷ ps) + within
+  pub begins_most : rise_before 99 (p ∷ ps) < edges (m - 1) + within
   pub marker : is_marker p.width ≡ true
+
+-- each of its pulses rises at its time
+rise_in : (line : ℕ → Symbol) (edges : ℕ → ℕ) (within n j : ℕ) (frame rest : List Pulse) → n < length frame → ArePulsesBefore line edges within (suc (n + j)) frame → IsTimeOf edges within j (rise_before n (frame ++ rest))
+rise_in line edges within n j [] rest less are = absurd (omega (arith, less))
+rise_in line edges within zero j (p ∷ ps) rest less are =
+    let here : 0 + j ≡ j = omega arith in
+    subst (λ (k : ℕ). IsTimeOf edges within k p.rise) here are.0.0
+rise_in line edges within (suc n) j (p ∷ ps) rest less are =
+    let next : suc n + j ≡ suc (n + j) = omega arith in
+    rise_in line edges within n j ps rest (omega (arith, less)) (subst (λ (k : ℕ). ArePulsesBefore line edges within k ps) next are.1)
 
 pub ends_whole : (within : Within) (limits : Option Limits) (rules : Rules) (t : TimelineValue) (d : ℕ) (edges : ℕ → ℕ) (m : ℕ) (pulses : List Pulse) → IsQuartz d edges → (w : IsWhole within.us limits rules t edges m pulses) → EndsWhole within.us d edges m pulses
 ends_whole within limits rules t d edges m pulses quartz w = of w.frame w.parts w.hundred w.are
@@ -143,7 +157,14 @@ ends_whole within limits rules t d edges m pulses quartz w = of w.frame w.parts 
         let place : (100 * w.f + 99) % 100 ≡ 99 = omega arith in
         let last : element_at edges (100 * w.f + 99) ≡ edges w.f + second_long edges w.f * 99 / 100 = rw (frame, place) refl in
         let edge : edges m ≡ edges (w.f + 1) = ap edges w.here in
-        let ends : ends_at edges m ≡ edges w.f + second_long edges w.f * 99 / 100 + 10000 = (let before : m - 1 ≡ w.f = omega (arith, w.here) in rw before refl) in
+        let before : m - 1 ≡ w.f = omega (arith, w.here) in
+        let ends : ends_at edges m ≡ edges w.f + second_long edges w.f * 99 / 100 + 10000 = rw before refl in
+        let count : 100 * w.f + 100 ≡ suc (99 + 100 * w.f) = omega arith in
+        let first = rise_in w.line edges within.us 99 (100 * w.f) (p ∷ ps) w.earlier (omega (arith, hundred)) (subst (λ (k : ℕ). ArePulsesBefore w.line edges within.us k (p ∷ ps)) count are) in
+        let frame_0 : 100 * w.f / 100 ≡ w.f = omega arith in
+        let place_0 : 100 * w.f % 100 ≡ 0 = omega arith in
+        let begins : element_at edges (100 * w.f) ≡ edges w.f = rw (frame_0, place_0) (omega arith) in
+        let begin : edges (m - 1) ≡ edges w.f = ap edges before in
         record {
           p = p;
           ps = ps ++ w.earlier;
@@ -153,17 +174,36 @@ ends_whole within limits rules t d edges m pulses quartz w = of w.frame w.parts 
           most = omega (arith, edge, last, are'.0.0.1, quartz.steady.least w.f, within.some);
           close_least = omega (arith, ends, last, are'.0.0.0, within.some);
           close_most = omega (arith, ends, last, are'.0.0.1, within.some);
+          begins_least = omega (arith, begin, begins, first.0);
+          begins_most = omega (arith, begin, begins, first.1);
           marker = marker_of within d edges quartz w.line w.right w.f w.earlier w.first (100 * w.f + 99) p are'.0 ∙ ap is_marker_place place;
         }
 
 -- ---- it is kept
 
-pub in_time : (end now : ℕ) → end ≤ now + 10000 → now ≤ end + 100000 → is_late (end % 2 ^ 32) (now % 2 ^ 32) ≡ false
+-- what rose so is even
+both_so : (g u : ℕ) → 990000 ≤ g + u → g ≤ 990000 + u → (nat_le 990000 (g + u) && nat_le g (990000 + u)) ≡ true
+both_so g u least most = grind (arith, least, most)
+
+pub even_by : (c : ClockRules) (begin rise : ℕ) → c.drift_us ≤ 100 → begin + 990000 ≤ rise + uneven_us c.within.us c.drift_us → rise ≤ begin + 990000 + uneven_us c.within.us c.drift_us → is_even c (begin % 2 ^ 32) (rise % 2 ^ 32) ≡ true
+even_by c begin rise few least most =
+    let gap : clock_gap (begin % 2 ^ 32) (rise % 2 ^ 32) ≡ rise - begin = omega (arith, few, c.within.few, least, most) in
+    rw gap (both_so (rise - begin) (uneven_us c.within.us c.drift_us) (omega (arith, few, c.within.few, least)) (omega (arith, few, c.within.few, least, most)))
+
+-- a whole frame rose so
+even_whole : (within : Within) (d : ℕ) (edges : ℕ → ℕ) → IsQuartz d edges → (m begin rise : ℕ) → edges (m - 1) < begin + within.us → begin < edges (m - 1) + within.us → ends_at edges m ≤ rise + 10000 + (within.us - 1) → rise + 10000 ≤ ends_at edges m + (within.us - 1)
+    → (begin + 990000 ≤ rise + uneven_us within.us d) × (rise ≤ begin + 990000 + uneven_us within.us d)
+even_whole within d edges quartz m begin rise begun begins ended ends =
+    let long_least = quartz.steady.least (m - 1) in
+    let long_most = quartz.steady.most (m - 1) in
+    (omega (arith, begins, ended, long_least, long_most, within.some), omega (arith, begun, ends, long_least, long_most, within.some))
+
+pub in_time : (end now : ℕ) → end ≤ now + 14000 → now ≤ end + 100000 → is_late (end % 2 ^ 32) (now % 2 ^ 32) ≡ false
 in_time end now ahead soon =
-    let gap : (clock_gap (end % 2 ^ 32) (now % 2 ^ 32) + 10000) % 2 ^ 32 ≡ now + 10000 - end = omega (arith, ahead, soon) in
-    rw gap (few (now + 10000 - end) (omega (arith, ahead, soon)))
+    let gap : (clock_gap (end % 2 ^ 32) (now % 2 ^ 32) + 14000) % 2 ^ 32 ≡ now + 14000 - end = omega (arith, ahead, soon) in
+    rw gap (few (now + 14000 - end) (omega (arith, ahead, soon)))
   where
-    few : (g : ℕ) → g ≤ 110000 → nat_lt 110000 g ≡ false
+    few : (g : ℕ) → g ≤ 114000 → nat_lt 114000 g ≡ false
     few g h = grind (arith, h)
 
 end_told : (told : Told) (end : ℕ) (y : KeptClaim) → claim_told told end ≡ Some y → end ≡ y.end_us
@@ -175,7 +215,7 @@ end_told (tells.Poor q) end y e = absurd cc
 pub stays_kept : (clock : ℕ) (frame : Option KeptFrame) (y : KeptClaim) → claim_kept frame ≡ Some y → is_late y.end_us clock ≡ false → claim_kept (still_kept clock frame) ≡ Some y
 stays_kept clock None y e late = absurd cc
 stays_kept clock (Some x) y e late =
-    let same : is_late x.end_us clock ≡ false = ap (λ (end : ℕ). is_late end clock) (end_told x.told x.end_us y e) ∙ late in
+    let same : is_late x.end_us clock ≡ false = ap (λ (end : ℕ). is_late end clock) (end_told x.told x.end_us y (claim_of_even x y e).1) ∙ late in
     rw same e
 
 -- no tick of these calls, which came behind those, has a vote from this time on
@@ -192,11 +232,11 @@ settles k clock e = of (vote_at k clock) e
     either true x y lines p q = p
     either false x y lines p q = q
 
-    of : (o : Option Vote) → o ≡ None → (clock_by k.clock k.table (settled_at k.state clock) clock o).lines ≡ settled clock k.state.lines
+    of : (o : Option Vote) → o ≡ None → (clock_by k.clock k.table (settled_at k.clock k.state clock) clock o).lines ≡ settled clock k.state.lines
     of (Some x) e = absurd cc
     of None e = either (edges_own k.state.edge_us clock == 0) _ _ _ refl refl
 
-module _ (t : TimelineValue) (d : ℕ) (edges : ℕ → ℕ) (quartz : IsQuartz d edges) (new : Keeping) (start : ℕ) (begun : AreLinesAt new new (λ i. []) start start) (i : ℕ) (small : i < 5) (m : ℕ) (older : List Call) (told : ℕ) (risen : HaveRisen told older) (past : told + 11000 < edges m) where
+module _ (t : TimelineValue) (edges : ℕ → ℕ) (new : Keeping) (quartz : IsQuartz new.clock.drift_us edges) (start : ℕ) (begun : AreLinesAt new new (λ i. []) start start) (i : ℕ) (small : i < 5) (m : ℕ) (older : List Call) (told : ℕ) (risen : HaveRisen told older) (past : told + 11000 < edges m) where
   abbrev kept_claim : List Call → Option KeptClaim
   kept_claim calls = claim_kept (line_at (after_calls new calls).state.lines i).frame
 
@@ -206,15 +246,15 @@ module _ (t : TimelineValue) (d : ℕ) (edges : ℕ → ℕ) (quartz : IsQuartz 
     pub truth : IsTrueClaim t m claim
     pub end : ℕ
     pub keeps : kept_claim calls ≡ Some (record { claim = claim; end_us = end % 2 ^ 32 })
-    pub least : edges m ≤ end + end_off_us new.clock.within.us d
-    pub most : end ≤ edges m + end_off_us new.clock.within.us d
+    pub least : edges m ≤ end + end_off_us new.clock.within.us new.clock.drift_us
+    pub most : end ≤ edges m + end_off_us new.clock.within.us new.clock.drift_us
     pub close_least : ends_at edges m ≤ end + (new.clock.within.us - 1)
     pub close_most : end ≤ ends_at edges m + (new.clock.within.us - 1)
     pub is : end ≡ whole_of (pulses_on i calls)
 
-  -- by a tick to come it ends an element ahead at most
-  pub ended : (calls : List Call) (now : ℕ) → AreInOrder start new.clock.redundancy (Tick now ∷ calls) → whole_of (pulses_on i calls) ≤ now + 10000
-  ended calls now order = whole_by (pulses_on i calls) now ((lines_after new start begun calls now order).lines i small).sorted (order.2 i)
+  -- by a tick to come it ends an element and 4 ms ahead at most
+  pub ended : (calls : List Call) (now : ℕ) → AreInOrder start new.clock.redundancy (Tick now ∷ calls) → whole_of (pulses_on i calls) ≤ now + 14000
+  ended calls now order = let low = whole_by (pulses_on i calls) (now + 4000) ((lines_after new start begun calls now order).lines i small).sorted (order.2 i) in omega (arith, low)
 
   -- a pulse of another line, or none
   passes : (call : Call) (calls : List Call) → kept_claim (call ∷ calls) ≡ kept_claim calls → pulses_on i (call ∷ calls) ≡ pulses_on i calls → Keeps calls → Keeps (call ∷ calls)
@@ -232,7 +272,7 @@ module _ (t : TimelineValue) (d : ℕ) (edges : ℕ → ℕ) (quartz : IsQuartz 
 
   -- the hundredth
   module _ (port rise width : ℕ) (calls : List Call) (now : ℕ) (order : AreInOrder start new.clock.redundancy (Tick now ∷ (Hear port rise width ∷ calls))) (narrow : is_pulse width ≡ true) (same : (i == port) ≡ true)
-      (w : IsWhole new.clock.within.us new.limits new.rules t edges m (pulses_on i (Hear port rise width ∷ calls))) (ends : EndsWhole new.clock.within.us d edges m (pulses_on i (Hear port rise width ∷ calls))) where
+      (w : IsWhole new.clock.within.us new.limits new.rules t edges m (pulses_on i (Hear port rise width ∷ calls))) (ends : EndsWhole new.clock.within.us new.clock.drift_us edges m (pulses_on i (Hear port rise width ∷ calls))) where
     abbrev k : Keeping
     k = after_calls new calls
 
@@ -263,14 +303,14 @@ module _ (t : TimelineValue) (d : ℕ) (edges : ℕ → ℕ) (quartz : IsQuartz 
     all : AreLinesAt new k (λ i. pulses_on i calls) (last_tick start calls) now
     all = lines_after new start begun calls now (unheard start new.clock.redundancy port rise width now calls order)
 
-    l : IsLineAt k.rules (heard_by k.heard i) line pulses (last_tick start calls) now
+    l : IsLineAt k.clock k.rules (heard_by k.heard i) line pulses (last_tick start calls) now
     l = all.lines i small
 
     after : IsAfter pulses rise
     after = subst (λ (j : ℕ). IsAfter (pulses_on j calls) rise) (sym at) (order.3.1 narrow).0
 
     soon : IsSoon l.told rise
-    soon = line_soon rise l (has_risen port rise width now calls order.2 narrow) order.1 (after, (order.3.1 narrow).1)
+    soon = line_soon rise l (has_risen port rise width (now + 4000) calls order.2 narrow) order.1 (after, (order.3.1 narrow).1)
 
     place : place_of line.sync (rise % 2 ^ 32) width ≡ place_after (p ∷ pulses)
     place = place_at_time line.sync pulses l.told rise width l.hearing.sync after soon
@@ -297,15 +337,25 @@ module _ (t : TimelineValue) (d : ℕ) (edges : ℕ → ℕ) (quartz : IsQuartz 
         ∙ ap (λ (l : Option Limits). told_within l new.rules (heard_then k i (rise % 2 ^ 32) width)) all.same.limits
         ∙ ap (told_within new.limits new.rules) (heard ∙ ap (symbols_of_last 100) (sym on)) ∙ w.tells
 
-    own_line : line_at (after_pulse k port (rise % 2 ^ 32) width).state.lines i ≡ line_heard line (rise % 2 ^ 32) width (told_within k.limits k.rules (heard_then k i (rise % 2 ^ 32) width))
+    own_line : line_at (after_pulse k port (rise % 2 ^ 32) width).state.lines i ≡ line_heard k.clock line (rise % 2 ^ 32) width (told_within k.limits k.rules (heard_then k i (rise % 2 ^ 32) width))
     own_line =
-        subst (λ (j : ℕ). line_at (after_pulse k j (rise % 2 ^ 32) width).state.lines i ≡ line_heard line (rise % 2 ^ 32) width (told_within k.limits k.rules (heard_then k i (rise % 2 ^ 32) width))) at
+        subst (λ (j : ℕ). line_at (after_pulse k j (rise % 2 ^ 32) width).state.lines i ≡ line_heard k.clock line (rise % 2 ^ 32) width (told_within k.limits k.rules (heard_then k i (rise % 2 ^ 32) width))) at
         (rw narrow (line_same k.state.lines i _ small))
 
-    kept_then : (place rise : ℕ) (told : Told) (frame : Option KeptFrame) (claim : Claim) → place ≡ 100 → told ≡ tells.Claim claim → claim_kept (frame_behind place (rise % 2 ^ 32) told frame) ≡ Some (record { claim = claim; end_us = (rise + 10000) % 2 ^ 32 })
-    kept_then place rise told frame claim whole says =
+    -- it is even
+    even : is_even k.clock line.begin_us (rise % 2 ^ 32) ≡ true
+    even =
+        let begin : line.begin_us ≡ rise_before 99 (p ∷ pulses) % 2 ^ 32 = begin_here line.begin_us 98 p pulses l.begins hundred in
+        let same_begin : rise_before 99 (p ∷ pulses) ≡ rise_before 99 (ends.p ∷ ends.ps) = ap (rise_before 99) both in
+        let rises : rise ≡ ends.p.rise = ap (λ (q : Pulse). q.rise) head in
+        let rose = even_whole new.clock.within new.clock.drift_us edges quartz m (rise_before 99 (p ∷ pulses)) rise (omega (arith, same_begin, ends.begins_least)) (omega (arith, same_begin, ends.begins_most)) (omega (arith, rises, ends.close_least)) (omega (arith, rises, ends.close_most)) in
+        subst (λ (c : ClockRules). is_even c line.begin_us (rise % 2 ^ 32) ≡ true) (sym all.same.clock)
+        (ap (λ (b : ℕ). is_even new.clock b (rise % 2 ^ 32)) begin ∙ even_by new.clock (rise_before 99 (p ∷ pulses)) rise quartz.few rose.0 rose.1)
+
+    kept_then : (c : ClockRules) (begin place rise : ℕ) (told : Told) (frame : Option KeptFrame) (claim : Claim) → place ≡ 100 → told ≡ tells.Claim claim → is_even c begin (rise % 2 ^ 32) ≡ true → claim_kept (frame_behind c place begin (rise % 2 ^ 32) told frame) ≡ Some (record { claim = claim; end_us = (rise + 10000) % 2 ^ 32 })
+    kept_then c begin place rise told frame claim whole says even =
         let wrap : (rise % 2 ^ 32 + 10000) % 2 ^ 32 ≡ (rise + 10000) % 2 ^ 32 = omega arith in
-        rw (whole, says) (ap (λ (end : ℕ). Some (record { claim = claim; end_us = end })) wrap)
+        rw (whole, says, even) (ap (λ (end : ℕ). Some (record { claim = claim; end_us = end })) wrap)
 
     keeps_whole : Keeps (Hear port rise width ∷ calls)
     keeps_whole =
@@ -314,7 +364,7 @@ module _ (t : TimelineValue) (d : ℕ) (edges : ℕ → ℕ) (quartz : IsQuartz 
           claim = w.claim;
           truth = w.truth;
           end = rise + 10000;
-          keeps = ap (λ (x : Line). claim_kept x.frame) own_line ∙ kept_then (place_of line.sync (rise % 2 ^ 32) width) rise (told_within k.limits k.rules (heard_then k i (rise % 2 ^ 32) width)) line.frame w.claim (place ∙ hundred) tells_it;
+          keeps = ap (λ (x : Line). claim_kept x.frame) own_line ∙ kept_then k.clock line.begin_us (place_of line.sync (rise % 2 ^ 32) width) rise (told_within k.limits k.rules (heard_then k i (rise % 2 ^ 32) width)) line.frame w.claim (place ∙ hundred) tells_it even;
           least = omega (arith, rises, ends.least);
           most = omega (arith, rises, ends.most);
           close_least = omega (arith, rises, ends.close_least);
@@ -353,7 +403,7 @@ module _ (t : TimelineValue) (d : ℕ) (edges : ℕ → ℕ) (quartz : IsQuartz 
         let p : Pulse = pulse_at rise width in
         let l = (lines_after new start begun calls now (unheard start new.clock.redundancy port rise width now calls order)).lines i small in
         let after : IsAfter pulses rise = subst (λ (j : ℕ). IsAfter (pulses_on j calls) rise) (sym at) (order.3.1 narrow).0 in
-        let risen = has_risen port rise width now calls order.2 narrow in
+        let risen = has_risen port rise width (now + 4000) calls order.2 narrow in
         let soon : IsSoon l.told rise = line_soon rise l risen order.1 (after, (order.3.1 narrow).1) in
         let place : place_of (line_at (after_calls new calls).state.lines i).sync (rise % 2 ^ 32) width ≡ place_after (p ∷ pulses) = place_at_time (line_at (after_calls new calls).state.lines i).sync pulses l.told rise width l.hearing.sync after soon in
         let inside : ¬ (place_after (p ∷ pulses) ≡ 100) = λ ends. (let far = whole_apart p pulses (after, l.sorted) ends in absurd (omega (arith, far, k.is, k.least, risen, upto, quartz.few, new.clock.within.few))) in
@@ -384,10 +434,10 @@ module _ (t : TimelineValue) (d : ℕ) (edges : ℕ → ℕ) (quartz : IsQuartz 
   -- what was told before rose too early to be its last
   pub not_before : (late : ℕ) (ps : List Pulse) → AreSorted ps → IsAfter ps told → ¬ Whole late ps
   not_before zero ps sorted after w =
-      let ends = ends_whole new.clock.within new.limits new.rules t d edges m ps quartz w in
+      let ends = ends_whole new.clock.within new.limits new.rules t new.clock.drift_us edges m ps quartz w in
       absurd (let rose = subst (λ (x : List Pulse). IsAfter x told) ends.are after in omega (arith, rose, ends.least, past, quartz.few, new.clock.within.few))
   not_before (suc late) [] sorted after w =
-      let ends = ends_whole new.clock.within new.limits new.rules t d edges m [] quartz w in
+      let ends = ends_whole new.clock.within new.limits new.rules t new.clock.drift_us edges m [] quartz w in
       absurd (let none = ends.are in cc)
   not_before (suc late) (p ∷ ps) sorted after w = not_before late ps sorted.1 (earlier ps p.rise sorted.0 after) w
     where
@@ -395,7 +445,7 @@ module _ (t : TimelineValue) (d : ℕ) (edges : ℕ → ℕ) (quartz : IsQuartz 
       earlier [] rise after on = tt
       earlier (q ∷ qs) rise after on = omega (arith, after, on)
 
-  pub whole_kept : (later : List Call) (now : ℕ) → AreInOrder start new.clock.redundancy (Tick now ∷ (later ++ older)) → HaveNoVotes new (edges m - 11000) later older → now ≤ edges m + 98000 → (late : ℕ) → Whole late (pulses_on i (later ++ older)) → Keeps (later ++ older)
+  pub whole_kept : (later : List Call) (now : ℕ) → AreInOrder start new.clock.redundancy (Tick now ∷ (later ++ older)) → HaveNoVotes new (edges m - 15000) later older → now ≤ edges m + 98000 → (late : ℕ) → Whole late (pulses_on i (later ++ older)) → Keeps (later ++ older)
   whole_kept [] now order none upto late w = absurd (not_before late (pulses_on i older) ((lines_after new start begun older now order).lines i small).sorted (risen i) w)
   whole_kept (Tick time ∷ later) now order none upto late w =
       let before = whole_kept later time order.3 none.1 (omega (arith, order.0, upto)) late w in
@@ -417,7 +467,7 @@ module _ (t : TimelineValue) (d : ℕ) (edges : ℕ → ℕ) (quartz : IsQuartz 
   ]
     where
       by : is_pulse width ≡ true → (i == port) ≡ true → (late : ℕ) → Whole late (pulses_on i (Hear port rise width ∷ (later ++ older))) → ((late : ℕ) → Whole late (pulses_on i (later ++ older)) → Keeps (later ++ older)) → Keeps (Hear port rise width ∷ (later ++ older))
-      by narrow same zero w kept = keeps_whole port rise width (later ++ older) now order narrow same w (ends_whole new.clock.within new.limits new.rules t d edges m _ quartz w)
+      by narrow same zero w kept = keeps_whole port rise width (later ++ older) now order narrow same w (ends_whole new.clock.within new.limits new.rules t new.clock.drift_us edges m _ quartz w)
       by narrow same (suc late) w kept =
           let on = own_pulses i port rise width (later ++ older) narrow same in
           let before = kept late (subst (λ (ps : List Pulse). Whole (suc late) ps) on w) in

@@ -51,16 +51,16 @@ use Rattle.irig_timekeeper.proofs.LifeLaws.{IsSameSetup, AreLinesAt, IsEndAt, li
 IsMarked : KeptClaim → Type 0
 IsMarked y = IsMarkedLate y.claim
 
-kept_marked : (EndsSo : ℕ → Type 0) (rules : Rules) (kept : Option KeptClaim) (pulses : List Pulse) (y : KeptClaim) → IfKept EndsSo rules kept pulses → kept ≡ Some y → IsMarked y
+kept_marked : (EndsSo : ℕ → Type 0) (within d : ℕ) (rules : Rules) (kept : Option KeptClaim) (pulses : List Pulse) (y : KeptClaim) → IfKept EndsSo within d rules kept pulses → kept ≡ Some y → IsMarked y
 unfolding IsMarked
-kept_marked EndsSo rules None pulses y h e = absurd cc
-kept_marked EndsSo rules (Some x) pulses y h e =
+kept_marked EndsSo within d rules None pulses y h e = absurd cc
+kept_marked EndsSo within d rules (Some x) pulses y h e =
     let same : x ≡ y = cc in
     subst (λ (v : KeptClaim). IsMarkedLate v.claim) same (claim_marked _ _ _ x.claim h.2.carries.claims)
 
-module _ (EndsSo : List Pulse → ℕ → Type 0) (rules : Rules) (lines : Lines) (pulses : ℕ → List Pulse) (kept : (i : ℕ) → i < 5 → IfKept (EndsSo (pulses i)) rules (claim_kept (line_at lines i).frame) (pulses i)) where
+module _ (c : ClockRules) (EndsSo : List Pulse → ℕ → Type 0) (rules : Rules) (lines : Lines) (pulses : ℕ → List Pulse) (kept : (i : ℕ) → i < 5 → IfKept (EndsSo (pulses i)) c.within.us c.drift_us rules (claim_kept (line_at lines i).frame) (pulses i)) where
   marked_at : (clock i : ℕ) → i < 5 → (y : KeptClaim) → claim_kept (still_kept clock (line_at lines i).frame) ≡ Some y → IsMarked y
-  marked_at clock i low y e = kept_marked (EndsSo (pulses i)) rules (claim_kept (line_at lines i).frame) (pulses i) y (kept i low) (still clock (line_at lines i).frame y e).0
+  marked_at clock i low y e = kept_marked (EndsSo (pulses i)) c.within.us c.drift_us rules (claim_kept (line_at lines i).frame) (pulses i) y (kept i low) (still clock (line_at lines i).frame y e).0
 
   each_marked : (clock : ℕ) → EachKept IsMarked (all_kept (settled clock lines))
   each_marked clock =
@@ -70,9 +70,9 @@ module _ (EndsSo : List Pulse → ℕ → Type 0) (rules : Rules) (lines : Lines
       (one_more IsMarked _ _ (marked_at clock 3 (omega arith))
       (one_more IsMarked _ _ (marked_at clock 4 (omega arith)) tt))))
 
-  vote_marked : (c : ClockRules) (clock : ℕ) (v : Vote) → if_come clock (agreed c (settled clock lines)) ≡ Some v → IsMarkedLate v.claim
+  vote_marked : (clock : ℕ) (v : Vote) → if_come clock (agreed c (settled clock lines)) ≡ Some v → IsMarkedLate v.claim
   unfolding IsMarked
-  vote_marked c clock v e =
+  vote_marked clock v e =
       let all = all_kept (settled clock lines) in
       let first = agreed_first c (settled clock lines) v (come clock (agreed c (settled clock lines)) v e).0 in
       let claims = ap (λ (x : Vote). x.claim) first.2 in
@@ -99,9 +99,9 @@ module _ (c : ClockRules) (table : TableValue) (s : ClockState) (late : IfHold s
 late_ticked : (k : Keeping) (clock : ℕ) → IfHold k.state.reader HasHeardLate → ((v : Vote) → vote_at k clock ≡ Some v → IsMarkedLate v.claim) → IfHold (after_tick k clock).state.reader HasHeardLate
 late_ticked k clock late marked = of (vote_at k clock) refl
   where
-    of : (v : Option Vote) → vote_at k clock ≡ v → IfHold (clock_by k.clock k.table (settled_at k.state clock) clock v).reader HasHeardLate
-    of None e = late_own k.clock k.table (settled_at k.state clock) late (edges_own k.state.edge_us clock)
-    of (Some v) e = late_voted k.clock k.table (settled_at k.state clock) late v (edges_to_vote k.state.edge_us v.edge_us) (marked v e)
+    of : (v : Option Vote) → vote_at k clock ≡ v → IfHold (clock_by k.clock k.table (settled_at k.clock k.state clock) clock v).reader HasHeardLate
+    of None e = late_own k.clock k.table (settled_at k.clock k.state clock) late (edges_own k.state.edge_us clock)
+    of (Some v) e = late_voted k.clock k.table (settled_at k.clock k.state clock) late v (edges_to_vote k.state.edge_us v.edge_us) (marked v e)
 
 module _ (new : Keeping) (start : ℕ) (begins : AreLinesAt new new (λ i. []) start start) where
   pub late_life : IfHold new.state.reader HasHeardLate → (calls : List Call) → AreInOrder start new.clock.redundancy calls → IfHold (after_calls new calls).state.reader HasHeardLate
@@ -113,7 +113,7 @@ module _ (new : Keeping) (start : ℕ) (begins : AreLinesAt new new (λ i. []) s
       let l = lines_after new start begins calls now order in
       let k = after_calls new calls in
       late_ticked k (now % 2 ^ 32) (late_life late calls order.3)
-      (λ v e. vote_marked (λ ps. IsEndAt ps (last_tick start calls) now) k.rules k.state.lines (λ i. pulses_on i calls) (λ i low. (l.lines i low).kept) k.clock (now % 2 ^ 32) v e)
+      (λ v e. vote_marked k.clock (λ ps. IsEndAt ps (last_tick start calls) now) k.rules k.state.lines (λ i. pulses_on i calls) (λ i low. (l.lines i low).kept) (now % 2 ^ 32) v e)
 
 -- ---- a true vote that counts an edge
 
@@ -188,7 +188,7 @@ module _ (t : TimelineValue) (edges : ℕ → ℕ) (early late : ℕ) (k : Keepi
   heals_here heard vote voted answer is = of (vote_at k (now % 2 ^ 32)) voted answer
     where
       s : ClockState
-      s = settled_at k.state (now % 2 ^ 32)
+      s = settled_at k.clock k.state (now % 2 ^ 32)
 
       of : (o : Option Vote) → o ≡ Some v → answer_by k.clock k.table s (now % 2 ^ 32) o ≡ Some b
           → Mends t k.clock.drift_us edges early late k.clock.reader_rules k.table now (clock_by k.clock k.table s (now % 2 ^ 32) o) b

@@ -54,7 +54,7 @@ serves_by : (k : Keeping) (clock : ℕ) (v : Vote) (b : Beat) (a : Announced) �
 serves_by k clock v b a voted = of (vote_at k clock) voted
   where
     s : ClockState
-    s = settled_at k.state clock
+    s = settled_at k.clock k.state clock
 
     of : (o : Option Vote) → o ≡ Some v → answer_by k.clock k.table s clock o ≡ Some b → (clock_by k.clock k.table s clock o).before ≡ Some a → (u : UtcSecond) × (b.report.announce ≡ Some u)
     of None e answer kept = absurd cc

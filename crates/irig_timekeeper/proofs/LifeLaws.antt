@@ -1,9 +1,10 @@
 -- The life of a device.
 use Rattle.std.specs.Prelude.{◌==◌, ◌&&◌}
 use Rattle.std.proofs.Common.{◌≡◌, ◌∙◌, ◌⊎◌, ℕ, zero, suc, ◌+◌, ◌%◌, ◌^◌, ◌<◌, ◌≤◌, Bool, true, false, cond, List, [], ◌∷◌, ◌++◌, length, Option, Some, None, refl, sym, ap, subst, arith, inl, inr, append-nil}
-use Rattle.std.proofs.lemmas.Bool.{cases_Bool, eqb-true, eqb-false, eq-eqb, ne_eqb}
+use Rattle.std.proofs.lemmas.Bool.{cases_Bool, cases_lt, eqb-true, eqb-false, eq-eqb, ne_eqb}
 use Rattle.irig_frame.specs.declared.symbol.Symbol.{Symbol}
-use Rattle.irig_sync.specs.Sync.{place_of}
+use Rattle.irig_sync.specs.declared.sync.Sync.{Sync}
+use Rattle.irig_sync.specs.Sync.{clock_gap, place_of, is_idle, idle_of}
 use Rattle.irig_sync.specs.Lines.{Pulse, pulse_at, place_after, IsAfter, IsSoon}
 use Rattle.irig_sync.proofs.LineLaws.{place_at_time}
 use Rattle.irig_time.specs.declared.second.UtcSecond.{UtcSecond}
@@ -26,7 +27,7 @@ use Rattle.irig_timekeeper.specs.declared.lines.Vote.{Vote}
 use Rattle.irig_timekeeper.specs.declared.clock.Beat.{Beat}
 use Rattle.irig_timekeeper.specs.declared.setup.ClockRules.{ClockRules}
 use Rattle.irig_timekeeper.specs.declared.clock.ClockState.{ClockState}
-use Rattle.irig_timekeeper.specs.Lines.{IfKept, IsInTurnOf}
+use Rattle.irig_timekeeper.specs.Lines.{KnowsBegin, IfKept, IsInTurnOf}
 use Rattle.irig_timekeeper.specs.Counting.{is_late, edges_to_vote, edges_own}
 use Rattle.irig_timekeeper.specs.Steps.{is_pulse, line_at, with_line, line_heard, still_kept, claim_kept, line_settled, settled, line_taken, taken, IsNewLine, AreNewLines}
 use Rattle.irig_timekeeper.specs.Clock.{clock_by, settled_at}
@@ -35,39 +36,61 @@ use Rattle.irig_timekeeper.specs.Truth.{AreHeardTruly, IsOnTrack, IsToldInHoldov
 use Rattle.irig_timekeeper.specs.Life.{Call, after_calls, pulses_on, last_tick, HaveRisen, AreInOrder, AreTrueLately, AreTrueAtTicks, AreTrueOver}
 use Rattle.irig_timekeeper.specs.Life.Call.{Hear, Tick}
 use Rattle.irig_timekeeper.proofs.LineLaws.{kept_more}
-use Rattle.irig_timekeeper.proofs.WholeLaws.{whole_of, AreSorted, whole_here, not_whole}
+use Rattle.irig_timekeeper.proofs.WholeLaws.{whole_of, AreSorted, whole_here, not_whole, begin_more, even_here}
 use Rattle.irig_timekeeper.proofs.VoteLaws.{TellsTruly, still, not_late}
 use Rattle.irig_timekeeper.proofs.BoundLaws.{answer_bound}
 use Rattle.irig_timekeeper.proofs.TrackLaws.{KeepsTrue, tick_true}
 
 -- ---- one line
 
--- the end lies at most 10 ms behind the next tick, and half a second before the last one; it is that
+-- the end lies at most 14 ms behind the next tick, and half a second before the last one; it is that
 -- of the last whole frame
 abbrev pub IsEndAt : List Pulse → ℕ → ℕ → ℕ → Type 0
-IsEndAt pulses tick now end = (end ≤ now + 10000) × (tick ≤ end + 500000) × (end ≡ whole_of pulses)
+IsEndAt pulses tick now end = (end ≤ now + 14000) × (tick ≤ end + 500000) × (end ≡ whole_of pulses)
 
 -- a line heard these pulses, by the time of a tick to come; its synchroniser was told last of a time
 -- since the last tick, but for half a second: of that tick, or of the last pulse. Nobody emptied its
--- port
-pub record IsLineAt (rules : Rules) (heard : List Symbol) (line : Line) (pulses : List Pulse) (tick now : ℕ) : Type 0 where
+-- port. In a frame it knows when the first pulse rose
+pub record IsLineAt (c : ClockRules) (rules : Rules) (heard : List Symbol) (line : Line) (pulses : List Pulse) (tick now : ℕ) : Type 0 where
   pub told : ℕ
   pub hearing : IsHearing heard line.sync pulses told
   pub all : heard ≡ heard_of_last (length pulses) pulses
   pub sorted : AreSorted pulses
-  pub kept : IfKept (IsEndAt pulses tick now) rules (claim_kept line.frame) pulses
-  pub past : told ≤ now
+  pub begins : KnowsBegin line.begin_us pulses
+  pub kept : IfKept (IsEndAt pulses tick now) c.within.us c.drift_us rules (claim_kept line.frame) pulses
+  pub past : told ≤ now + 4000
   pub near : tick ≤ told + 500000
   pub last : (more time : ℕ) → tick ≤ time + more → IsAfter pulses time → told ≤ time + more
 
 -- so a pulse that comes in order comes in the turn of the clock
-pub line_soon : {rules : Rules} {heard : List Symbol} {line : Line} {pulses : List Pulse} {tick now : ℕ} (rise : ℕ) → (l : IsLineAt rules heard line pulses tick now) → rise ≤ now → now + 500000 < tick + 1800000000 → IsAfter pulses rise × (tick ≤ rise + 500000) → IsSoon l.told rise
+pub line_soon : {c : ClockRules} {rules : Rules} {heard : List Symbol} {line : Line} {pulses : List Pulse} {tick now : ℕ} (rise : ℕ) → (l : IsLineAt c rules heard line pulses tick now) → rise ≤ now + 4000 → now + 504000 < tick + 1800000000 → IsAfter pulses rise × (tick ≤ rise + 500000) → IsSoon l.told rise
 line_soon rise l risen half told = (l.last 500000 rise told.1 told.0, omega (arith, l.near, half, risen))
 
-module _ (rules : Rules) where
-  line_hears : (limits : Option Limits) (heard : List Symbol) (line : Line) (pulses : List Pulse) (tick now rise width : ℕ) → IsLineAt rules heard line pulses tick now
-      → rise ≤ now → now + 500000 < tick + 1800000000 → IsAfter pulses rise × (tick ≤ rise + 500000)
-      → IsLineAt rules (heard_at (place_of line.sync (rise % 2 ^ 32) width) heard width) (line_heard line (rise % 2 ^ 32) width (told_within limits rules (heard_at (place_of line.sync (rise % 2 ^ 32) width) heard width))) (pulse_at rise width ∷ pulses) tick now
+-- at a tick that comes before the rise of its last pulse a line is not idle
+still_live : (heard : List Symbol) (s : Sync) (pulses : List Pulse) (told now : ℕ) → IsHearing heard s pulses told → now < told → told ≤ now + 4000 → ((time : ℕ) → now ≤ time → IsAfter pulses time → told ≤ time) → IsHearing heard (idle_of s (now % 2 ^ 32)) pulses told
+still_live heard s [] told now h ahead near last = absurd (let upto = last now (omega arith) tt in omega (arith, upto, ahead))
+still_live heard s (p ∷ ps) told now h ahead near last = elim (cases_lt now p.rise) [
+  | inr risen ↦ absurd (let upto = last now (omega arith) risen in omega (arith, upto, ahead))
+  | inl before ↦
+      let upto = last p.rise (omega (arith, before)) (omega arith) in
+      elim h.sync [
+        | inr out ↦ absurd (omega (arith, out.1, upto))
+        | inl live ↦
+            let gap : 2 ^ 31 ≤ clock_gap s.rise_us (now % 2 ^ 32) = far s.rise_us p.rise live.0.last.0 before (omega (arith, live.1.0, near)) in
+            rw (not_idle (clock_gap s.rise_us (now % 2 ^ 32)) gap) h
+      ]
+]
+  where
+    far : (r rise : ℕ) → r ≡ rise % 2 ^ 32 → now < rise → rise ≤ now + 4000 → 2 ^ 31 ≤ clock_gap r (now % 2 ^ 32)
+    far r rise clock before near = omega (arith, clock, before, near)
+
+    not_idle : (g : ℕ) → 2 ^ 31 ≤ g → is_idle g ≡ false
+    not_idle g h = grind (arith, h)
+
+module _ (c : ClockRules) (rules : Rules) where
+  line_hears : (limits : Option Limits) (heard : List Symbol) (line : Line) (pulses : List Pulse) (tick now rise width : ℕ) → IsLineAt c rules heard line pulses tick now
+      → rise ≤ now + 4000 → now + 504000 < tick + 1800000000 → IsAfter pulses rise × (tick ≤ rise + 500000)
+      → IsLineAt c rules (heard_at (place_of line.sync (rise % 2 ^ 32) width) heard width) (line_heard c line (rise % 2 ^ 32) width (told_within limits rules (heard_at (place_of line.sync (rise % 2 ^ 32) width) heard width))) (pulse_at rise width ∷ pulses) tick now
   line_hears limits heard line pulses tick now rise width l risen half in_order =
       let soon : IsSoon l.told rise = line_soon rise l risen half in_order in
       let hearing = hears heard line.sync _ pulses l.told rise _ width _ refl refl l.hearing refl in_order.0 soon in
@@ -78,74 +101,91 @@ module _ (rules : Rules) where
         hearing = hearing;
         all = ap (λ (s : List Symbol). heard_at (place_of line.sync (rise % 2 ^ 32) width) s width) l.all ∙ ap (λ (n : ℕ). heard_at n (heard_of_last (length pulses) pulses) width) place;
         sorted = (in_order.0, l.sorted);
-        kept = kept_more (IsEndAt pulses tick now) (IsEndAt (p ∷ pulses) tick now) _
+        begins = begin_more line.begin_us _ p pulses l.begins place;
+        kept = kept_more (IsEndAt pulses tick now) (IsEndAt (p ∷ pulses) tick now) c line.begin_us _
             (λ inside end e. (e.0, e.1, e.2 ∙ sym (not_whole p pulses (λ at. inside (place ∙ at)))))
             limits rules line.frame _ rise width pulses hearing.run l.kept
+            (λ at even. even_here c line.begin_us p pulses l.begins (sym place ∙ at) even)
             (λ at. (omega (arith, risen), omega (arith, in_order.1), sym (whole_here p pulses (sym place ∙ at))));
         past = risen;
         near = in_order.1;
         last = λ more time late after. omega (arith, after);
       }
 
-  line_waits : (heard : List Symbol) (line : Line) (pulses : List Pulse) (tick now time : ℕ) → IsLineAt rules heard line pulses tick now → now ≤ time → IsLineAt rules heard line pulses tick time
+  line_waits : (heard : List Symbol) (line : Line) (pulses : List Pulse) (tick now time : ℕ) → IsLineAt c rules heard line pulses tick now → now ≤ time → IsLineAt c rules heard line pulses tick time
   line_waits heard line pulses tick now time l on = record {
     told = l.told;
     hearing = l.hearing;
     all = l.all;
     sorted = l.sorted;
+    begins = l.begins;
     kept = eased (IsEndAt pulses tick now) (IsEndAt pulses tick time) (λ end e. (omega (arith, e.0, on), e.1, e.2)) (claim_kept line.frame) pulses l.kept;
     past = omega (arith, l.past, on);
     near = l.near;
     last = l.last;
   }
     where
-      eased : (EndsSo Ends : ℕ → Type 0) → ((end : ℕ) → EndsSo end → Ends end) → (kept : Option KeptClaim) (pulses : List Pulse) → IfKept EndsSo rules kept pulses → IfKept Ends rules kept pulses
+      eased : (EndsSo Ends : ℕ → Type 0) → ((end : ℕ) → EndsSo end → Ends end) → (kept : Option KeptClaim) (pulses : List Pulse) → IfKept EndsSo c.within.us c.drift_us rules kept pulses → IfKept Ends c.within.us c.drift_us rules kept pulses
       eased EndsSo Ends more None pulses h = tt
       eased EndsSo Ends more (Some kept) pulses h = (h.0, h.1, h.2, more h.0 h.3)
 
   -- at a tick
-  still_in_turn : (kept : Option KeptClaim) (pulses : List Pulse) (tick now : ℕ) → now + 500000 < tick + 1800000000 → IfKept (IsEndAt pulses tick now) rules kept pulses → IfKept (IsInTurnOf now) rules kept pulses
+  still_in_turn : (kept : Option KeptClaim) (pulses : List Pulse) (tick now : ℕ) → now + 504000 < tick + 1800000000 → IfKept (IsEndAt pulses tick now) c.within.us c.drift_us rules kept pulses → IfKept (IsInTurnOf now) c.within.us c.drift_us rules kept pulses
   still_in_turn None pulses tick now half h = tt
   still_in_turn (Some kept) pulses tick now half h = (h.0, h.1, h.2, (h.3.0, omega (arith, h.3.1, half)))
 
-  still_there : (frame : Option KeptFrame) (pulses : List Pulse) (tick now : ℕ) → now + 500000 < tick + 1800000000 → IfKept (IsEndAt pulses tick now) rules (claim_kept frame) pulses
-      → IfKept (IsEndAt pulses now now) rules (claim_kept (still_kept (now % 2 ^ 32) frame)) pulses
+  still_there : (frame : Option KeptFrame) (pulses : List Pulse) (tick now : ℕ) → now + 504000 < tick + 1800000000 → IfKept (IsEndAt pulses tick now) c.within.us c.drift_us rules (claim_kept frame) pulses
+      → IfKept (IsEndAt pulses now now) c.within.us c.drift_us rules (claim_kept (still_kept (now % 2 ^ 32) frame)) pulses
   still_there frame pulses tick now half h = by (claim_kept (still_kept (now % 2 ^ 32) frame)) refl
     where
-      by : (o : Option KeptClaim) → claim_kept (still_kept (now % 2 ^ 32) frame) ≡ o → IfKept (IsEndAt pulses now now) rules o pulses
+      by : (o : Option KeptClaim) → claim_kept (still_kept (now % 2 ^ 32) frame) ≡ o → IfKept (IsEndAt pulses now now) c.within.us c.drift_us rules o pulses
       by None e = tt
       by (Some kept) e =
           let was = still (now % 2 ^ 32) frame kept e in
-          let h' = subst (λ (o : Option KeptClaim). IfKept (IsEndAt pulses tick now) rules o pulses) was.0 h in
+          let h' = subst (λ (o : Option KeptClaim). IfKept (IsEndAt pulses tick now) c.within.us c.drift_us rules o pulses) was.0 h in
           let soon = not_late h'.0 now h'.3.0 (omega (arith, h'.3.1, half)) (subst (λ (e : ℕ). is_late e (now % 2 ^ 32) ≡ false) h'.1 was.1) in
           (h'.0, h'.1, h'.2, (h'.3.0, omega (arith, soon), h'.3.2))
 
-  line_ticks : (heard : List Symbol) (line : Line) (pulses : List Pulse) (tick now : ℕ) → IsLineAt rules heard line pulses tick now → now + 500000 < tick + 1800000000
-      → IsLineAt rules heard (line_settled (now % 2 ^ 32) line) pulses now now
-  line_ticks heard line pulses tick now l half =
-      let soon : IsSoon l.told now = (omega (arith, l.past), omega (arith, l.near, half)) in
-      record {
-        told = now;
-        hearing = idle_hears heard line.sync pulses l.told now l.hearing l.past soon;
-        all = l.all;
-        sorted = l.sorted;
-        kept = still_there line.frame pulses tick now half l.kept;
-        past = omega arith;
-        near = omega arith;
-        last = λ more time upto after. upto;
-      }
+  line_ticks : (heard : List Symbol) (line : Line) (pulses : List Pulse) (tick now : ℕ) → IsLineAt c rules heard line pulses tick now → tick ≤ now → now + 504000 < tick + 1800000000
+      → IsLineAt c rules heard (line_settled (now % 2 ^ 32) line) pulses now now
+  line_ticks heard line pulses tick now l order half = elim (cases_lt now l.told) [
+    | inl ahead ↦ record {
+      told = l.told;
+      hearing = still_live heard line.sync pulses l.told now l.hearing ahead l.past (λ time late after. (let last = l.last 0 time (omega (arith, order, late)) after in omega (arith, last)));
+      all = l.all;
+      sorted = l.sorted;
+      begins = l.begins;
+      kept = still_there line.frame pulses tick now half l.kept;
+      past = l.past;
+      near = omega (arith, ahead);
+      last = λ more time upto after. l.last more time (omega (arith, order, upto)) after;
+    }
+    | inr past ↦
+        let soon : IsSoon l.told now = (omega (arith, past), omega (arith, l.near, half)) in
+        record {
+          told = now;
+          hearing = idle_hears heard line.sync pulses l.told now l.hearing past soon;
+          all = l.all;
+          sorted = l.sorted;
+          begins = l.begins;
+          kept = still_there line.frame pulses tick now half l.kept;
+          past = omega arith;
+          near = omega arith;
+          last = λ more time upto after. upto;
+        }
+  ]
 
-  line_gives : (heard : List Symbol) (line : Line) (pulses : List Pulse) (time : ℕ) → IsLineAt rules heard line pulses time time → IsLineAt rules heard (line_taken line) pulses time time
-  line_gives heard line pulses time l = record { told = l.told; hearing = l.hearing; all = l.all; sorted = l.sorted; kept = tt; past = l.past; near = l.near; last = l.last }
+  line_gives : (heard : List Symbol) (line : Line) (pulses : List Pulse) (time : ℕ) → IsLineAt c rules heard line pulses time time → IsLineAt c rules heard (line_taken line) pulses time time
+  line_gives heard line pulses time l = record { told = l.told; hearing = l.hearing; all = l.all; sorted = l.sorted; begins = l.begins; kept = tt; past = l.past; near = l.near; last = l.last }
 
 -- the same line by other words
-moved : (rules rules' : Rules) (heard heard' : List Symbol) (line line' : Line) (pulses pulses' : List Pulse) (tick now : ℕ) → rules ≡ rules' → heard ≡ heard' → line ≡ line' → pulses ≡ pulses'
-    → IsLineAt rules heard line pulses tick now → IsLineAt rules' heard' line' pulses' tick now
-moved rules rules' heard heard' line line' pulses pulses' tick now r h l p is =
-    subst (λ (x : Rules). IsLineAt x heard' line' pulses' tick now) r
-    (subst (λ (x : List Symbol). IsLineAt rules x line' pulses' tick now) h
-    (subst (λ (x : Line). IsLineAt rules heard x pulses' tick now) l
-    (subst (λ (x : List Pulse). IsLineAt rules heard line x tick now) p is)))
+moved : (c : ClockRules) (rules rules' : Rules) (heard heard' : List Symbol) (line line' : Line) (pulses pulses' : List Pulse) (tick now : ℕ) → rules ≡ rules' → heard ≡ heard' → line ≡ line' → pulses ≡ pulses'
+    → IsLineAt c rules heard line pulses tick now → IsLineAt c rules' heard' line' pulses' tick now
+moved c rules rules' heard heard' line line' pulses pulses' tick now r h l p is =
+    subst (λ (x : Rules). IsLineAt c x heard' line' pulses' tick now) r
+    (subst (λ (x : List Symbol). IsLineAt c rules x line' pulses' tick now) h
+    (subst (λ (x : Line). IsLineAt c rules heard x pulses' tick now) l
+    (subst (λ (x : List Pulse). IsLineAt c rules heard line x tick now) p is)))
 
 -- ---- five lines
 
@@ -219,7 +259,7 @@ either_ticked old clock false x y p q = q
 pub ticked : (k : Keeping) (clock : ℕ) → IsTicked k.state (after_tick k clock).state clock
 ticked k clock = of (vote_at k clock)
   where
-    of : (v : Option Vote) → IsTicked k.state (clock_by k.clock k.table (settled_at k.state clock) clock v) clock
+    of : (v : Option Vote) → IsTicked k.state (clock_by k.clock k.table (settled_at k.clock k.state clock) clock v) clock
     of None = either_ticked k.state clock (edges_own k.state.edge_us clock == 0) _ _ (inl refl) (inl refl)
     of (Some v) = either_ticked k.state clock (edges_to_vote k.state.edge_us v.edge_us == 0) _ _ (inr refl) (inr refl)
 
@@ -234,7 +274,7 @@ pub record IsSameSetup (old new : Keeping) : Type 0 where
 -- after calls, of which the last tick was of this time, by the time of a tick to come
 pub record AreLinesAt (new k : Keeping) (pulses : ℕ → List Pulse) (tick now : ℕ) : Type 0 where
   pub same : IsSameSetup new k
-  pub lines : (i : ℕ) → i < 5 → IsLineAt k.rules (heard_by k.heard i) (line_at k.state.lines i) (pulses i) tick now
+  pub lines : (i : ℕ) → i < 5 → IsLineAt k.clock k.rules (heard_by k.heard i) (line_at k.state.lines i) (pulses i) tick now
 
 pub and_false : (a b : Bool) → b ≡ false → (a && b) ≡ false
 and_false true b e = e
@@ -243,7 +283,7 @@ and_false false b e = refl
 lines_wait : (new k : Keeping) (pulses : ℕ → List Pulse) (tick now time : ℕ) → AreLinesAt new k pulses tick now → now ≤ time → AreLinesAt new k pulses tick time
 lines_wait new k pulses tick now time l on = record {
   same = l.same;
-  lines = λ i low. line_waits k.rules (heard_by k.heard i) (line_at k.state.lines i) (pulses i) tick now time (l.lines i low) on;
+  lines = λ i low. line_waits k.clock k.rules (heard_by k.heard i) (line_at k.state.lines i) (pulses i) tick now time (l.lines i low) on;
 }
 
 module _ (new k : Keeping) (calls : List Call) (tick now port rise width : ℕ) (l : AreLinesAt new k (λ i. pulses_on i calls) tick now) where
@@ -255,15 +295,15 @@ module _ (new k : Keeping) (calls : List Call) (tick now port rise width : ℕ) 
         same = l.same;
         lines = λ i low.
             let none : pulses_on i calls ≡ pulses_on i (Hear port rise width ∷ calls) = rw (and_false (i == port) (is_pulse width) wide) refl in
-            moved k.rules k.rules _ _ _ _ _ _ tick now refl refl refl none (l.lines i low);
+            moved k.clock k.rules k.rules _ _ _ _ _ _ tick now refl refl refl none (l.lines i low);
       })
 
-  module _ (low : port < 5) (risen : rise ≤ now) (half : now + 500000 < tick + 1800000000) (narrow : is_pulse width ≡ true) (in_order : IsAfter (pulses_on port calls) rise × (tick ≤ rise + 500000)) where
+  module _ (low : port < 5) (risen : rise ≤ now + 4000) (half : now + 504000 < tick + 1800000000) (narrow : is_pulse width ≡ true) (in_order : IsAfter (pulses_on port calls) rise × (tick ≤ rise + 500000)) where
     abbrev there_line : Line
-    there_line = line_heard (line_at k.state.lines port) (rise % 2 ^ 32) width (told_within k.limits k.rules (heard_then k port (rise % 2 ^ 32) width))
+    there_line = line_heard k.clock (line_at k.state.lines port) (rise % 2 ^ 32) width (told_within k.limits k.rules (heard_then k port (rise % 2 ^ 32) width))
 
-    there : IsLineAt k.rules (heard_then k port (rise % 2 ^ 32) width) there_line (pulse_at rise width ∷ pulses_on port calls) tick now
-    there = line_hears k.rules k.limits (heard_by k.heard port) (line_at k.state.lines port) (pulses_on port calls) tick now rise width (l.lines port low) risen half in_order
+    there : IsLineAt k.clock k.rules (heard_then k port (rise % 2 ^ 32) width) there_line (pulse_at rise width ∷ pulses_on port calls) tick now
+    there = line_hears k.clock k.rules k.limits (heard_by k.heard port) (line_at k.state.lines port) (pulses_on port calls) tick now rise width (l.lines port low) risen half in_order
 
     on_it : (i : ℕ) → (i == port) ≡ true → pulse_at rise width ∷ pulses_on i calls ≡ pulses_on i (Hear port rise width ∷ calls)
     on_it i same = rw (same, narrow) refl
@@ -271,18 +311,18 @@ module _ (new k : Keeping) (calls : List Call) (tick now port rise width : ℕ) 
     on_others : (i : ℕ) → (i == port) ≡ false → pulses_on i calls ≡ pulses_on i (Hear port rise width ∷ calls)
     on_others i other = rw other refl
 
-    then : (i : ℕ) → i < 5 → IsLineAt k.rules (heard_by (with_heard k.heard port (heard_then k port (rise % 2 ^ 32) width)) i) (line_at (with_line k.state.lines port there_line) i) (pulses_on i (Hear port rise width ∷ calls)) tick now
+    then : (i : ℕ) → i < 5 → IsLineAt k.clock k.rules (heard_by (with_heard k.heard port (heard_then k port (rise % 2 ^ 32) width)) i) (line_at (with_line k.state.lines port there_line) i) (pulses_on i (Hear port rise width ∷ calls)) tick now
     then i small = elim (cases_Bool (i == port)) [
       | inl same ↦
           let at : i ≡ port = eqb-true i port same in
-          moved k.rules k.rules _ _ _ _ _ _ tick now refl
+          moved k.clock k.rules k.rules _ _ _ _ _ _ tick now refl
           (sym (heard_same k.heard port _ low) ∙ ap (heard_by (with_heard k.heard port (heard_then k port (rise % 2 ^ 32) width))) (sym at))
           (sym (line_same k.state.lines port _ low) ∙ ap (line_at (with_line k.state.lines port there_line)) (sym at))
           (ap (λ (j : ℕ). pulse_at rise width ∷ pulses_on j calls) (sym at) ∙ on_it i same)
           there
       | inr other ↦
           let apart = eqb-false i port other in
-          moved k.rules k.rules _ _ _ _ _ _ tick now refl
+          moved k.clock k.rules k.rules _ _ _ _ _ _ tick now refl
           (sym (heard_other k.heard port _ i low small apart))
           (sym (line_other k.state.lines port _ i low small apart))
           (on_others i other)
@@ -298,20 +338,20 @@ module _ (new k : Keeping) (calls : List Call) (tick now port rise width : ℕ) 
         })
 
 -- a tick
-lines_tick : (new k : Keeping) (calls : List Call) (tick now : ℕ) → AreLinesAt new k (λ i. pulses_on i calls) tick now → now + 500000 < tick + 1800000000
+lines_tick : (new k : Keeping) (calls : List Call) (tick now : ℕ) → AreLinesAt new k (λ i. pulses_on i calls) tick now → tick ≤ now → now + 504000 < tick + 1800000000
     → AreLinesAt new (after_tick k (now % 2 ^ 32)) (λ i. pulses_on i (Tick now ∷ calls)) now now
-lines_tick new k calls tick now l half = record {
+lines_tick new k calls tick now l order half = record {
   same = record { rules = l.same.rules; limits = l.same.limits; clock = l.same.clock; table = l.same.table };
   lines = λ i low.
-      let settles = line_ticks k.rules (heard_by k.heard i) (line_at k.state.lines i) (pulses_on i calls) tick now (l.lines i low) half in
+      let settles = line_ticks k.clock k.rules (heard_by k.heard i) (line_at k.state.lines i) (pulses_on i calls) tick now (l.lines i low) order half in
       elim (ticked k (now % 2 ^ 32)) [
         | inl stays ↦
-            moved k.rules k.rules _ _ _ _ _ _ now now refl refl
+            moved k.clock k.rules k.rules _ _ _ _ _ _ now now refl refl
             (line_settles (now % 2 ^ 32) k.state.lines i low ∙ ap (λ (x : Lines). line_at x i) (sym stays)) refl settles
         | inr gives ↦
-            moved k.rules k.rules _ _ _ _ _ _ now now refl refl
+            moved k.clock k.rules k.rules _ _ _ _ _ _ now now refl refl
             (ap line_taken (line_settles (now % 2 ^ 32) k.state.lines i low) ∙ line_takes (settled (now % 2 ^ 32) k.state.lines) i low ∙ ap (λ (x : Lines). line_at x i) (sym gives)) refl
-            (line_gives k.rules _ _ _ now settles)
+            (line_gives k.clock k.rules _ _ _ now settles)
       ];
 }
 
@@ -346,19 +386,19 @@ risen_before port rise width now calls after risen i = elim (cases_Bool (i == po
 
 -- so a tick that is in order behind a pulse is so without it
 pub unheard : (start : ℕ) (r : Redundancy) (port rise width now : ℕ) (calls : List Call) → AreInOrder start r (Tick now ∷ (Hear port rise width ∷ calls)) → AreInOrder start r (Tick now ∷ calls)
-unheard start r port rise width now calls order = (order.0, order.1, risen_before port rise width now calls (λ narrow. (order.3.1 narrow).0) order.2, order.3.2)
+unheard start r port rise width now calls order = (order.0, order.1, risen_before port rise width (now + 4000) calls (λ narrow. (order.3.1 narrow).0) order.2, order.3.2)
 
 pub lines_after : (new : Keeping) (start : ℕ) → AreLinesAt new new (λ i. []) start start → (calls : List Call) (now : ℕ) → AreInOrder start new.clock.redundancy (Tick now ∷ calls) → AreLinesAt new (after_calls new calls) (λ i. pulses_on i calls) (last_tick start calls) now
 lines_after new start begins [] now order = lines_wait new new (λ i. []) start start now begins order.0
 lines_after new start begins (Hear port rise width ∷ calls) now order =
     let l = lines_after new start begins calls now (unheard start new.clock.redundancy port rise width now calls order) in
     elim (cases_Bool (is_pulse width)) [
-      | inl narrow ↦ one_more new (after_calls new calls) calls (last_tick start calls) now port rise width l (omega (arith, order.3.0, at_most_five new.clock.redundancy)) (has_risen port rise width now calls order.2 narrow) order.1 narrow (order.3.1 narrow)
+      | inl narrow ↦ one_more new (after_calls new calls) calls (last_tick start calls) now port rise width l (omega (arith, order.3.0, at_most_five new.clock.redundancy)) (has_risen port rise width (now + 4000) calls order.2 narrow) order.1 narrow (order.3.1 narrow)
       | inr wide ↦ stuck new (after_calls new calls) calls (last_tick start calls) now port rise width l wide
     ]
 lines_after new start begins (Tick time ∷ calls) now order =
     lines_wait new (after_tick (after_calls new calls) (time % 2 ^ 32)) (λ i. pulses_on i calls) time time now
-    (lines_tick new (after_calls new calls) calls (last_tick start calls) time (lines_after new start begins calls time order.3) order.3.1) order.0
+    (lines_tick new (after_calls new calls) calls (last_tick start calls) time (lines_after new start begins calls time order.3) order.3.0 order.3.1) order.0
 
 -- ---- a life, of which at each tick at most f lines are not such true lines
 
@@ -373,7 +413,7 @@ module _ (IsTrue : ℕ → List Pulse → Type 0) (t : TimelineValue) (edges : �
     abbrev TicksTruly : ClockRules → TableValue → Rules → Type 0
     TicksTruly c table rules =
         TellsTruly (IsTrue now) c.within.us c.drift_us rules t edges early late now → IsDevice t c.drift_us edges c.reader_rules table → IsOnTrack t edges early late c.drift_us M c.reader_rules table tick k.state.reader k.state.bound_us k.state.edge_us
-        → AreHeardTruly (IsTrue now) rules (f_of c.redundancy) now k.state.lines pulses
+        → AreHeardTruly (IsTrue now) c.within.us c.drift_us rules (f_of c.redundancy) now k.state.lines pulses
         → KeepsTrue t c.drift_us edges early late M c.reader_rules table now (after_tick k (now % 2 ^ 32)).state (answer_at k (now % 2 ^ 32))
 
     ticks_truly : IsSameSetup new k → TicksTruly new.clock new.table new.rules
@@ -386,7 +426,7 @@ module _ (IsTrue : ℕ → List Pulse → Type 0) (t : TimelineValue) (edges : �
   module _ (new : Keeping) (start : ℕ) (begins : AreLinesAt new new (λ i. []) start start) where
     -- what its lines brought, at a tick
     pub heard_truly : (calls : List Call) (time : ℕ) → AreInOrder start new.clock.redundancy (Tick time ∷ calls) → AreTrueLately IsTrue (f_of new.clock.redundancy) time calls
-        → AreHeardTruly (IsTrue time) new.rules (f_of new.clock.redundancy) time (after_calls new calls).state.lines (λ i. pulses_on i calls)
+        → AreHeardTruly (IsTrue time) new.clock.within.us new.clock.drift_us new.rules (f_of new.clock.redundancy) time (after_calls new calls).state.lines (λ i. pulses_on i calls)
     heard_truly calls time order lately =
         let k : Keeping = after_calls new calls in
         let l = lines_after new start begins calls time order in
@@ -395,8 +435,9 @@ module _ (IsTrue : ℕ → List Pulse → Type 0) (t : TimelineValue) (edges : �
           few = lately.few;
           true_lines = lately.true_lines;
           kept = λ i low.
-              subst (λ (x : Rules). IfKept (IsInTurnOf time) x (claim_kept (line_at k.state.lines i).frame) (pulses_on i calls)) l.same.rules
-              (still_in_turn k.rules (claim_kept (line_at k.state.lines i).frame) (pulses_on i calls) (last_tick start calls) time order.1 (l.lines i low).kept);
+              subst (λ (c : ClockRules). IfKept (IsInTurnOf time) c.within.us c.drift_us new.rules (claim_kept (line_at k.state.lines i).frame) (pulses_on i calls)) l.same.clock
+              (subst (λ (x : Rules). IfKept (IsInTurnOf time) k.clock.within.us k.clock.drift_us x (claim_kept (line_at k.state.lines i).frame) (pulses_on i calls)) l.same.rules
+              (still_in_turn k.clock k.rules (claim_kept (line_at k.state.lines i).frame) (pulses_on i calls) (last_tick start calls) time order.1 (l.lines i low).kept));
         }
 
     abbrev pub IsTrack : ℕ → ℕ → Keeping → Type 0
@@ -449,19 +490,20 @@ nothing_by (suc (suc (suc zero))) low = refl
 nothing_by (suc (suc (suc (suc zero)))) low = refl
 nothing_by (suc (suc (suc (suc (suc i))))) low = absurd (omega (arith, low))
 
-new_line : (rules : Rules) (line : Line) (start : ℕ) → IsNewLine line → IsLineAt rules [] line [] start start
-new_line rules line start is = record {
+new_line : (c : ClockRules) (rules : Rules) (line : Line) (start : ℕ) → IsNewLine line → IsLineAt c rules [] line [] start start
+new_line c rules line start is = record {
   told = start;
   hearing = first_hears line.sync start is.sync;
   all = refl;
   sorted = tt;
-  kept = subst (λ (o : Option KeptFrame). IfKept (IsEndAt [] start start) rules (claim_kept o) []) (sym is.frame) tt;
+  begins = λ n at. absurd (omega (arith, at));
+  kept = subst (λ (o : Option KeptFrame). IfKept (IsEndAt [] start start) c.within.us c.drift_us rules (claim_kept o) []) (sym is.frame) tt;
   past = omega arith;
   near = omega arith;
   last = λ more time upto after. upto;
 }
 
-each_new : (lines : Lines) → AreNewLines lines → (i : ℕ) → i < 5 → IsNewLine (line_at lines i)
+pub each_new : (lines : Lines) → AreNewLines lines → (i : ℕ) → i < 5 → IsNewLine (line_at lines i)
 each_new lines fresh zero low = fresh.a
 each_new lines fresh (suc zero) low = fresh.b
 each_new lines fresh (suc (suc zero)) low = fresh.c
@@ -476,7 +518,7 @@ module _ (limits : Option Limits) (rules : Rules) (clock : ClockRules) (table : 
   pub begins : AreLinesAt new new (λ i. []) start start
   begins = record {
     same = record { rules = refl; limits = refl; clock = refl; table = refl };
-    lines = λ i low. moved rules rules _ _ _ _ _ _ start start refl (sym (nothing_by i low)) refl refl (new_line rules (line_at lines i) start (each_new lines fresh i low));
+    lines = λ i low. moved clock rules rules _ _ _ _ _ _ start start refl (sym (nothing_by i low)) refl refl (new_line clock rules (line_at lines i) start (each_new lines fresh i low));
   }
 
   module _ (IsTrue : ℕ → List Pulse → Type 0) (t : TimelineValue) (edges : ℕ → ℕ) (early late : ℕ) (is : IsDevice t clock.drift_us edges clock.reader_rules table) (room : early + late ≤ 3002) (truly : TellAlwaysTruly IsTrue clock.within.us clock.drift_us rules t edges early late) where

@@ -1,11 +1,12 @@
 -- A line that was true for a frame: its claim is the frame's own.
-use Rattle.std.proofs.Common.{◌≡◌, ℕ, zero, suc, ◌+◌, ◌-◌, ◌*◌, ◌/◌, ◌%◌, ◌^◌, ◌<◌, ◌≤◌, List, [], ◌∷◌, ◌++◌, length, length-append, drop, Option, Some, None, refl, sym, subst, ap, ◌∙◌, arith, inl, inr}
+use Rattle.std.proofs.Common.{◌≡◌, true, ℕ, zero, suc, ◌+◌, ◌-◌, ◌*◌, ◌/◌, ◌%◌, ◌^◌, ◌<◌, ◌≤◌, List, [], ◌∷◌, ◌++◌, length, length-append, drop, Option, Some, None, refl, sym, subst, ap, ◌∙◌, arith, inl, inr}
 use Rattle.std.specs.Prelude.{slice_get, ◌==◌}
+use Rattle.std.proofs.Math.Nat.{mul-le-mul_left}
 use Rattle.std.proofs.lemmas.Bool.{cases_Bool, cases_lt, eqb-true, eqb-false}
 use Rattle.irig_frame.specs.declared.symbol.Symbol.{Symbol}
 use Rattle.irig_frame.specs.Symbols.{symbol_of}
-use Rattle.irig_sync.specs.Lines.{Pulse, pulse_at, AreOnTime, StandAt, symbols_of_last}
-use Rattle.irig_sync.specs.Edges.{second_long, element_at, IsClock}
+use Rattle.irig_sync.specs.Lines.{Pulse, pulse_at, AreOnTime, IsTimeOf, StandAt, symbols_of_last}
+use Rattle.irig_sync.specs.Edges.{IsSteady, second_long, element_at, IsClock}
 use Rattle.irig_sync.specs.FaultyLines.{IsPulseOf}
 use Rattle.irig_sync.proofs.LineLaws.{on_time_is, only_whole}
 use Rattle.irig_sync.proofs.EdgeLaws.{is_next}
@@ -23,10 +24,11 @@ use Rattle.irig_port.proofs.LimitLaws.{claim_within}
 use Rattle.irig_timekeeper.specs.declared.within.Within.{Within}
 use Rattle.irig_timekeeper.specs.Exactness.{end_off_us}
 use Rattle.irig_timekeeper.specs.Edges.{IsQuartz, IsTrueNear}
+use Rattle.irig_timekeeper.specs.declared.setup.ClockRules.{ClockRules}
 use Rattle.irig_timekeeper.specs.declared.lines.KeptFrame.{KeptFrame}
 use Rattle.irig_timekeeper.specs.declared.lines.KeptClaim.{KeptClaim}
-use Rattle.irig_timekeeper.specs.Lines.{ArePulsesLately, IsLineOf, IsTrueLately, IsLastBefore, IsFrameOf, IfKept}
-use Rattle.irig_timekeeper.specs.Steps.{claim_told, claim_kept, frame_behind}
+use Rattle.irig_timekeeper.specs.Lines.{rise_before, AreEven, ArePulsesLately, IsLineOf, IsTrueLately, IsLastBefore, IsFrameOf, IfKept}
+use Rattle.irig_timekeeper.specs.Steps.{is_even, claim_told, claim_kept, frame_behind}
 
 -- ---- one symbol more
 
@@ -67,6 +69,52 @@ stands_one line first x is = (refl, λ i less. (let none : i ≡ 0 = omega (arit
 pub clock_of : (within : Within) (d : ℕ) (edges : ℕ → ℕ) → IsQuartz d edges → IsClock d within.us edges
 clock_of within d edges steady = record { steady = steady.steady; near = omega (arith, steady.few, within.few) }
 
+-- the rest of a second and a part of the next one, of 99 hundredths in all
+parts : (d long next j m : ℕ) → j + m ≡ 99 → 1000000 ≤ long + d → long ≤ 1000000 + d → 1000000 ≤ next + d → next ≤ 1000000 + d
+    → (long * suc j / 100 + 990000 ≤ long + next * j / 100 + d) × (long + next * j / 100 ≤ long * suc j / 100 + 990000 + d)
+parts d long next j m all least most next_least next_most =
+    let more : suc j + m ≡ 100 = omega (arith, all) in
+    let whole : long * (suc j + m) ≡ long * 100 = ap (λ (n : ℕ). long * n) more in
+    let drift : d * (j + m) ≡ d * 99 = ap (λ (n : ℕ). d * n) all in
+    let rest_least = mul-le-mul_left m least in
+    let rest_most = mul-le-mul_left m most in
+    let part_least = mul-le-mul_left j next_least in
+    let part_most = mul-le-mul_left j next_most in
+    (omega (arith, all, whole, drift, rest_least, part_least), omega (arith, all, whole, drift, rest_most, part_most))
+
+-- elements 99 apart
+module _ (d : ℕ) (edges : ℕ → ℕ) (steady : IsSteady d edges) (few : d ≤ 100) where
+  AreFar : ℕ → Type 0
+  AreFar k = (element_at edges k + 990000 ≤ element_at edges (k + 99) + d) × (element_at edges (k + 99) ≤ element_at edges k + 990000 + d)
+
+  -- from a frame's first one to its last
+  far_in : (k : ℕ) → k % 100 ≡ 0 → AreFar k
+  unfolding AreFar
+  far_in k first =
+      let frame : (k + 99) / 100 ≡ k / 100 = omega (arith, first) in
+      let place : (k + 99) % 100 ≡ 99 = omega (arith, first) in
+      rw (frame, place, first) (omega (arith, few, steady.least (k / 100), steady.most (k / 100)), omega (arith, few, steady.least (k / 100), steady.most (k / 100)))
+
+  -- from another one to one of the next frame
+  far_over : (k j : ℕ) → k % 100 ≡ suc j → AreFar k
+  unfolding AreFar
+  far_over k j at =
+      let frame : (k + 99) / 100 ≡ k / 100 + 1 = omega (arith, at) in
+      let place : (k + 99) % 100 ≡ j = omega (arith, at) in
+      let here : element_at edges k ≡ edges (k / 100) + second_long edges (k / 100) * suc j / 100 = ap (λ (i : ℕ). edges (k / 100) + second_long edges (k / 100) * i / 100) at in
+      let there : element_at edges (k + 99) ≡ edges (k / 100 + 1) + second_long edges (k / 100 + 1) * j / 100 = rw (frame, place) refl in
+      let both = parts d (second_long edges (k / 100)) (second_long edges (k / 100 + 1)) j (99 - j) (omega (arith, at))
+      (omega (arith, steady.least (k / 100))) (omega (arith, steady.most (k / 100))) (omega (arith, steady.least (k / 100 + 1))) (omega (arith, steady.most (k / 100 + 1))) in
+      let long : edges (k / 100) + second_long edges (k / 100) ≡ edges (k / 100 + 1) = omega (arith, few, steady.least (k / 100)) in
+      (omega (arith, here, there, long, both.0), omega (arith, here, there, long, both.1))
+
+  far_off : (k : ℕ) → (element_at edges k + 990000 ≤ element_at edges (k + 99) + d) × (element_at edges (k + 99) ≤ element_at edges k + 990000 + d)
+  unfolding AreFar
+  far_off k = elim (cases_Bool (k % 100 == 0)) [
+    | inl first ↦ far_in k (eqb-true (k % 100) 0 first)
+    | inr other ↦ far_over k (k % 100 - 1) (let some = eqb-false (k % 100) 0 other in omega (arith, some))
+  ]
+
 module _ (within : Within) (d : ℕ) (edges : ℕ → ℕ) (steady : IsQuartz d edges) where
   -- the last pulses, each on time behind the one before, are those of elements in a row
   record AreInARow (line : ℕ → Symbol) (k m : ℕ) (p : Pulse) (ps : List Pulse) : Type 0 where
@@ -74,6 +122,7 @@ module _ (within : Within) (d : ℕ) (edges : ℕ → ℕ) (steady : IsQuartz d 
     low : first + m < k
     stand : StandFrom line first (suc m) (symbols_of_last (suc m) (p ∷ ps))
     here : IsPulseOf line edges within.us (first + m) p
+    began : IsTimeOf edges within.us first (rise_before m (p ∷ ps))
 
   module _ (line : ℕ → Symbol) (now : ℕ) where
     alone : (k : ℕ) (p : Pulse) (ps : List Pulse) → ArePulsesLately within.us line edges now k (p ∷ ps) → now ≤ p.rise + 1200000 → AreInARow line k 0 p ps
@@ -86,6 +135,7 @@ module _ (within : Within) (d : ℕ) (edges : ℕ → ℕ) (steady : IsQuartz d 
           low = omega (arith, is.1);
           stand = stands_one line j (symbol_of p.width) is.2.1;
           here = rw here is.2;
+          began = is.2.0;
         }
 
     in_a_row : (m k : ℕ) (p : Pulse) (ps : List Pulse) → ArePulsesLately within.us line edges now k (p ∷ ps) → AreOnTime (suc m) (p ∷ ps) → now + 11000 * m ≤ p.rise + 1200000 → AreInARow line k m p ps
@@ -102,7 +152,18 @@ module _ (within : Within) (d : ℕ) (edges : ℕ → ℕ) (steady : IsQuartz d 
           low = omega (arith, is.1, next);
           stand = stands_more line before.first (suc m) (symbols_of_last (suc m) (q ∷ ps)) (symbol_of p.width) before.stand (is.2.1 ∙ ap line there);
           here = subst (λ (j : ℕ). IsPulseOf line edges within.us j p) there is.2;
+          began = before.began;
         }
+
+    -- of a hundred the first and the last are those of elements 99 apart
+    even_row : (k : ℕ) (run : List Pulse) (end : ℕ) → ArePulsesLately within.us line edges now k run → AreOnTime 100 run → IsLastBefore end run → now ≤ end + 100000 → AreEven within.us d run
+    even_row k [] end are on at soon = absurd at
+    even_row k (p ∷ ps) end are on at soon =
+        let row = in_a_row 99 k p ps are on (omega (arith, at, soon)) in
+        let far = far_off d edges steady.steady (omega (arith, steady.few)) row.first in (
+          omega (arith, far.0, row.began.1, row.here.0.0, within.some),
+          omega (arith, far.1, row.began.0, row.here.0.1, within.some),
+        )
 
     dropped : (n k : ℕ) (pulses : List Pulse) → ArePulsesLately within.us line edges now k pulses → (j : ℕ) × ArePulsesLately within.us line edges now j (drop n pulses)
     dropped zero k pulses are = (k, are)
@@ -139,37 +200,51 @@ module _ (within : Within) (rules : Rules) (t : TimelineValue) (d : ℕ) (edges 
   ended now end line k [] claim is are on at carries soon = absurd at
   ended now end line k (p ∷ ps) claim is are on at carries soon = framed now end line k p ps claim is are on carries at soon
 
-  pub frame_is_true : (now end : ℕ) (pulses : List Pulse) (claim : Claim) → IsTrueLately within.us rules t edges now pulses → IsFrameOf rules claim end pulses → now ≤ end + 100000 → IsTrueNear t edges (end_off_us within.us d) (end_off_us within.us d) end claim
-  frame_is_true now end pulses claim is frame soon =
+  -- it is even, whatever it tells
+  pub frame_is_even : (now end : ℕ) (pulses : List Pulse) → IsTrueLately within.us rules t edges now pulses → (late : ℕ) → AreOnTime 100 (drop late pulses) → IsLastBefore end (drop late pulses) → now ≤ end + 100000 → AreEven within.us d (drop late pulses)
+  frame_is_even now end pulses is late on last soon =
+      let left = dropped within d edges steady is.line now late is.next pulses is.are in
+      even_row within d edges steady is.line now left.0 (drop late pulses) end left.1 on last soon
+
+  -- its claim is true and its end near, whatever drift it is even by
+  pub frame_by_any : (e now end : ℕ) (pulses : List Pulse) (claim : Claim) → IsTrueLately within.us rules t edges now pulses → IsFrameOf within.us e rules claim end pulses → now ≤ end + 100000 → IsTrueNear t edges (end_off_us within.us d) (end_off_us within.us d) end claim
+  frame_by_any e now end pulses claim is frame soon =
       let left = dropped within d edges steady is.line now frame.late is.next pulses is.are in
       ended now end is.line left.0 (drop frame.late pulses) claim is.is_line left.1 frame.on_time frame.last frame.carries soon
 
+  pub frame_is_true : (now end : ℕ) (pulses : List Pulse) (claim : Claim) → IsTrueLately within.us rules t edges now pulses → IsFrameOf within.us d rules claim end pulses → now ≤ end + 100000 → IsTrueNear t edges (end_off_us within.us d) (end_off_us within.us d) end claim
+  frame_is_true now end pulses claim is frame soon = frame_by_any d now end pulses claim is frame soon
+
 -- the same, with nothing more
-pub true_lately : (within : Within) (rules : Rules) (t : TimelineValue) (d : ℕ) (edges : ℕ → ℕ) (now end : ℕ) (pulses : List Pulse) (claim : Claim) → IsQuartz d edges → IsTrueLately within.us rules t edges now pulses → IsFrameOf rules claim end pulses → now ≤ end + 100000
+pub true_by_any : (within : Within) (rules : Rules) (t : TimelineValue) (d e : ℕ) (edges : ℕ → ℕ) (now end : ℕ) (pulses : List Pulse) (claim : Claim) → IsQuartz d edges → IsTrueLately within.us rules t edges now pulses → IsFrameOf within.us e rules claim end pulses → now ≤ end + 100000
     → IsTrueNear t edges (0 + end_off_us within.us d) (0 + end_off_us within.us d) end claim
-true_lately within rules t d edges now end pulses claim steady is frame soon =
-    let near = frame_is_true within rules t d edges steady now end pulses claim is frame soon in
+true_by_any within rules t d e edges now end pulses claim steady is frame soon =
+    let near = frame_by_any within rules t d edges steady e now end pulses claim is frame soon in
     record {
       second = near.second;
       near = record { least = omega (arith, near.near.least); most = omega (arith, near.near.most) };
       truth = near.truth;
     }
 
+pub true_lately : (within : Within) (rules : Rules) (t : TimelineValue) (d : ℕ) (edges : ℕ → ℕ) (now end : ℕ) (pulses : List Pulse) (claim : Claim) → IsQuartz d edges → IsTrueLately within.us rules t edges now pulses → IsFrameOf within.us d rules claim end pulses → now ≤ end + 100000
+    → IsTrueNear t edges (0 + end_off_us within.us d) (0 + end_off_us within.us d) end claim
+true_lately within rules t d edges now end pulses claim steady is frame soon = true_by_any within rules t d d edges now end pulses claim steady is frame soon
+
 -- ---- a pulse more
 
-one_late : (EndsSo Ends : ℕ → Type 0) → ((end : ℕ) → EndsSo end → Ends end) → (rules : Rules) (kept : Option KeptClaim) (p : Pulse) (pulses : List Pulse) → IfKept EndsSo rules kept pulses → IfKept Ends rules kept (p ∷ pulses)
-one_late EndsSo Ends more rules None p pulses before = tt
-one_late EndsSo Ends more rules (Some kept) p pulses before =
+one_late : (EndsSo Ends : ℕ → Type 0) → ((end : ℕ) → EndsSo end → Ends end) → (within d : ℕ) (rules : Rules) (kept : Option KeptClaim) (p : Pulse) (pulses : List Pulse) → IfKept EndsSo within d rules kept pulses → IfKept Ends within d rules kept (p ∷ pulses)
+one_late EndsSo Ends more within d rules None p pulses before = tt
+one_late EndsSo Ends more within d rules (Some kept) p pulses before =
     let frame = before.2 in
-    (before.0, before.1, record { late = suc frame.late; on_time = frame.on_time; carries = frame.carries; last = frame.last }, more before.0 before.3)
+    (before.0, before.1, record { late = suc frame.late; on_time = frame.on_time; carries = frame.carries; last = frame.last; even = frame.even }, more before.0 before.3)
 
 -- a frame's last pulse: what the port then tells
-told_here : (Ends : ℕ → Type 0) (limits : Option Limits) (rules : Rules) (told : Told) (heard : List Symbol) (place time width : ℕ) (pulses : List Pulse) → told_within limits rules heard ≡ told → 1 ≤ place → IsRun heard place (pulse_at time width ∷ pulses) → Ends (time + 10000)
-    → IfKept Ends rules (claim_told told ((time % 2 ^ 32 + 10000) % 2 ^ 32)) (pulse_at time width ∷ pulses)
-told_here Ends limits rules tells.Silence heard place time width pulses e some run ends = tt
-told_here Ends limits rules (tells.Fault f) heard place time width pulses e some run ends = tt
-told_here Ends limits rules (tells.Poor q) heard place time width pulses e some run ends = tt
-told_here Ends limits rules (tells.Claim c) heard place time width pulses e some run ends = elim run.step [
+told_here : (Ends : ℕ → Type 0) (within d : ℕ) (limits : Option Limits) (rules : Rules) (told : Told) (heard : List Symbol) (place time width : ℕ) (pulses : List Pulse) → told_within limits rules heard ≡ told → 1 ≤ place → IsRun heard place (pulse_at time width ∷ pulses) → AreEven within d (pulse_at time width ∷ pulses) → Ends (time + 10000)
+    → IfKept Ends within d rules (claim_told told ((time % 2 ^ 32 + 10000) % 2 ^ 32)) (pulse_at time width ∷ pulses)
+told_here Ends within d limits rules tells.Silence heard place time width pulses e some run even ends = tt
+told_here Ends within d limits rules (tells.Fault f) heard place time width pulses e some run even ends = tt
+told_here Ends within d limits rules (tells.Poor q) heard place time width pulses e some run even ends = tt
+told_here Ends within d limits rules (tells.Claim c) heard place time width pulses e some run even ends = elim run.step [
   | inl out ↦ absurd (omega (arith, out, some))
   | inr inside ↦
       let all : List Pulse = pulse_at time width ∷ pulses in
@@ -184,16 +259,20 @@ told_here Ends limits rules (tells.Claim c) heard place time width pulses e some
           on_time = subst (λ (n : ℕ). AreOnTime n all) whole (subst (AreOnTime run.count) none run.on_time);
           carries = subst (λ (s : List Symbol). Carries rules s c) symbols carries;
           last = refl;
+          even = even;
         },
         ends,
       )
 ]
 
-pub kept_more : (EndsSo Ends : ℕ → Type 0) → (place : ℕ) → (¬ (place ≡ 100) → (end : ℕ) → EndsSo end → Ends end) → (limits : Option Limits) (rules : Rules) (frame : Option KeptFrame) (heard : List Symbol) (time width : ℕ) (pulses : List Pulse) → IsRun heard place (pulse_at time width ∷ pulses) → IfKept EndsSo rules (claim_kept frame) pulses → (place ≡ 100 → Ends (time + 10000))
-    → IfKept Ends rules (claim_kept (frame_behind place (time % 2 ^ 32) (told_within limits rules heard) frame)) (pulse_at time width ∷ pulses)
-kept_more EndsSo Ends place more limits rules frame heard time width pulses run before ends = elim (cases_Bool (place == 100)) [
+pub kept_more : (EndsSo Ends : ℕ → Type 0) → (c : ClockRules) (begin place : ℕ) → (¬ (place ≡ 100) → (end : ℕ) → EndsSo end → Ends end) → (limits : Option Limits) (rules : Rules) (frame : Option KeptFrame) (heard : List Symbol) (time width : ℕ) (pulses : List Pulse) → IsRun heard place (pulse_at time width ∷ pulses) → IfKept EndsSo c.within.us c.drift_us rules (claim_kept frame) pulses → (place ≡ 100 → is_even c begin (time % 2 ^ 32) ≡ true → AreEven c.within.us c.drift_us (pulse_at time width ∷ pulses)) → (place ≡ 100 → Ends (time + 10000))
+    → IfKept Ends c.within.us c.drift_us rules (claim_kept (frame_behind c place begin (time % 2 ^ 32) (told_within limits rules heard) frame)) (pulse_at time width ∷ pulses)
+kept_more EndsSo Ends c begin place more limits rules frame heard time width pulses run before evens ends = elim (cases_Bool (place == 100)) [
   | inl whole ↦
       let at : place ≡ 100 = eqb-true place 100 whole in
-      rw whole (told_here Ends limits rules (told_within limits rules heard) heard place time width pulses refl (omega (arith, at)) run (ends at))
-  | inr inside ↦ rw inside (one_late EndsSo Ends (more (eqb-false place 100 inside)) rules (claim_kept frame) (pulse_at time width) pulses before)
+      rw whole (elim (cases_Bool (is_even c begin (time % 2 ^ 32))) [
+        | inl even ↦ rw even (told_here Ends c.within.us c.drift_us limits rules (told_within limits rules heard) heard place time width pulses refl (omega (arith, at)) run (evens at even) (ends at))
+        | inr odd ↦ rw odd tt
+      ])
+  | inr inside ↦ rw inside (one_late EndsSo Ends (more (eqb-false place 100 inside)) c.within.us c.drift_us rules (claim_kept frame) (pulse_at time width) pulses before)
 ]

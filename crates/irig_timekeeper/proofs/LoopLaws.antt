@@ -50,14 +50,14 @@ told_splits : (start : ℕ) → Splits (AreToldInTime start)
 told_splits start [] z before told = (tt, told)
 told_splits start (Hear port rise width ∷ x) z before told =
     let rest = told_splits start x z before told.1 in
-    ((subst (λ (c : List Call). last_tick start c ≤ rise + width + 1000) (append_assoc x z before) told.0, rest.0), rest.1)
+    ((subst (λ (c : List Call). last_tick start c ≤ rise + width + 3000) (append_assoc x z before) told.0, rest.0), rest.1)
 told_splits start (Tick now ∷ x) z before told = told_splits start x z before told
 
 pub turn_splits : (start : ℕ) → Splits (AreMadeInTurn start)
 turn_splits start [] z before turn = (tt, turn)
 turn_splits start (call ∷ x) z before turn =
     let rest = turn_splits start x z before turn.1 in
-    ((subst (λ (c : List Call). latest start c ≤ made_at call + 1000) (append_assoc x z before) turn.0, rest.0), rest.1)
+    ((subst (λ (c : List Call). latest start c ≤ made_at call + 3000) (append_assoc x z before) turn.0, rest.0), rest.1)
 
 -- ---- the last tick
 
@@ -173,8 +173,8 @@ module _ (t : TimelineValue) (d : ℕ) (edges : ℕ → ℕ) (quartz : IsQuartz 
       ]
     ]
 
-  -- so by a tick 2 ms behind the edge the frames were told, whatever was told behind it
-  pub told_before : (start : ℕ) (r : Redundancy) (x base : List Call) → AreInOrder start r (x ++ base) → edges m + 2000 ≤ last_tick start base → AreToldInTime start x base → ComesWhole t edges new m (x ++ base) → ComesWhole t edges new m base
+  -- so by a tick 4 ms behind the edge the frames were told, whatever was told behind it
+  pub told_before : (start : ℕ) (r : Redundancy) (x base : List Call) → AreInOrder start r (x ++ base) → edges m + 3000 ≤ last_tick start base → AreToldInTime start x base → ComesWhole t edges new m (x ++ base) → ComesWhole t edges new m base
   told_before start r [] base order late told come = come
   told_before start r (Tick now ∷ x) base order late told come = told_before start r x base order.3 late told (record { whole = come.whole; many = come.many; frames = come.frames })
   told_before start r (Hear port rise width ∷ x) base order late told come = elim (one_less port rise width (x ++ base) come) [
@@ -202,7 +202,7 @@ pub record AreServing (IsTrue : ℕ → List Pulse → Type 0) (t : TimelineValu
   pub loop : Loop rest done
 
 module _ (IsTrue : ℕ → List Pulse → Type 0) (t : TimelineValue) (d : ℕ) (edges : ℕ → ℕ) (quartz : IsQuartz d edges) (new : Keeping) (start : ℕ) (Loop : List Call → List Call → Type 0) (splits : Splits Loop)
-    (serve : (m : ℕ) → 1 ≤ m → (rest done : List Call) → AreServing IsTrue t edges new start Loop m rest done → ComesWhole t edges new m (rest ++ done) → edges m + 2000 ≤ last_tick start (rest ++ done) → IsStep IsTrue t edges new start m rest done) where
+    (serve : (m : ℕ) → 1 ≤ m → (rest done : List Call) → AreServing IsTrue t edges new start Loop m rest done → ComesWhole t edges new m (rest ++ done) → edges m + 3000 ≤ last_tick start (rest ++ done) → IsStep IsTrue t edges new start m rest done) where
   record IsRowOf (m n : ℕ) (all before : List Call) : Type 0 where
     rest : List Call
     done : List Call
@@ -224,9 +224,9 @@ module _ (IsTrue : ℕ → List Pulse → Type 0) (t : TimelineValue) (d : ℕ) 
         are = row.are ∙ joined;
         served = (step.z, row.done, refl, s, row.served);
         on = record {
-          told = s.now;
-          risen = subst (λ (c : List Call). HaveRisen s.now (c ++ row.done)) (sym s.are) here.2;
-          ticked = subst (λ (c : List Call). last_tick start (c ++ row.done) ≤ s.now) (sym s.are) (omega arith);
+          told = s.now + 4000;
+          risen = subst (λ (c : List Call). HaveRisen (s.now + 4000) (c ++ row.done)) (sym s.are) here.2;
+          ticked = subst (λ (c : List Call). last_tick start (c ++ row.done) ≤ s.now + 4000) (sym s.are) (omega arith);
           past = omega (arith, s.soon, at, quartz.steady.least (m + n), quartz.few);
           order = ordered;
           truth = (truth_splits IsTrue (f_of new.clock.redundancy) step.x step.z row.done (subst (λ (c : List Call). AreTrueOver IsTrue (f_of new.clock.redundancy) c row.done) step.are row.on.truth)).0;
@@ -234,7 +234,7 @@ module _ (IsTrue : ℕ → List Pulse → Type 0) (t : TimelineValue) (d : ℕ) 
         };
       }
 
-  row_of : (m : ℕ) → 1 ≤ m → (k : ℕ) (calls before : List Call) → AreServing IsTrue t edges new start Loop m calls before → ((n : ℕ) → n < k + 2 → ComesWhole t edges new (m + n) (calls ++ before)) → edges (m + 1 + k) + 2000 ≤ last_tick start (calls ++ before) → (n : ℕ) → n ≤ k + 2 → IsRowOf m n (calls ++ before) before
+  row_of : (m : ℕ) → 1 ≤ m → (k : ℕ) (calls before : List Call) → AreServing IsTrue t edges new start Loop m calls before → ((n : ℕ) → n < k + 2 → ComesWhole t edges new (m + n) (calls ++ before)) → edges (m + 1 + k) + 3000 ≤ last_tick start (calls ++ before) → (n : ℕ) → n ≤ k + 2 → IsRowOf m n (calls ++ before) before
   row_of m some k calls before on whole last zero few =
       let same : m ≡ m + 0 = omega arith in
       record { rest = calls; done = before; are = refl; served = refl; on = subst (λ (i : ℕ). AreServing IsTrue t edges new start Loop i calls before) same on }
@@ -243,11 +243,11 @@ module _ (IsTrue : ℕ → List Pulse → Type 0) (t : TimelineValue) (d : ℕ) 
       let far : m + n + (k + 1 - n) ≡ m + 1 + k = omega (arith, few) in
       let rise = subst (λ (i : ℕ). edges (m + n) + (k + 1 - n) * 999900 ≤ edges i) far (rises d edges quartz (m + n) (k + 1 - n)) in
       goes_on m n (calls ++ before) before row
-      (serve (m + n) (omega (arith, some)) row.rest row.done row.on (subst (ComesWhole t edges new (m + n)) row.are (whole n (omega (arith, few)))) (subst (λ (c : List Call). edges (m + n) + 2000 ≤ last_tick start c) row.are (omega (arith, rise, last))))
+      (serve (m + n) (omega (arith, some)) row.rest row.done row.on (subst (ComesWhole t edges new (m + n)) row.are (whole n (omega (arith, few)))) (subst (λ (c : List Call). edges (m + n) + 3000 ≤ last_tick start c) row.are (omega (arith, rise, last))))
 
   -- so the device announces the last
   pub loop_announces : (begun : AreLinesAt new new (λ i. []) start start) (is : IsDevice t new.clock.drift_us edges new.clock.reader_rules new.table) (truly : TellAlwaysTruly IsTrue new.clock.within.us new.clock.drift_us new.rules t edges 0 0) → new.state.reader ≡ state_of new.clock.reader_rules new.table [] → (m : ℕ) → 1 ≤ m → 1 ≤ new.clock.reader_rules.lock_after → (calls before : List Call)
-      → AreServing IsTrue t edges new start Loop m calls before → ((n : ℕ) → n < new.clock.reader_rules.lock_after + 2 → ComesWhole t edges new (m + n) (calls ++ before)) → edges (m + 1 + new.clock.reader_rules.lock_after) + 2000 ≤ last_tick start (calls ++ before) → (u : UtcSecond) → IsSecond t (m + 1 + new.clock.reader_rules.lock_after) u
+      → AreServing IsTrue t edges new start Loop m calls before → ((n : ℕ) → n < new.clock.reader_rules.lock_after + 2 → ComesWhole t edges new (m + n) (calls ++ before)) → edges (m + 1 + new.clock.reader_rules.lock_after) + 3000 ≤ last_tick start (calls ++ before) → (u : UtcSecond) → IsSecond t (m + 1 + new.clock.reader_rules.lock_after) u
       → Announces edges new (m + 1 + new.clock.reader_rules.lock_after) u (calls ++ before)
   loop_announces begun is truly fresh m some enough calls before on whole last u second =
       let k : ℕ = new.clock.reader_rules.lock_after in
@@ -267,7 +267,7 @@ module _ (IsTrue : ℕ → List Pulse → Type 0) (t : TimelineValue) (d : ℕ) 
 
 -- ---- a tick at least so often
 
-module _ (IsTrue : ℕ → List Pulse → Type 0) (t : TimelineValue) (edges : ℕ → ℕ) (new : Keeping) (quartz : IsQuartz new.clock.drift_us edges) (start : ℕ) (most : ℕ) (few : most ≤ 96000) where
+module _ (IsTrue : ℕ → List Pulse → Type 0) (t : TimelineValue) (edges : ℕ → ℕ) (new : Keeping) (quartz : IsQuartz new.clock.drift_us edges) (start : ℕ) (most : ℕ) (few : most ≤ 95000) where
   abbrev pub Polls : List Call → List Call → Type 0
   Polls calls before = AreToldInTime start calls before × TicksEach most start calls before
 
@@ -277,9 +277,9 @@ module _ (IsTrue : ℕ → List Pulse → Type 0) (t : TimelineValue) (edges : �
       let each = each_splits most start x z before polls.1 in
       ((told.0, each.0), (told.1, each.1))
 
-  pub polls_serve : (m : ℕ) → 1 ≤ m → (rest done : List Call) → AreServing IsTrue t edges new start Polls m rest done → ComesWhole t edges new m (rest ++ done) → edges m + 2000 ≤ last_tick start (rest ++ done) → IsStep IsTrue t edges new start m rest done
+  pub polls_serve : (m : ℕ) → 1 ≤ m → (rest done : List Call) → AreServing IsTrue t edges new start Polls m rest done → ComesWhole t edges new m (rest ++ done) → edges m + 3000 ≤ last_tick start (rest ++ done) → IsStep IsTrue t edges new start m rest done
   polls_serve m some rest done on come last =
-      let first = first_tick start (edges m + 2000) rest done (omega (arith, on.ticked, on.past)) last in
+      let first = first_tick start (edges m + 3000) rest done (omega (arith, on.ticked, on.past)) last in
       let z : List Call = Tick first.now ∷ first.y in
       let joined : rest ++ done ≡ first.x ++ (z ++ done) = ap (λ (c : List Call). c ++ done) first.are ∙ append_assoc first.x z done in
       let polls = polls_split first.x z done (subst (λ (c : List Call). Polls c done) first.are on.loop) in
@@ -302,7 +302,7 @@ module _ (IsTrue : ℕ → List Pulse → Type 0) (t : TimelineValue) (edges : �
       }
 
 -- so, by what `a_device_announces` says of true lines
-pub polling_announces : (t : TimelineValue) (edges : ℕ → ℕ) (made : Made) (start m most : ℕ) (calls before : List Call) (u : UtcSecond) → ComeInARow (IsTrueLately made.clock.within.us) t edges made start m calls before → most ≤ 96000 → TicksEach most start calls before → AreToldInTime start calls before
+pub polling_announces : (t : TimelineValue) (edges : ℕ → ℕ) (made : Made) (start m most : ℕ) (calls before : List Call) (u : UtcSecond) → ComeInARow (IsTrueLately made.clock.within.us) t edges made start m calls before → most ≤ 95000 → TicksEach most start calls before → AreToldInTime start calls before
     → IsSecond t (m + 1 + made.clock.reader_rules.lock_after) u → Announces edges (device_of made) (m + 1 + made.clock.reader_rules.lock_after) u (calls ++ before)
 polling_announces t edges made start m most calls before u come few each told second =
     let quartz = come.is.steady in

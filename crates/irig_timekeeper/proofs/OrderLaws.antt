@@ -118,10 +118,10 @@ unfolding no_pulses
 drop_nothing zero = refl
 drop_nothing (suc n) = refl
 
-pub kept_of_nothing : (EndsSo : ℕ → Type 0) (rules : Rules) (o : Option KeptClaim) (pulses : List Pulse) → pulses ≡ [] → IfKept EndsSo rules o pulses → o ≡ None
+pub kept_of_nothing : (EndsSo : ℕ → Type 0) (within d : ℕ) (rules : Rules) (o : Option KeptClaim) (pulses : List Pulse) → pulses ≡ [] → IfKept EndsSo within d rules o pulses → o ≡ None
 unfolding no_pulses
-kept_of_nothing EndsSo rules None pulses e h = refl
-kept_of_nothing EndsSo rules (Some y) pulses e h =
+kept_of_nothing EndsSo within d rules None pulses e h = refl
+kept_of_nothing EndsSo within d rules (Some y) pulses e h =
     let none : drop h.2.late pulses ≡ [] = ap (drop h.2.late) e ∙ drop_nothing h.2.late in
     absurd (subst (AreOnTime 100) none h.2.on_time)
 
@@ -197,7 +197,7 @@ module _ (new : Keeping) (start : ℕ) (begins : AreLinesAt new new (λ i. []) s
               let pulses : List Pulse = pulses_on i calls in
               let p : Pulse = pulse_at rise width in
               let after : IsAfter pulses rise = subst (λ (j : ℕ). IsAfter (pulses_on j calls) rise) (sym at) (order.3.1 narrow).0 in
-              let soon : IsSoon l.told rise = line_soon rise l (has_risen port rise width now calls order.2 narrow) order.1 (after, (order.3.1 narrow).1) in
+              let soon : IsSoon l.told rise = line_soon rise l (has_risen port rise width (now + 4000) calls order.2 narrow) order.1 (after, (order.3.1 narrow).1) in
               let place : place_of (line_at k.state.lines i).sync (rise % 2 ^ 32) width ≡ place_after (p ∷ pulses) = place_at_time (line_at k.state.lines i).sync pulses l.told rise width l.hearing.sync after soon in
               let sorted : AreSorted (p ∷ pulses) = (after, l.sorted) in
               let on : pulses_on i (Hear port rise width ∷ calls) ≡ p ∷ pulses = own_pulses i port rise width calls narrow same in
@@ -223,9 +223,9 @@ module _ (new : Keeping) (start : ℕ) (begins : AreLinesAt new new (λ i. []) s
 
 -- ---- the lines that agree on an edge
 
-pub ranged : (EndsSo : ℕ → Type 0) (rules : Rules) (o : Option KeptClaim) (pulses : List Pulse) (y : KeptClaim) → IfKept EndsSo rules o pulses → o ≡ Some y → y.end_us < 2 ^ 32
-ranged EndsSo rules None pulses y h e = absurd cc
-ranged EndsSo rules (Some x) pulses y h e =
+pub ranged : (EndsSo : ℕ → Type 0) (within d : ℕ) (rules : Rules) (o : Option KeptClaim) (pulses : List Pulse) (y : KeptClaim) → IfKept EndsSo within d rules o pulses → o ≡ Some y → y.end_us < 2 ^ 32
+ranged EndsSo within d rules None pulses y h e = absurd cc
+ranged EndsSo within d rules (Some x) pulses y h e =
     let same : x ≡ y = cc in
     let low : x.end_us < 2 ^ 32 = omega (arith, h.1) in
     subst (λ (v : KeptClaim). v.end_us < 2 ^ 32) same low
@@ -238,7 +238,7 @@ takes k clock v e = of (vote_at k clock) e
     either true x y lines p q = p
     either false x y lines p q = q
 
-    of : (o : Option Vote) → o ≡ Some v → (clock_by k.clock k.table (settled_at k.state clock) clock o).lines ≡ taken (settled clock k.state.lines)
+    of : (o : Option Vote) → o ≡ Some v → (clock_by k.clock k.table (settled_at k.clock k.state clock) clock o).lines ≡ taken (settled clock k.state.lines)
     of None e = absurd cc
     of (Some x) e = either (edges_to_vote k.state.edge_us x.edge_us == 0) _ _ _ refl refl
 
@@ -300,7 +300,7 @@ module _ (new : Keeping) (start : ℕ) (begins : AreLinesAt new new (λ i. []) s
 
     pub there_at : (i : ℕ) → i < 5 → (y : KeptClaim) → claim_kept (line_at (settled clock lines) i).frame ≡ Some y → IsKeptThere y
     there_at i small y e = record {
-      range = ranged (IsEndAt (pulses_on i calls) (last_tick start calls) now) (after_calls new calls).rules (claim_kept (line_at lines i).frame) (pulses_on i calls) y ((lines_after new start begins calls now order).lines i small).kept (kept_by i small y e).0;
+      range = ranged (IsEndAt (pulses_on i calls) (last_tick start calls) now) _ _ (after_calls new calls).rules (claim_kept (line_at lines i).frame) (pulses_on i calls) y ((lines_after new start begins calls now order).lines i small).kept (kept_by i small y e).0;
       i = i;
       small = small;
       keeps = e;
@@ -350,7 +350,7 @@ module _ (new : Keeping) (start : ℕ) (begins : AreLinesAt new new (λ i. []) s
           of None e = refl
           of (Some y) e =
               let l = (lines_after new start begins calls now order).lines i small in
-              let none = kept_of_nothing (IsEndAt (pulses_on i calls) (last_tick start calls) now) (after_calls new calls).rules (claim_kept (line_at lines i).frame) (pulses_on i calls) (silent_line start new.clock.redundancy i far calls order.3) l.kept in
+              let none = kept_of_nothing (IsEndAt (pulses_on i calls) (last_tick start calls) now) _ _ (after_calls new calls).rules (claim_kept (line_at lines i).frame) (pulses_on i calls) (silent_line start new.clock.redundancy i far calls order.3) l.kept in
               absurd (let both : None ≡ Some y = sym none ∙ (kept_by i small y e).0 in cc)
 
       -- a line that agrees keeps a frame that ended with it, or up to the window behind
@@ -361,7 +361,7 @@ module _ (new : Keeping) (start : ℕ) (begins : AreLinesAt new new (λ i. []) s
         pub same : same_claim x.claim y.claim ≡ true
         pub ends : y.end_us ≡ whole_of (pulses_on i calls) % 2 ^ 32
         pub near : clock_gap x.end_us (whole_of (pulses_on i calls) % 2 ^ 32) ≤ window
-        pub ahead : whole_of (pulses_on i calls) ≤ now + 10000
+        pub ahead : whole_of (pulses_on i calls) ≤ now + 14000
         pub soon : now ≤ whole_of (pulses_on i calls) + 100000
         pub low : 10000 ≤ whole_of (pulses_on i calls)
 
@@ -373,11 +373,11 @@ module _ (new : Keeping) (start : ℕ) (begins : AreLinesAt new new (λ i. []) s
           of (Some y) e agree =
               let l = (lines_after new start begins calls now order).lines i small in
               let keeps = kept_by i small y e in
-              let h = subst (λ (o : Option KeptClaim). IfKept (IsEndAt (pulses_on i calls) (last_tick start calls) now) (after_calls new calls).rules o (pulses_on i calls)) keeps.0 l.kept in
+              let h = subst (λ (o : Option KeptClaim). IfKept (IsEndAt (pulses_on i calls) (last_tick start calls) now) (after_calls new calls).clock.within.us (after_calls new calls).clock.drift_us (after_calls new calls).rules o (pulses_on i calls)) keeps.0 l.kept in
               let whole : h.0 ≡ whole_of (pulses_on i calls) = h.3.2 in
               let ends : y.end_us ≡ whole_of (pulses_on i calls) % 2 ^ 32 = h.1 ∙ ap (λ (x : ℕ). x % 2 ^ 32) whole in
-              let ahead : whole_of (pulses_on i calls) ≤ now + 10000 = omega (arith, whole, h.3.0) in
-              let turn : now + 10000 < whole_of (pulses_on i calls) + 2 ^ 32 = omega (arith, whole, h.3.1, order.1) in
+              let ahead : whole_of (pulses_on i calls) ≤ now + 14000 = omega (arith, whole, h.3.0) in
+              let turn : now + 14000 < whole_of (pulses_on i calls) + 2 ^ 32 = omega (arith, whole, h.3.1, order.1) in
               let both = split (same_claim x.claim y.claim) (nat_le (clock_gap x.end_us y.end_us) window) agree in
               record {
                 y = y;
@@ -394,7 +394,7 @@ module _ (new : Keeping) (start : ℕ) (begins : AreLinesAt new new (λ i. []) s
       -- so the candidate ended at this time
       pub record EndsAt (end : ℕ) : Type 0 where
         pub clock : x.end_us ≡ end % 2 ^ 32
-        pub ahead : end ≤ now + 10000
+        pub ahead : end ≤ now + 14000
         pub soon : now ≤ end + 101000
         pub low : 9000 ≤ end
 
@@ -454,7 +454,7 @@ module _ (new : Keeping) (start : ℕ) (begins : AreLinesAt new new (λ i. []) s
         let few = leb-true (clock_gap v.edge_us (now % 2 ^ 32)) 100000 there.1 in
         has_come_so v.edge_us lies.edge lies.clock (omega (arith, lies.most, end.1.ahead, narrows)) (omega (arith, lies.least, end.1.soon)) few
       where
-        has_come_so : (e edge : ℕ) → e ≡ edge % 2 ^ 32 → edge ≤ now + 11000 → now ≤ edge + 101000 → clock_gap e (now % 2 ^ 32) ≤ 100000 → (edge ≤ now) × (now ≤ edge + 100000)
+        has_come_so : (e edge : ℕ) → e ≡ edge % 2 ^ 32 → edge ≤ now + 15000 → now ≤ edge + 101000 → clock_gap e (now % 2 ^ 32) ≤ 100000 → (edge ≤ now) × (now ≤ edge + 100000)
         has_come_so e edge clock ahead soon few = (omega (arith, clock, ahead, soon, few), omega (arith, clock, ahead, soon, few))
 
     at_edge : IsEdgeAt v.edge_us lies.edge now
@@ -535,7 +535,7 @@ module _ (new : Keeping) (start : ℕ) (begins : AreLinesAt new new (λ i. []) s
     k = after_calls new calls
 
     abbrev s : ClockState
-    s = settled_at k.state (now % 2 ^ 32)
+    s = settled_at k.clock k.state (now % 2 ^ 32)
 
     abbrev tick : ℕ
     tick = last_tick start calls

@@ -1,8 +1,8 @@
 -- The edge on which lines agree, by its parts: the frame that agrees with enough others and ends
 -- first, and two times behind its end.
 use Rattle.std.specs.Prelude.{◌&&◌, count_by, nat_le, nat_lt, min, max}
-use Rattle.std.proofs.Common.{◌≡◌, ◌∙◌, ℕ, zero, suc, ◌+◌, ◌-◌, ◌*◌, ◌%◌, ◌^◌, ◌<◌, ◌≤◌, Bool, true, false, cond, List, [], ◌∷◌, Option, Some, None, refl, sym, ap, subst, arith, inl, inr}
-use Rattle.std.proofs.lemmas.Bool.{cases_Bool, cases_lt, ltb-true, lt-ltb, leb-true}
+use Rattle.std.proofs.Common.{◌≡◌, ℕ, ◌+◌, ◌^◌, ◌<◌, ◌≤◌, Bool, true, false, cond, List, [], ◌∷◌, Option, Some, None, refl, sym, subst, arith, inl, inr}
+use Rattle.std.proofs.lemmas.Bool.{cases_lt, ltb-true, leb-true}
 use Rattle.irig_sync.specs.Sync.{clock_gap}
 use Rattle.irig_time.specs.Claims.{same_claim}
 use Rattle.irig_vote.specs.Vote.{f_of}

@@ -34,6 +34,7 @@ use Rattle.irig_timekeeper.specs.Life.{Call, Made, after_calls, device_of, life_
 use Rattle.irig_timekeeper.specs.Life.Call.{Hear, Tick}
 use Rattle.irig_timekeeper.specs.Since.{unless_voted, since_answer, since_vote, HasItsBound}
 use Rattle.irig_timekeeper.proofs.BoundLaws.{answer_bound}
+use Rattle.irig_timekeeper.proofs.DoubtedSteps.{rule_announces}
 use Rattle.irig_timekeeper.proofs.StampLaws.{leaves_told, served_by, stays_behind, kept_second}
 
 -- ---- the age of a hold
@@ -130,7 +131,7 @@ module _ (c : ClockRules) (table : TableValue) (s : ClockState) (since : ℕ) (a
         aged = subst (IsAged (unless_voted (step_to c table s n vote).report.cause (since + (n - 1) + 1))) same is.aged;
         lasts = λ b u e says.
             let beat : beat_by c s (step_to c table s n vote) (n - 1) edge voted ≡ b = cc in
-            ap (λ (x : Beat). lasted x.report.lock) (sym beat) ∙ is.lasts u (ap (λ (x : Beat). x.report.announce) beat ∙ says);
+            ap (λ (x : Beat). lasted x.report.lock) (sym beat) ∙ is.lasts u (rule_announces s.doubt vote (step_behind c.reader_rules table (n - 1) s.reader vote).report.announce u (ap (λ (x : Beat). x.report.announce) beat ∙ says));
       }
 
   since_own : (n : ℕ) → IsSinceTick since (after_own c table s n) (answer_alone c table s n)
@@ -143,7 +144,7 @@ since_tick : (k : Keeping) (clock since : ℕ) → IsAged since k.state.reader �
 since_tick k clock since aged = of (vote_at k clock)
   where
     s : ClockState
-    s = settled_at k.state clock
+    s = settled_at k.clock k.state clock
 
     of : (o : Option Vote) → IsSinceTick since (clock_by k.clock k.table s clock o) (answer_by k.clock k.table s clock o)
     of None = let h = since_own k.clock k.table s since aged (edges_own k.state.edge_us clock) in record { aged = h.aged; lasts = h.lasts }

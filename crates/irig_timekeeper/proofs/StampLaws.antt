@@ -72,7 +72,7 @@ pub leaves_told : (k : Keeping) (clock : ℕ) → LeavesTold k.state (after_tick
 leaves_told k clock = of (vote_at k clock)
   where
     s : ClockState
-    s = settled_at k.state clock
+    s = settled_at k.clock k.state clock
 
     of : (o : Option Vote) → LeavesTold k.state (clock_by k.clock k.table s clock o) (answer_by k.clock k.table s clock o)
     of None = let l = leaves_own k.clock k.table s (edges_own k.state.edge_us clock) in record { same = l.same; told = l.told }
@@ -144,7 +144,7 @@ module _ (new : Keeping) (start : ℕ) (begun : AreLinesAt new new (λ i. []) st
     k = after_calls new calls
 
     abbrev s : ClockState
-    s = record (settled_at k.state (now % 2 ^ 32)) { edge_us = Some e }
+    s = record (settled_at k.clock k.state (now % 2 ^ 32)) { edge_us = Some e }
 
     ordered : last_tick start calls ≤ now
     ordered = order.0
@@ -183,10 +183,10 @@ module _ (new : Keeping) (start : ℕ) (begun : AreLinesAt new new (λ i. []) st
             (subst (λ (c : List Call). vote_at (after_calls new c) (now % 2 ^ 32) ≡ Some v) set.are voted) at
 
     pub fresh_tick : k.state.edge_us ≡ Some e → answer_at k (now % 2 ^ 32) ≡ None → StaysFresh A (Tick now ∷ calls) (after_tick k (now % 2 ^ 32)).state.edge_us
-    fresh_tick edge none = of (vote_at k (now % 2 ^ 32)) refl (settled_at k.state (now % 2 ^ 32)) same none
+    fresh_tick edge none = of (vote_at k (now % 2 ^ 32)) refl (settled_at k.clock k.state (now % 2 ^ 32)) same none
       where
-        same : settled_at k.state (now % 2 ^ 32) ≡ s
-        same = ap (λ (o : Option ℕ). record (settled_at k.state (now % 2 ^ 32)) { edge_us = o }) edge
+        same : settled_at k.clock k.state (now % 2 ^ 32) ≡ s
+        same = ap (λ (o : Option ℕ). record (settled_at k.clock k.state (now % 2 ^ 32)) { edge_us = o }) edge
 
         of : (o : Option Vote) → vote_at k (now % 2 ^ 32) ≡ o → (x : ClockState) → x ≡ s → answer_by k.clock k.table x (now % 2 ^ 32) o ≡ None → StaysFresh A (Tick now ∷ calls) (clock_by k.clock k.table x (now % 2 ^ 32) o).edge_us
         of None e x is none = subst (λ (y : ClockState). answer_by k.clock k.table y (now % 2 ^ 32) None ≡ None → StaysFresh A (Tick now ∷ calls) (clock_by k.clock k.table y (now % 2 ^ 32) None).edge_us) (sym is) (fresh_own _ refl) none
@@ -226,10 +226,10 @@ module _ (new : Keeping) (start : ℕ) (begun : AreLinesAt new new (λ i. []) st
     ]
 
     pub next_edge : k.state.edge_us ≡ Some e → (b : Beat) → answer_at k (now % 2 ^ 32) ≡ Some b → (B : ℕ) → IsEdgeAt b.edge_us B now → ComesBy Put b.missed f.x B
-    next_edge edge b answer B at = of (vote_at k (now % 2 ^ 32)) refl (settled_at k.state (now % 2 ^ 32)) same answer
+    next_edge edge b answer B at = of (vote_at k (now % 2 ^ 32)) refl (settled_at k.clock k.state (now % 2 ^ 32)) same answer
       where
-        same : settled_at k.state (now % 2 ^ 32) ≡ s
-        same = ap (λ (o : Option ℕ). record (settled_at k.state (now % 2 ^ 32)) { edge_us = o }) edge
+        same : settled_at k.clock k.state (now % 2 ^ 32) ≡ s
+        same = ap (λ (o : Option ℕ). record (settled_at k.clock k.state (now % 2 ^ 32)) { edge_us = o }) edge
 
         of : (o : Option Vote) → vote_at k (now % 2 ^ 32) ≡ o → (x : ClockState) → x ≡ s → answer_by k.clock k.table x (now % 2 ^ 32) o ≡ Some b → ComesBy Put b.missed f.x B
         of None e x is answer = next_own _ refl b B at (subst (λ (y : ClockState). answer_by k.clock k.table y (now % 2 ^ 32) None ≡ Some b) is answer)
@@ -241,7 +241,7 @@ stays_behind k port rise width = elim (cases_Bool (is_pulse width)) [ inl narrow
 
 -- without a vote no first edge comes
 none_stays : (k : Keeping) (clock : ℕ) → k.state.edge_us ≡ None → answer_at k clock ≡ None → (after_tick k clock).state.edge_us ≡ None
-none_stays k clock edge none = of (vote_at k clock) (settled_at k.state clock) edge none
+none_stays k clock edge none = of (vote_at k clock) (settled_at k.clock k.state clock) edge none
   where
     of : (o : Option Vote) (s : ClockState) → s.edge_us ≡ None → answer_by k.clock k.table s clock o ≡ None → (clock_by k.clock k.table s clock o).edge_us ≡ None
     of None s edge none = own (s.edge_us) edge

@@ -25,11 +25,11 @@ known_own = (refl, refl, refl, refl, refl)
 pub known_to : (edges_to 4294000000 4294499999 ≡ 0) × (edges_to 4294000000 4294500000 ≡ 1) × (edges_to 4294000000 532703 ≡ 1) × (edges_to 4294000000 532704 ≡ 2) × (edges_to_vote None 7 ≡ 1)
 known_to = (refl, refl, refl, refl, refl)
 
--- a frame may be taken from its end on, for 100 ms; it is kept from 10 ms before
+-- a frame may be taken from its end on, for 100 ms; it is kept from 14 ms before
 pub known_come : (has_come 4294967000 99704 ≡ true) × (has_come 4294967000 99705 ≡ false) × (has_come 10 9 ≡ false) × (has_come 10 10 ≡ true)
 known_come = (refl, refl, refl, refl)
 
-pub known_late : (is_late 4294967000 99704 ≡ false) × (is_late 4294967000 99705 ≡ true) × (is_late 20000 10000 ≡ false) × (is_late 20001 10000 ≡ true)
+pub known_late : (is_late 4294967000 99704 ≡ false) × (is_late 4294967000 99705 ≡ true) × (is_late 24000 10000 ≡ false) × (is_late 24001 10000 ≡ true)
 known_late = (refl, refl, refl, refl)
 
 -- at 100 us a second 4,898 seconds of holdover are the most

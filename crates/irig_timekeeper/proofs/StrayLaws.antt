@@ -1,10 +1,10 @@
 -- While lines are true and the counter keeps its setting, the true edge lies in the interval that all
--- votes leave, and no vote contradicts it.
+-- votes leave, no vote contradicts it, and no frames tell that the counter is unsteady.
 use Rattle.std.specs.Prelude.{◌==◌, nat_le, nat_lt, min}
-use Rattle.std.proofs.Common.{◌≡◌, ◌∙◌, ◌⊎◌, ℕ, zero, suc, ◌+◌, ◌-◌, ◌*◌, ◌/◌, ◌%◌, ◌^◌, ◌<◌, ◌≤◌, Bool, true, false, cond, List, [], ◌∷◌, Option, Some, None, refl, sym, ap, subst, arith, inl, inr}
+use Rattle.std.proofs.Common.{◌≡◌, ◌∙◌, ◌⊎◌, ℕ, ◌+◌, ◌-◌, ◌*◌, ◌%◌, ◌^◌, ◌<◌, ◌≤◌, Bool, true, false, cond, List, [], ◌∷◌, Option, Some, None, refl, sym, ap, subst, arith, inl, inr}
 use Rattle.std.specs.Option.{ForSome}
 use Rattle.std.proofs.Math.Nat.{mul-le-mul_left}
-use Rattle.std.proofs.lemmas.Bool.{cases_Bool, cases_lt, eqb-true, eqb-false, ltb-true, ltb-false, leb-true, leb-false, lt-ltb}
+use Rattle.std.proofs.lemmas.Bool.{cases_Bool, cases_lt, eqb-true, eqb-false, leb-true}
 use Rattle.irig_sync.specs.Sync.{clock_gap}
 use Rattle.irig_timekeeper.specs.declared.interval.Interval.{Interval}
 use Rattle.irig_timekeeper.specs.declared.lines.Vote.{Vote}
@@ -13,19 +13,20 @@ use Rattle.irig_timekeeper.specs.Counting.{edges_between, edges_to_vote, edges_o
 use Rattle.irig_time.specs.Timelines.{TimelineValue}
 use Rattle.irig_timekeeper.specs.Intervals.{LiesBetween, AreNear, by_vote, carried, carried_on, common_from, common, or_alone, cut, is_nothing, contradicts}
 use Rattle.irig_timekeeper.specs.Truth.{IsTrueVote, IsEdgeAt, IsDevice}
-use Rattle.irig_time.specs.Tables.{TableValue}
 use Rattle.irig_timekeeper.specs.declared.clock.ClockState.{ClockState}
 use Rattle.irig_timekeeper.specs.declared.setup.ClockRules.{ClockRules}
 use Rattle.irig_sync.specs.Lines.{Pulse}
-use Rattle.irig_time.specs.declared.rules.Rules.{Rules}
 use Rattle.irig_vote.specs.Vote.{f_of}
-use Rattle.irig_timekeeper.specs.Clock.{own_edge, after_own, after_vote, knowing, knowing_vote, clock_by, settled_at}
-use Rattle.irig_timekeeper.specs.Steps.{is_pulse, settled, agreed, if_come}
+use Rattle.irig_timekeeper.specs.Lines.{IsTrueLately}
+use Rattle.irig_timekeeper.specs.Clock.{own_edge, after_own, after_vote, knowing, knowing_vote, doubted_s, clock_by, settled_at, is_unsteady}
+use Rattle.irig_timekeeper.specs.Steps.{is_pulse, line_at, settled, agreed, if_come}
 use Rattle.irig_timekeeper.specs.Keeping.{Keeping, vote_at, after_pulse, after_tick}
 use Rattle.irig_timekeeper.specs.Life.{Call, Made, after_calls, device_of, life_of, last_tick, pulses_on, AreInOrder, AreTrueLately, AreTrueAtTicks, LivesTruly}
 use Rattle.irig_timekeeper.specs.Life.Call.{Hear, Tick}
 use Rattle.irig_timekeeper.proofs.VoteLaws.{vote_is_true}
-use Rattle.irig_timekeeper.proofs.LifeLaws.{AreLinesAt, TellAlwaysTruly, begins, heard_truly, lines_after}
+use Rattle.irig_timekeeper.proofs.LineLaws.{true_lately}
+use Rattle.irig_timekeeper.proofs.LifeLaws.{AreLinesAt, TellAlwaysTruly, begins, each_new, heard_truly, lines_after}
+use Rattle.irig_timekeeper.proofs.EvenLaws.{stays_steady}
 use Rattle.irig_timekeeper.proofs.TimeLaws.{own_come, own_count, still_edge, own_edge_at, voted_count}
 use Rattle.irig_timekeeper.proofs.CountingLaws.{apart, counts, rises}
 
@@ -376,9 +377,11 @@ abbrev pub IfEdge : (ℕ → ℕ) → ℕ → Option ℕ → Option Interval →
 IfEdge edges tick None known = known ≡ None
 IfEdge edges tick (Some e) known = (edge : ℕ) × (w : ℕ) × IsEdgeAt e edge tick × IfKnown edges edge w known
 
--- its last edge is that of a tick, in what is known lies a true one, and no vote contradicted it
+-- its last edge is that of a tick, in what is known lies a true one, no vote contradicted it, and nothing
+-- is in doubt
 pub record KnowsTruly (edges : ℕ → ℕ) (tick : ℕ) (s : ClockState) : Type 0 where
   pub strays : s.strays ≡ 0
+  pub doubt : s.doubt ≡ 0
   pub known : IfEdge edges tick s.edge_us s.interval
 
 module _ (d : ℕ) (edges : ℕ → ℕ) (quartz : IsQuartz d edges) (tick now : ℕ) (order : tick ≤ now) (soon : now ≤ tick + 1800000000) where
@@ -422,8 +425,13 @@ module _ (d : ℕ) (edges : ℕ → ℕ) (quartz : IsQuartz d edges) (tick now :
 
 -- ---- a life
 
-module _ (IsTrue : ℕ → List Pulse → Type 0) (t : TimelineValue) (edges : ℕ → ℕ) (new : Keeping) (start : ℕ) (begins : AreLinesAt new new (λ i. []) start start) (is : IsDevice t new.clock.drift_us edges new.clock.reader_rules new.table)
-    (truly : TellAlwaysTruly IsTrue new.clock.within.us new.clock.drift_us new.rules t edges 0 0) where
+module _ (t : TimelineValue) (edges : ℕ → ℕ) (new : Keeping) (start : ℕ) (begins : AreLinesAt new new (λ i. []) start start) (fresh : (i : ℕ) → i < 5 → (line_at new.state.lines i).frame ≡ None) (is : IsDevice t new.clock.drift_us edges new.clock.reader_rules new.table) where
+  abbrev IsTrue : ℕ → List Pulse → Type 0
+  IsTrue = IsTrueLately new.clock.within.us new.rules t edges
+
+  truly : TellAlwaysTruly IsTrue new.clock.within.us new.clock.drift_us new.rules t edges 0 0
+  truly now end pulses claim true_line frame soon = true_lately new.clock.within new.rules t new.clock.drift_us edges now end pulses claim is.steady true_line frame soon
+
   knows_tick : (calls : List Call) (now : ℕ) → AreInOrder start new.clock.redundancy (Tick now ∷ calls) → AreTrueLately IsTrue (f_of new.clock.redundancy) now calls → KnowsTruly edges (last_tick start calls) (after_calls new calls).state
       → KnowsTruly edges now (after_tick (after_calls new calls) (now % 2 ^ 32)).state
   knows_tick calls now order lately h = of (vote_at k (now % 2 ^ 32)) refl
@@ -432,7 +440,7 @@ module _ (IsTrue : ℕ → List Pulse → Type 0) (t : TimelineValue) (edges : �
       k = after_calls new calls
 
       s : ClockState
-      s = settled_at k.state (now % 2 ^ 32)
+      s = settled_at k.clock k.state (now % 2 ^ 32)
 
       same : k.clock ≡ new.clock
       same = (lines_after new start begins calls now order).same.clock
@@ -448,26 +456,36 @@ module _ (IsTrue : ℕ → List Pulse → Type 0) (t : TimelineValue) (edges : �
           vote_is_true (IsTrue now) new.rules t new.clock edges is.steady 0 0 (omega arith) now k.state.lines (λ i. pulses_on i calls) (truly now) (heard_truly IsTrue t edges 0 0 new start begins calls now order lately) v
           (ap (λ (c : ClockRules). if_come (now % 2 ^ 32) (agreed c (settled (now % 2 ^ 32) k.state.lines))) (sym same) ∙ e)
 
+      -- frames are even
+      steady : is_unsteady k.clock k.state (now % 2 ^ 32) ≡ false
+      steady = stays_steady new start begins fresh t edges is.steady calls now order lately
+
+      strays : s.strays ≡ 0
+      strays = rw steady h.strays
+
+      doubt : s.doubt ≡ 0
+      doubt = rw steady h.doubt
+
       own : (n : ℕ) → n ≡ edges_own k.state.edge_us (now % 2 ^ 32) → KnowsTruly edges now (knowing k.clock s n (after_own k.clock k.table s n))
       own n count =
           let known = own_edge_known k.clock.drift_us edges quartz (last_tick start calls) now order.0 soon k.state.edge_us k.state.interval h.known n count in
           by (n == 0) refl known
         where
           by : (test : Bool) → (n == 0) ≡ test → IfEdge edges now (cond test k.state.edge_us (Some (own_edge k.state.edge_us n))) (carried_on k.clock.drift_us n k.state.interval) → KnowsTruly edges now (knowing k.clock s n (after_own k.clock k.table s n))
-          by true e known = rw e (record { strays = h.strays; known = known })
-          by false e known = rw e (record { strays = h.strays; known = known })
+          by true e known = rw e (record { strays = strays; doubt = doubt; known = known })
+          by false e known = rw e (record { strays = strays; doubt = doubt; known = known })
 
-      no_more : (strays : ℕ) (more : Bool) → strays ≡ 0 → more ≡ false → (strays + cond more 1 0) % 2 ^ 32 ≡ 0
-      no_more strays more none same = rw (none, same) refl
+      no_more : (x : ClockState) (more : Bool) (n : ℕ) → more ≡ false → x.strays ≡ 0 → x.doubt ≡ 0 → (cond more ((x.strays + 1) % 2 ^ 32) x.strays ≡ 0) × (cond more (doubted_s k.clock) (x.doubt - n) ≡ 0)
+      no_more x more n same strays doubt = rw same (strays, omega (arith, doubt))
 
       by_true : (v : Vote) (vote : IsTrueVote t edges 0 0 now v) (n : ℕ) → n ≡ edges_to_vote k.state.edge_us v.edge_us → KnowsTruly edges now (knowing_vote k.clock s v n (after_vote k.clock k.table s v n))
       by_true v vote n count =
           let on = voted k.clock.drift_us edges quartz (last_tick start calls) now order.0 soon t v vote k.state.edge_us k.state.interval h.known n count in
           let known : IfEdge edges now (Some v.edge_us) (Some (cut (carried_on k.clock.drift_us n k.state.interval) (by_vote v))) = (vote.edge, vote.truth.second + 1, record { clock = vote.clock; come = vote.come; soon = omega (arith, vote.soon) }, on.knows) in
-          let none = no_more k.state.strays (contradicts (carried_on k.clock.drift_us n k.state.interval) (by_vote v)) h.strays on.agrees in
+          let none = no_more s (contradicts (carried_on k.clock.drift_us n k.state.interval) (by_vote v)) n on.agrees strays doubt in
           elim (cases_Bool (n == 0)) [
-            | inl waits ↦ rw waits (record { strays = none; known = known })
-            | inr more ↦ rw more (record { strays = none; known = known })
+            | inl waits ↦ rw waits (record { strays = none.0; doubt = none.1; known = known })
+            | inr more ↦ rw more (record { strays = none.0; doubt = none.1; known = known })
           ]
 
       of : (o : Option Vote) → vote_at k (now % 2 ^ 32) ≡ o → KnowsTruly edges now (clock_by k.clock k.table s (now % 2 ^ 32) o)
@@ -475,15 +493,29 @@ module _ (IsTrue : ℕ → List Pulse → Type 0) (t : TimelineValue) (edges : �
       of (Some v) e = by_true v (true_vote v e) (edges_to_vote k.state.edge_us v.edge_us) refl
 
   hears_on : (tick port rise width : ℕ) (k : Keeping) → KnowsTruly edges tick k.state → KnowsTruly edges tick (after_pulse k port (rise % 2 ^ 32) width).state
-  hears_on tick port rise width k h = elim (cases_Bool (is_pulse width)) [ inl narrow ↦ rw narrow (record { strays = h.strays; known = h.known }) | inr wide ↦ rw wide h ]
+  hears_on tick port rise width k h = elim (cases_Bool (is_pulse width)) [ inl narrow ↦ rw narrow (record { strays = h.strays; doubt = h.doubt; known = h.known }) | inr wide ↦ rw wide h ]
 
   pub knows_on : KnowsTruly edges start new.state → (calls : List Call) → AreInOrder start new.clock.redundancy calls → AreTrueAtTicks IsTrue (f_of new.clock.redundancy) calls → KnowsTruly edges (last_tick start calls) (after_calls new calls).state
   knows_on from [] order truth = from
   knows_on from (Hear port rise width ∷ calls) order truth = hears_on (last_tick start calls) port rise width (after_calls new calls) (knows_on from calls order.2 truth)
   knows_on from (Tick now ∷ calls) order truth = knows_tick calls now order truth.0 (knows_on from calls order.3 truth.1)
 
--- from the beginning: no vote ever contradicts those before it
-pub never_strays : (IsTrue : Rules → TimelineValue → (ℕ → ℕ) → ℕ → List Pulse → Type 0) (t : TimelineValue) (edges : ℕ → ℕ) (made : Made) (start : ℕ) (calls : List Call) → LivesTruly IsTrue t edges made start calls
-    → TellAlwaysTruly (IsTrue made.rules t edges) made.clock.within.us made.clock.drift_us made.rules t edges 0 0 → (life_of made calls).state.strays ≡ 0
-never_strays IsTrue t edges made start calls lives truly =
-    (knows_on (IsTrue made.rules t edges) t edges (device_of made) start (begins made.limits made.rules made.clock made.table made.lines start made.fresh) lives.is truly (record { strays = refl; known = refl }) calls lives.order lives.truth).strays
+-- from the beginning: no vote ever contradicts those before it, no frames tell that the counter is
+-- unsteady, and nothing is in doubt
+module _ (t : TimelineValue) (edges : ℕ → ℕ) (made : Made) (start : ℕ) (calls : List Call) (lives : LivesTruly (IsTrueLately made.clock.within.us) t edges made start calls) where
+  keeps_none : (i : ℕ) → i < 5 → (line_at made.lines i).frame ≡ None
+  keeps_none i low = (each_new made.lines made.fresh i low).frame
+
+  knows : KnowsTruly edges (last_tick start calls) (life_of made calls).state
+  knows = knows_on t edges (device_of made) start (begins made.limits made.rules made.clock made.table made.lines start made.fresh) keeps_none lives.is (record { strays = refl; doubt = refl; known = refl }) calls lives.order lives.truth
+
+  pub never_strays : (life_of made calls).state.strays ≡ 0
+  never_strays = knows.strays
+
+  pub never_doubts : (life_of made calls).state.doubt ≡ 0
+  never_doubts = knows.doubt
+
+-- at a tick of such a life the counter is not found unsteady
+pub never_unsteady : (t : TimelineValue) (edges : ℕ → ℕ) (made : Made) (start : ℕ) (calls : List Call) (now : ℕ) → LivesTruly (IsTrueLately made.clock.within.us) t edges made start (Tick now ∷ calls) → is_unsteady (life_of made calls).clock (life_of made calls).state (now % 2 ^ 32) ≡ false
+never_unsteady t edges made start calls now lives =
+    stays_steady (device_of made) start (begins made.limits made.rules made.clock made.table made.lines start made.fresh) (λ i low. (each_new made.lines made.fresh i low).frame) t edges lives.is.steady calls now lives.order lives.truth.0

@@ -9,10 +9,10 @@ use Rattle.irig_timekeeper.specs.Keeping.{Keeping, heard_by, with_heard, with_li
 pub pulse_by : (k : Keeping) (port rise width place : ℕ) → place ≡ place_of (line_at k.state.lines port).sync rise width
     → record k {
       heard = with_heard k.heard port (heard_at place (heard_by k.heard port) width);
-      state = with_lines k.state (with_line k.state.lines port (line_heard (line_at k.state.lines port) rise width (told_within k.limits k.rules (heard_at place (heard_by k.heard port) width))));
+      state = with_lines k.state (with_line k.state.lines port (line_heard k.clock (line_at k.state.lines port) rise width (told_within k.limits k.rules (heard_at place (heard_by k.heard port) width))));
     } ≡ one_pulse_more k port rise width
 pulse_by k port rise width place e =
     ap (λ (n : ℕ). record k {
       heard = with_heard k.heard port (heard_at n (heard_by k.heard port) width);
-      state = with_lines k.state (with_line k.state.lines port (line_heard (line_at k.state.lines port) rise width (told_within k.limits k.rules (heard_at n (heard_by k.heard port) width))));
+      state = with_lines k.state (with_line k.state.lines port (line_heard k.clock (line_at k.state.lines port) rise width (told_within k.limits k.rules (heard_at n (heard_by k.heard port) width))));
     }) e

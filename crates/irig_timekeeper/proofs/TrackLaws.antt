@@ -8,7 +8,6 @@ use Rattle.irig_time.specs.Timelines.{TimelineValue, IsSecond, truth_at}
 use Rattle.irig_time.specs.Tables.{TableValue}
 use Rattle.irig_time.proofs.SecondAt.{claim_is}
 use Rattle.irig_reader.specs.declared.rules.ReaderRules.{ReaderRules}
-use Rattle.irig_reader.specs.declared.report.Report.{Report}
 use Rattle.irig_reader.specs.declared.report.Cause.TheVariants as cause
 use Rattle.irig_reader.specs.declared.rule.State.{State}
 use Rattle.irig_reader.specs.declared.rule.State.TheVariants.{Idle, Locked}
@@ -32,6 +31,7 @@ use Rattle.irig_timekeeper.proofs.VoteLaws.{TellsTruly, vote_is_true}
 use Rattle.irig_timekeeper.proofs.CountingLaws.{apart, counts, rises}
 use Rattle.irig_timekeeper.proofs.TimeLaws.{own_come, own_count, still_edge, own_edge_at, voted_count}
 use Rattle.irig_timekeeper.proofs.AgeLaws.{alone_step, gone, gone_idle, missed_idle}
+use Rattle.irig_timekeeper.proofs.DoubtedSteps.{rule_announces}
 use Rattle.irig_timekeeper.proofs.SureSteps.{IsSureStep, sure_step, missed_surely}
 
 -- it announces a later second than the last one, and stands there
@@ -307,17 +307,17 @@ module _ (t : TimelineValue) (d : ℕ) (edges : ℕ → ℕ) (early late : ℕ) 
               )
         ]
 
-        says_alone : (b : Beat) (u : UtcSecond) → b.edge_us ≡ edge_behind e n → b.bound_us ≡ bound_of d voted b.report.lock → last.report ≡ b.report → b.report.announce ≡ Some u → M ≤ w → IsToldNewly t d edges early late M rules table now b u last.state voted (Some (edge_behind e n))
-        says_alone b u is_edge is_bound reports says low = elim (alone_step rules table (missed rules table (n - 1) s)) [
-          | inl stop ↦ absurd (let both : None ≡ Some u = sym stop.1 ∙ ap (λ (r : Report). r.announce) reports ∙ says in cc)
+        says_alone : (b : Beat) (u : UtcSecond) → b.edge_us ≡ edge_behind e n → b.bound_us ≡ bound_of d voted b.report.lock → last.report.lock ≡ b.report.lock → last.report.announce ≡ Some u → M ≤ w → IsToldNewly t d edges early late M rules table now b u last.state voted (Some (edge_behind e n))
+        says_alone b u is_edge is_bound locks says low = elim (alone_step rules table (missed rules table (n - 1) s)) [
+          | inl stop ↦ absurd (let both : None ≡ Some u = sym stop.1 ∙ says in cc)
           | inr older ↦ elim (gone rules table (n - 1) s) [
             | inl idle ↦ absurd (let both : Idle ≡ Locked older.locked.h = sym idle ∙ older.locked.is in cc)
             | inr gone ↦
                 let before = missed_surely t rules table is.sound is.knows w (n - 1) s truth in
                 let reached : w + (n - 1) + 1 ≡ w + n = omega (arith, some) in
-                let second = (sure_step t rules table is.sound is.knows (w + (n - 1)) (missed rules table (n - 1) s) None before (inl refl)).says u (ap (λ (r : Report). r.announce) reports ∙ says) in
+                let second = (sure_step t rules table is.sound is.knows (w + (n - 1)) (missed rules table (n - 1) s) None before (inl refl)).says u says in
                 let age : older.locked.h.age ≡ gone.h.age = ap age_of (sym older.locked.is ∙ gone.is) in
-                let lasts : lasted b.report.lock ≡ age_of (missed rules table (n - 1) s) + 1 = ap (λ (r : Report). lasted r.lock) (sym reports) ∙ ap lasted older.says in
+                let lasts : lasted b.report.lock ≡ age_of (missed rules table (n - 1) s) + 1 = ap lasted (sym locks ∙ older.says) in
                 let held : a + n ≤ lasted b.report.lock = omega (arith, lasts, older.locked.older, age, gone.older, young, one_more) in
                 let drifts = mul-le-mul_left d held in
                 record {
@@ -377,14 +377,14 @@ module _ (t : TimelineValue) (d : ℕ) (edges : ℕ → ℕ) (early late : ℕ) 
         stands_alone tick now order soon e stands.edge stands.at s n (same ∙ own_count tick now order soon e stands.edge stands.at) some voted at.0 at.1 stands.near stands.small stands.truth stands.young stands.few stands.behind
 
     own_says : (voted : ℕ) (o : Option ℕ) (s : State) → IsOnTrack t edges early late d M rules table tick s voted o → (n : ℕ) → n ≡ edges_own o (now % 2 ^ 32) → 1 ≤ n → (b : Beat) (u : UtcSecond) → b.edge_us ≡ own_edge o n → b.bound_us ≡ bound_of d voted b.report.lock
-        → (step_behind rules table (n - 1) s None).report ≡ b.report → b.report.announce ≡ Some u → IsToldNewly t d edges early late M rules table now b u (step_behind rules table (n - 1) s None).state voted (Some (own_edge o n))
-    own_says voted None s idle n same some b u is_edge is_bound reports says = absurd (omega (arith, same, some))
-    own_says voted (Some e) s (inl idle) n same some b u is_edge is_bound reports says =
+        → (step_behind rules table (n - 1) s None).report.lock ≡ b.report.lock → (step_behind rules table (n - 1) s None).report.announce ≡ Some u → IsToldNewly t d edges early late M rules table now b u (step_behind rules table (n - 1) s None).state voted (Some (own_edge o n))
+    own_says voted None s idle n same some b u is_edge is_bound locks says = absurd (omega (arith, same, some))
+    own_says voted (Some e) s (inl idle) n same some b u is_edge is_bound locks says =
         let at = idle.1 in
-        absurd (let both : None ≡ Some u = sym (idle_says tick now order soon e at.0 at.1 s n (same ∙ own_count tick now order soon e at.0 at.1) some idle.0) ∙ ap (λ (r : Report). r.announce) reports ∙ says in cc)
-    own_says voted (Some e) s (inr at) n same some b u is_edge is_bound reports says =
+        absurd (let both : None ≡ Some u = sym (idle_says tick now order soon e at.0 at.1 s n (same ∙ own_count tick now order soon e at.0 at.1) some idle.0) ∙ says in cc)
+    own_says voted (Some e) s (inr at) n same some b u is_edge is_bound locks says =
         let stands = at.2 in
-        says_alone tick now order soon e stands.edge stands.at s n (same ∙ own_count tick now order soon e stands.edge stands.at) some voted at.0 at.1 stands.near stands.small stands.truth stands.young stands.few b u is_edge is_bound reports says stands.behind
+        says_alone tick now order soon e stands.edge stands.at s n (same ∙ own_count tick now order soon e stands.edge stands.at) some voted at.0 at.1 stands.near stands.small stands.truth stands.young stands.few b u is_edge is_bound locks says stands.behind
 
   -- by the own counter it tells no jump
   own_calm : (voted : ℕ) (o : Option ℕ) (s : State) (tick : ℕ) → IsOnTrack t edges early late d M rules table tick s voted o → (n : ℕ) → ¬ ((step_behind rules table n s None).report.cause ≡ cause.Jump)
@@ -449,7 +449,8 @@ module _ (t : TimelineValue) (edges : ℕ → ℕ) (early late : ℕ) (c : Clock
               told = λ b u e says.
                   let beat : b ≡ beat_by c s (step_to c table s n None) (n - 1) (own_edge s.edge_us n) s.bound_us = cc in
                   own_says t c.drift_us edges early late c.reader_rules table is room M tick now order soon s.bound_us s.edge_us s.reader on n same some b u (ap (λ (x : Beat). x.edge_us) beat)
-                  (ap (λ (x : Beat). x.bound_us) beat ∙ ap (λ (x : Beat). bound_of c.drift_us s.bound_us x.report.lock) (sym beat)) (sym (ap (λ (x : Beat). x.report) beat)) says;
+                  (ap (λ (x : Beat). x.bound_us) beat ∙ ap (λ (x : Beat). bound_of c.drift_us s.bound_us x.report.lock) (sym beat)) (sym (ap (λ (x : Beat). x.report.lock) beat))
+                  (rule_announces s.doubt None (step_behind c.reader_rules table (n - 1) s.reader None).report.announce u (sym (ap (λ (x : Beat). x.report.announce) beat) ∙ says));
               calm = λ b e jumps.
                   let beat : b ≡ beat_by c s (step_to c table s n None) (n - 1) (own_edge s.edge_us n) s.bound_us = cc in
                   own_calm t c.drift_us edges early late c.reader_rules table is room M s.bound_us s.edge_us s.reader tick on (n - 1) (sym (ap (λ (x : Beat). x.report.cause) beat) ∙ jumps);
@@ -459,12 +460,12 @@ module _ (t : TimelineValue) (edges : ℕ → ℕ) (early late : ℕ) (c : Clock
 -- with what its lines brought
 pub tick_true : (IsTrue : List Pulse → Type 0) (t : TimelineValue) (edges : ℕ → ℕ) (early late : ℕ) (k : Keeping) (M tick now : ℕ) (pulses : ℕ → List Pulse) → early + late ≤ 3002 → TellsTruly IsTrue k.clock.within.us k.clock.drift_us k.rules t edges early late now
     → IsDevice t k.clock.drift_us edges k.clock.reader_rules k.table → tick ≤ now → now ≤ tick + 1800000000
-    → IsOnTrack t edges early late k.clock.drift_us M k.clock.reader_rules k.table tick k.state.reader k.state.bound_us k.state.edge_us → AreHeardTruly IsTrue k.rules (f_of k.clock.redundancy) now k.state.lines pulses
+    → IsOnTrack t edges early late k.clock.drift_us M k.clock.reader_rules k.table tick k.state.reader k.state.bound_us k.state.edge_us → AreHeardTruly IsTrue k.clock.within.us k.clock.drift_us k.rules (f_of k.clock.redundancy) now k.state.lines pulses
     → KeepsTrue t k.clock.drift_us edges early late M k.clock.reader_rules k.table now (after_tick k (now % 2 ^ 32)).state (answer_at k (now % 2 ^ 32))
 tick_true IsTrue t edges early late k M tick now pulses room truly is order soon on heard = of (vote_at k (now % 2 ^ 32)) refl
   where
     s : ClockState
-    s = settled_at k.state (now % 2 ^ 32)
+    s = settled_at k.clock k.state (now % 2 ^ 32)
 
     of : (v : Option Vote) → vote_at k (now % 2 ^ 32) ≡ v → KeepsTrue t k.clock.drift_us edges early late M k.clock.reader_rules k.table now (clock_by k.clock k.table s (now % 2 ^ 32) v) (answer_by k.clock k.table s (now % 2 ^ 32) v)
     of None e =

@@ -83,7 +83,7 @@ IsClaimOfUtc kept = IfSome kept (λ k. IsValid k.claim.at)
 claim_valid : (frame : Option KeptFrame) → IsKeptOfUtc frame → IsClaimOfUtc (claim_kept frame)
 unfolding IsClaimOfUtc
 claim_valid None v = tt
-claim_valid (Some x) v = of x.told v
+claim_valid (Some x) v = either IsClaimOfUtc x.is_even (claim_told x.told x.end_us) None (of x.told v) tt
   where
     of : (told : Told) → IfClaim told (λ c. IsValid c.at) → IsClaimOfUtc (claim_told told x.end_us)
     of (tells.Claim c) v = v

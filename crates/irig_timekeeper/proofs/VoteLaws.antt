@@ -4,6 +4,7 @@ use Rattle.std.proofs.Common.{drop}
 use Rattle.std.proofs.Common.{◌≡◌, ◌∙◌, ℕ, zero, suc, ◌+◌, ◌-◌, ◌*◌, ◌/◌, ◌%◌, ◌^◌, ◌<◌, ◌≤◌, Bool, true, false, cond, List, [], ◌∷◌, Option, Some, None, refl, sym, ap, subst, arith, inl, inr}
 use Rattle.std.proofs.lemmas.Bool.{cases_lt, ltb-true, ltb-false, leb-true}
 use Rattle.irig_sync.specs.Lines.{Pulse}
+use Rattle.irig_sync.specs.Edges.{element_drift}
 use Rattle.irig_sync.specs.Sync.{clock_gap}
 use Rattle.irig_time.specs.declared.rules.Rules.{Rules}
 use Rattle.irig_time.specs.declared.claim.Claim.{Claim}
@@ -23,7 +24,7 @@ use Rattle.irig_timekeeper.specs.Lines.{IsLastBefore, IsFrameOf, IfKept, IsInTur
 use Rattle.irig_timekeeper.specs.Counting.{is_late, has_come}
 use Rattle.irig_timekeeper.specs.Steps.{line_at, still_kept, settled, claim_told, claim_kept, all_kept, agrees, is_candidate, place_behind, ends_by, ends_from, agreed, if_come}
 use Rattle.irig_timekeeper.specs.Truth.{AreHeardTruly, IsTrueVote}
-use Rattle.irig_timekeeper.specs.Exactness.{window_us, end_off_us, most_vote_us}
+use Rattle.irig_timekeeper.specs.Exactness.{window_us, end_off_us, vote_us, most_drift_us, most_vote_us}
 use Rattle.irig_timekeeper.proofs.AgreeLaws.{one_agrees, kept_at, EachKept, is_one}
 use Rattle.irig_timekeeper.proofs.PartLaws.{split, narrow, IsVoteOf, agreed_first, vote_of}
 use Rattle.irig_timekeeper.proofs.CountingLaws.{rises}
@@ -44,13 +45,21 @@ end_of_claim tells.Silence end y e = absurd cc
 end_of_claim (tells.Fault f) end y e = absurd cc
 end_of_claim (tells.Poor q) end y e = absurd cc
 
+-- a frame is even that has a claim
+pub claim_of_even : (x : KeptFrame) (y : KeptClaim) → claim_kept (Some x) ≡ Some y → (x.is_even ≡ true) × (claim_told x.told x.end_us ≡ Some y)
+claim_of_even x y e = of x.is_even e
+  where
+    of : (b : Bool) → cond b (claim_told x.told x.end_us) None ≡ Some y → (b ≡ true) × (claim_told x.told x.end_us ≡ Some y)
+    of true e = (refl, e)
+    of false e = absurd cc
+
 pub still : (now : ℕ) (o : Option KeptFrame) (y : KeptClaim) → claim_kept (still_kept now o) ≡ Some y → (claim_kept o ≡ Some y) × (is_late y.end_us now ≡ false)
 still now None y e = absurd cc
 still now (Some x) y e = by (is_late x.end_us now) refl e
   where
     by : (b : Bool) → is_late x.end_us now ≡ b → claim_kept (cond b None (Some x)) ≡ Some y → (claim_kept (Some x) ≡ Some y) × (is_late y.end_us now ≡ false)
     by true late e = absurd cc
-    by false in_time e = (e, subst (λ (end : ℕ). is_late end now ≡ false) (end_of_claim x.told x.end_us y e) in_time)
+    by false in_time e = (e, subst (λ (end : ℕ). is_late end now ≡ false) (end_of_claim x.told x.end_us y (claim_of_even x y e).1) in_time)
 
 pub come : (now : ℕ) (o : Option Vote) (y : Vote) → if_come now o ≡ Some y → (o ≡ Some y) × (has_come y.edge_us now ≡ true)
 come now None y e = absurd cc
@@ -62,10 +71,10 @@ come now (Some x) y e = by (has_come x.edge_us now) refl e
 
 -- ---- by the clock of 32 bits
 
-pub not_late : (end now : ℕ) → end ≤ now + 10000 → now + 10000 < end + 2 ^ 32 → is_late (end % 2 ^ 32) (now % 2 ^ 32) ≡ false → now ≤ end + 100000
+pub not_late : (end now : ℕ) → end ≤ now + 14000 → now + 14000 < end + 2 ^ 32 → is_late (end % 2 ^ 32) (now % 2 ^ 32) ≡ false → now ≤ end + 100000
 not_late end now order turn e =
-    let gap : (clock_gap (end % 2 ^ 32) (now % 2 ^ 32) + 10000) % 2 ^ 32 ≡ now + 10000 - end = omega (arith, order, turn) in
-    let most = ltb-false 110000 ((clock_gap (end % 2 ^ 32) (now % 2 ^ 32) + 10000) % 2 ^ 32) e in
+    let gap : (clock_gap (end % 2 ^ 32) (now % 2 ^ 32) + 14000) % 2 ^ 32 ≡ now + 14000 - end = omega (arith, order, turn) in
+    let most = ltb-false 114000 ((clock_gap (end % 2 ^ 32) (now % 2 ^ 32) + 14000) % 2 ^ 32) e in
     omega (arith, gap, most, order)
 
 few_is : (g : ℕ) → g ≤ 100000 → nat_le g 100000 ≡ true
@@ -83,7 +92,7 @@ ends_behind : (e e' x y from : ℕ) → e ≡ x % 2 ^ 32 → e' ≡ y % 2 ^ 32 �
 ends_behind e e' x y from p q near far high low = omega (arith, p, q, near, far, high, low)
 
 -- an edge by the clock has come
-edge_come : (edge now : ℕ) → edge ≤ now + 11000 → now ≤ edge + 101000 → clock_gap (edge % 2 ^ 32) (now % 2 ^ 32) ≤ 100000 → (edge ≤ now) × (now ≤ edge + 100000)
+edge_come : (edge now : ℕ) → edge ≤ now + 15000 → now ≤ edge + 101000 → clock_gap (edge % 2 ^ 32) (now % 2 ^ 32) ≤ 100000 → (edge ≤ now) × (now ≤ edge + 100000)
 edge_come edge now ahead soon few = (omega (arith, ahead, soon, few), omega (arith, ahead, soon, few))
 
 come_edge : (edge now : ℕ) → edge ≤ now → now ≤ edge + 100000 → clock_gap (edge % 2 ^ 32) (now % 2 ^ 32) ≤ 100000
@@ -112,24 +121,41 @@ not_after d edges quartz m n x y most least near = elim (cases_lt m n) [
       absurd (omega (arith, rise, less, most, least, near))
 ]
 
--- a frame of such a line claims the true second before an edge, and ends as near it as a true line's does,
--- and at most so much earlier or later
-abbrev pub TellsTruly : (List Pulse → Type 0) → (within d : ℕ) → Rules → TimelineValue → (ℕ → ℕ) → (early late now : ℕ) → Type 0
-TellsTruly IsTrue within d rules t edges early late now =
-    (end : ℕ) (pulses : List Pulse) (claim : Claim) → IsTrue pulses → IsFrameOf rules claim end pulses → now ≤ end + 100000 → IsTrueNear t edges (early + end_off_us within d) (late + end_off_us within d) end claim
+-- a frame of such a line, even by a drift of e us, claims the true second before an edge, and ends as near
+-- it as a true line's does by a counter that runs d us a second wrong, and at most so much earlier or later
+abbrev pub TellsTrulyBy : (List Pulse → Type 0) → (within e d : ℕ) → Rules → TimelineValue → (ℕ → ℕ) → (early late now : ℕ) → Type 0
+TellsTrulyBy IsTrue within e d rules t edges early late now =
+    (end : ℕ) (pulses : List Pulse) (claim : Claim) → IsTrue pulses → IsFrameOf within e rules claim end pulses → now ≤ end + 100000 → IsTrueNear t edges (early + end_off_us within d) (late + end_off_us within d) end claim
 
-module _ (IsTrue : List Pulse → Type 0) (rules : Rules) (t : TimelineValue) (c : ClockRules) (edges : ℕ → ℕ) (quartz : IsQuartz c.drift_us edges) (early late : ℕ) (room : early + late ≤ 3002) (now : ℕ) (lines : Lines) (pulses : ℕ → List Pulse)
-    (tells_truly : TellsTruly IsTrue c.within.us c.drift_us rules t edges early late now) (h : AreHeardTruly IsTrue rules (f_of c.redundancy) now lines pulses) where
+-- so by one drift
+abbrev pub TellsTruly : (List Pulse → Type 0) → (within d : ℕ) → Rules → TimelineValue → (ℕ → ℕ) → (early late now : ℕ) → Type 0
+TellsTruly IsTrue within d rules t edges early late now = TellsTrulyBy IsTrue within d d rules t edges early late now
+
+-- lines claim the true second before an edge, and the edge on which they agree lies so near it, by a
+-- counter that runs d us a second wrong: by its bound, but for the drift of an element, and by no more
+-- than a vote does
+pub record IsVoteNear (within e d : ℕ) (t : TimelineValue) (edges : ℕ → ℕ) (early late now : ℕ) (v : Vote) : Type 0 where
+  pub far : ℕ
+  pub told : far + element_drift e ≡ v.bound_us + element_drift d
+  pub few : far ≤ vote_us within d
+  pub edge : ℕ
+  pub clock : v.edge_us ≡ edge % 2 ^ 32
+  pub truth : IsTrueNear t edges (early + far) (late + far) edge v.claim
+  pub come : edge ≤ now
+  pub soon : now ≤ edge + 100000
+
+module _ (IsTrue : List Pulse → Type 0) (rules : Rules) (t : TimelineValue) (c : ClockRules) (d : ℕ) (edges : ℕ → ℕ) (quartz : IsQuartz d edges) (early late : ℕ) (room : early + late ≤ 3002) (now : ℕ) (lines : Lines) (pulses : ℕ → List Pulse)
+    (tells_truly : TellsTrulyBy IsTrue c.within.us c.drift_us d rules t edges early late now) (h : AreHeardTruly IsTrue c.within.us c.drift_us rules (f_of c.redundancy) now lines pulses) where
   abbrev clock : ℕ
   clock = now % 2 ^ 32
 
   abbrev off : ℕ
-  off = end_off_us c.within.us c.drift_us
+  off = end_off_us c.within.us d
 
   abbrev all : List (Option KeptClaim)
   all = all_kept (settled clock lines)
 
-  kept_range : (o : Option KeptClaim) (ps : List Pulse) (y : KeptClaim) → IfKept (IsInTurnOf now) rules o ps → o ≡ Some y → InRange y
+  kept_range : (o : Option KeptClaim) (ps : List Pulse) (y : KeptClaim) → IfKept (IsInTurnOf now) c.within.us c.drift_us rules o ps → o ≡ Some y → InRange y
   unfolding InRange
   kept_range None ps y turn e = absurd cc
   kept_range (Some x) ps y turn e =
@@ -157,14 +183,14 @@ module _ (IsTrue : List Pulse → Type 0) (rules : Rules) (t : TimelineValue) (c
     keeps : claim_kept (line_at lines i).frame ≡ Some y
     end : ℕ
     at : y.end_us ≡ end % 2 ^ 32
-    frame : IsFrameOf rules y.claim end (pulses i)
+    frame : IsFrameOf c.within.us c.drift_us rules y.claim end (pulses i)
     is : is_such (Some y) ≡ true
-    ahead : end ≤ now + 10000
+    ahead : end ≤ now + 14000
     soon : now ≤ end + 100000
     some : 10000 ≤ end
 
   kept_true : (is_such : Option KeptClaim → Bool) (i : ℕ) → i < 5 → h.untrue i ≡ false → (y : KeptClaim) → claim_kept (line_at lines i).frame ≡ Some y → is_late y.end_us clock ≡ false → is_such (Some y) ≡ true
-      → IfKept (IsInTurnOf now) rules (Some y) (pulses i) → IsTrueKept is_such
+      → IfKept (IsInTurnOf now) c.within.us c.drift_us rules (Some y) (pulses i) → IsTrueKept is_such
   kept_true is_such i low right y keeps in_time is turn = record {
     i = i;
     low = low;
@@ -187,7 +213,7 @@ module _ (IsTrue : List Pulse → Type 0) (rules : Rules) (t : TimelineValue) (c
       let keeps = still clock (line_at lines found.i).frame found.y (ap claim_kept (sym (frame_settled clock lines found.i low)) ∙ kept_at (settled clock lines) found.i found.y found.keeps) in
       let at : 0 + found.i ≡ found.i = omega arith in
       kept_true is_such found.i low (subst (λ (j : ℕ). h.untrue j ≡ false) at found.true_line) found.y keeps.0 keeps.1 found.same
-      (subst (λ (o : Option KeptClaim). IfKept (IsInTurnOf now) rules o (pulses found.i)) keeps.0 (h.kept found.i low))
+      (subst (λ (o : Option KeptClaim). IfKept (IsInTurnOf now) c.within.us c.drift_us rules o (pulses found.i)) keeps.0 (h.kept found.i low))
 
   near_edge : (is_such : Option KeptClaim → Bool) (k : IsTrueKept is_such) → IsTrueNear t edges (early + off) (late + off) k.end k.y.claim
   near_edge is_such k = tells_truly k.end (pulses k.i) k.y.claim (h.true_lines k.i k.low k.right) k.frame k.soon
@@ -214,7 +240,7 @@ module _ (IsTrue : List Pulse → Type 0) (rules : Rules) (t : TimelineValue) (c
     unfolding InRange gap end
     at_end = exact_end x.end_us one.end (clock_gap x.end_us one.y.end_us) range one.some (ap (clock_gap x.end_us) (sym one.at)) near
 
-    ahead : end ≤ now + 10000
+    ahead : end ≤ now + 14000
     unfolding end
     ahead = omega (arith, one.ahead)
 
@@ -257,8 +283,19 @@ module _ (IsTrue : List Pulse → Type 0) (rules : Rules) (t : TimelineValue) (c
           wraps : (e end more : ℕ) → e ≡ end % 2 ^ 32 → (e + more) % 2 ^ 32 ≡ (end + more) % 2 ^ 32
           wraps e end more is = omega (arith, is)
 
-      bound_is : v.bound_us ≡ off + (of.by - of.from + 1) / 2
+      bound_is : v.bound_us ≡ end_off_us c.within.us c.drift_us + (of.by - of.from + 1) / 2
       bound_is = ap (λ (v : Vote). v.bound_us) of.is
+
+      far : ℕ
+      far = off + (of.by - of.from + 1) / 2
+
+      told : far + element_drift c.drift_us ≡ v.bound_us + element_drift d
+      unfolding far
+      told = omega (arith, bound_is)
+
+      few : far ≤ vote_us c.within.us d
+      unfolding far
+      few = omega (arith, of.by_most, c.within.some)
 
       by_near : IsTrueNear t edges (early + off) (late + off) by_then.end by_then.y.claim
       by_near = near_edge (ends_by x of.by) by_then
@@ -271,27 +308,27 @@ module _ (IsTrue : List Pulse → Type 0) (rules : Rules) (t : TimelineValue) (c
 
       one_edge : from_near.second ≡ by_near.second
       one_edge =
-          let low = not_after c.drift_us edges quartz (from_near.second + 1) (by_near.second + 1) by_then.end from_then.end
+          let low = not_after d edges quartz (from_near.second + 1) (by_near.second + 1) by_then.end from_then.end
           (omega (arith, from_near.near.most, off_few, room)) (omega (arith, by_near.near.least, off_few, room)) (omega (arith, by_then.ahead, from_then.soon)) in
-          let high = not_after c.drift_us edges quartz (by_near.second + 1) (from_near.second + 1) from_then.end by_then.end
+          let high = not_after d edges quartz (by_near.second + 1) (from_near.second + 1) from_then.end by_then.end
           (omega (arith, by_near.near.most, off_few, room)) (omega (arith, from_near.near.least, off_few, room)) (omega (arith, from_then.ahead, by_then.soon)) in
           omega (arith, low, high)
 
-      least : edges (by_near.second + 1) ≤ edge + (early + v.bound_us)
-      unfolding edge
-      least = omega (arith, by_near.near.least, before, bound_is)
+      least : edges (by_near.second + 1) ≤ edge + (early + far)
+      unfolding edge far
+      least = omega (arith, by_near.near.least, before)
 
-      most : edge ≤ edges (by_near.second + 1) + (late + v.bound_us)
-      unfolding edge
+      most : edge ≤ edges (by_near.second + 1) + (late + far)
+      unfolding edge far
       most =
           let same : edges (from_near.second + 1) ≡ edges (by_near.second + 1) = ap (λ (s : ℕ). edges (s + 1)) one_edge in
-          omega (arith, from_near.near.most, same, behind, bound_is)
+          omega (arith, from_near.near.most, same, behind)
 
       claims : v.claim ≡ by_then.y.claim
       claims = ap (λ (v : Vote). v.claim) of.is ∙ same_is x.claim by_then.y.claim by_split.0
 
-      small : v.bound_us ≤ most_vote_us
-      small = omega (arith, bound_is, of.by_most, c.within.few, quartz.few)
+      small : c.drift_us ≤ most_drift_us → v.bound_us ≤ most_vote_us
+      small slow = omega (arith, bound_is, of.by_most, c.within.few, slow)
 
       there : has_come v.edge_us clock ≡ true → (edge ≤ now) × (now ≤ edge + 100000)
       unfolding edge
@@ -299,8 +336,11 @@ module _ (IsTrue : List Pulse → Type 0) (rules : Rules) (t : TimelineValue) (c
           let few : clock_gap (edge % 2 ^ 32) (now % 2 ^ 32) ≤ 100000 = subst (λ (e : ℕ). clock_gap e clock ≤ 100000) at_edge (leb-true (clock_gap v.edge_us clock) 100000 come) in
           edge_come edge now (omega (arith, ahead, of.from_most, of.by_most, narrow c)) (omega (arith, soon)) few
 
-      true_vote : has_come v.edge_us clock ≡ true → IsTrueVote t edges early late now v
-      true_vote come = record {
+      near_vote : has_come v.edge_us clock ≡ true → IsVoteNear c.within.us c.drift_us d t edges early late now v
+      near_vote come = record {
+        far = far;
+        told = told;
+        few = few;
         edge = edge;
         clock = at_edge;
         truth = record {
@@ -308,7 +348,6 @@ module _ (IsTrue : List Pulse → Type 0) (rules : Rules) (t : TimelineValue) (c
           near = record { least = least; most = most };
           truth = subst (λ (x : Claim). IsTrueClaim t (by_near.second + 1) x) (sym claims) by_near.truth;
         };
-        small = small;
         come = (there come).0;
         soon = (there come).1;
       }
@@ -316,7 +355,7 @@ module _ (IsTrue : List Pulse → Type 0) (rules : Rules) (t : TimelineValue) (c
   -- what a true line keeps has just come, if it is not late
   abbrev pub AreReady : Type 0
   AreReady =
-      (i : ℕ) → i < 5 → h.untrue i ≡ false → (y : KeptClaim) (end : ℕ) → y.end_us ≡ end % 2 ^ 32 → IsFrameOf rules y.claim end (pulses i) → end ≤ now + 10000 → now ≤ end + 100000
+      (i : ℕ) → i < 5 → h.untrue i ≡ false → (y : KeptClaim) (end : ℕ) → y.end_us ≡ end % 2 ^ 32 → IsFrameOf c.within.us c.drift_us rules y.claim end (pulses i) → end ≤ now + 14000 → now ≤ end + 100000
       → claim_kept (line_at lines i).frame ≡ Some y → HasJustCome c.within.us now end
 
   ready_of : AreReady → (is_such : Option KeptClaim → Bool) (k : IsTrueKept is_such) → HasJustCome c.within.us now k.end
@@ -335,11 +374,17 @@ module _ (IsTrue : List Pulse → Type 0) (rules : Rules) (t : TimelineValue) (c
       let one = is_one InRange (window_us c.within.us) (f_of c.redundancy) all all first.0 each first.1 in
       record { x = first.0; counts = one.0; range = one.1; of = vote_of c all v first.0 one.0 first.2 }
 
-  pub vote_is_true : (v : Vote) → if_come clock (agreed c (settled clock lines)) ≡ Some v → IsTrueVote t edges early late now v
-  vote_is_true v e =
+  pub vote_is_near : (v : Vote) → if_come clock (agreed c (settled clock lines)) ≡ Some v → IsVoteNear c.within.us c.drift_us d t edges early late now v
+  vote_is_near v e =
       let there = come clock (agreed c (settled clock lines)) v e in
       let p = parts_of v there.0 in
-      true_vote p.x p.counts p.range v p.of there.1
+      near_vote p.x p.counts p.range v p.of there.1
+
+  -- its bound is small if the setup's drift is
+  vote_is_small : c.drift_us ≤ most_drift_us → (v : Vote) → if_come clock (agreed c (settled clock lines)) ≡ Some v → v.bound_us ≤ most_vote_us
+  vote_is_small slow v e =
+      let p = parts_of v (come clock (agreed c (settled clock lines)) v e).0 in
+      small p.x p.counts p.range v p.of slow
 
   -- ---- a vote comes
 
@@ -362,13 +407,32 @@ module _ (IsTrue : List Pulse → Type 0) (rules : Rules) (t : TimelineValue) (c
   pub vote_comes : AreReady → (v : Vote) → agreed c (settled clock lines) ≡ Some v → if_come clock (agreed c (settled clock lines)) ≡ Some v
   vote_comes ready v e = come_is v clock (there_by ready v (parts_of v e)) (agreed c (settled clock lines)) e
 
+-- by the drift of the setup
+pub vote_is_true : (IsTrue : List Pulse → Type 0) (rules : Rules) (t : TimelineValue) (c : ClockRules) (edges : ℕ → ℕ) → IsQuartz c.drift_us edges → (early late : ℕ) → early + late ≤ 3002 → (now : ℕ) (lines : Lines) (pulses : ℕ → List Pulse)
+    → TellsTruly IsTrue c.within.us c.drift_us rules t edges early late now → AreHeardTruly IsTrue c.within.us c.drift_us rules (f_of c.redundancy) now lines pulses
+    → (v : Vote) → if_come (now % 2 ^ 32) (agreed c (settled (now % 2 ^ 32) lines)) ≡ Some v → IsTrueVote t edges early late now v
+vote_is_true IsTrue rules t c edges quartz early late room now lines pulses truly h v e =
+    let vote = vote_is_near IsTrue rules t c c.drift_us edges quartz early late room now lines pulses truly h v e in
+    record {
+      edge = vote.edge;
+      clock = vote.clock;
+      truth = record {
+        second = vote.truth.second;
+        near = record { least = omega (arith, vote.told, vote.truth.near.least); most = omega (arith, vote.told, vote.truth.near.most) };
+        truth = vote.truth.truth;
+      };
+      small = vote_is_small IsTrue rules t c c.drift_us edges quartz early late room now lines pulses truly h quartz.few v e;
+      come = vote.come;
+      soon = vote.soon;
+    }
+
 -- an end that is known otherwise
-pub ready_by : (within : ℕ) (rules : Rules) (now : ℕ) (o : Option KeptClaim) (ps : List Pulse) (y : KeptClaim) (end : ℕ) → IfKept (HasJustCome within now) rules o ps → o ≡ Some y → y.end_us ≡ end % 2 ^ 32 → end ≤ now + 10000 → now ≤ end + 100000 → HasJustCome within now end
-ready_by within rules now None ps y end h e is ahead soon = absurd cc
-ready_by within rules now (Some x) ps y end h e is ahead soon =
+pub ready_by : (w d within : ℕ) (rules : Rules) (now : ℕ) (o : Option KeptClaim) (ps : List Pulse) (y : KeptClaim) (end : ℕ) → IfKept (HasJustCome within now) w d rules o ps → o ≡ Some y → y.end_us ≡ end % 2 ^ 32 → end ≤ now + 14000 → now ≤ end + 100000 → HasJustCome within now end
+ready_by w d within rules now None ps y end h e is ahead soon = absurd cc
+ready_by w d within rules now (Some x) ps y end h e is ahead soon =
     let same : x ≡ y = cc in
     let clock : h.0 % 2 ^ 32 ≡ end % 2 ^ 32 = sym h.1 ∙ ap (λ (z : KeptClaim). z.end_us) same ∙ is in
     by_clock h.0 end clock h.3.0 h.3.1 ahead soon
   where
-    by_clock : (x end : ℕ) → x % 2 ^ 32 ≡ end % 2 ^ 32 → x + (within - 1) ≤ now → now ≤ x + 99000 → end ≤ now + 10000 → now ≤ end + 100000 → HasJustCome within now end
+    by_clock : (x end : ℕ) → x % 2 ^ 32 ≡ end % 2 ^ 32 → x + (within - 1) ≤ now → now ≤ x + 99000 → end ≤ now + 14000 → now ≤ end + 100000 → HasJustCome within now end
     by_clock x end clock come near ahead soon = (omega (arith, clock, come, near, ahead, soon), omega (arith, clock, come, near, ahead, soon))

@@ -2,6 +2,7 @@
 use Rattle.std.specs.Prelude.{◌==◌}
 use Rattle.std.proofs.Common.{◌≡◌, ◌∙◌, ℕ, ◌+◌, ◌-◌, ◌*◌, ◌%◌, ◌^◌, ◌≤◌, Bool, true, false, cond, List, Option, Some, None, refl, sym, ap, subst, arith}
 use Rattle.irig_sync.specs.Lines.{Pulse}
+use Rattle.irig_sync.specs.Edges.{element_drift}
 use Rattle.irig_time.specs.declared.second.UtcSecond.{UtcSecond}
 use Rattle.irig_time.specs.declared.claim.Claim.{Claim}
 use Rattle.irig_time.specs.Tables.{TableValue}
@@ -33,8 +34,9 @@ use Rattle.irig_timekeeper.specs.Rule.{missed}
 use Rattle.irig_timekeeper.specs.Clock.{lasted, beat_by, step_to, own_edge, answer_by, settled_at}
 use Rattle.irig_timekeeper.specs.declared.clock.ClockState.{ClockState}
 use Rattle.irig_timekeeper.specs.Keeping.{Keeping, answer_at, vote_at}
-use Rattle.irig_timekeeper.specs.Truth.{AreHeardTruly, IsTrueVote, IsToldTruly}
-use Rattle.irig_timekeeper.proofs.VoteLaws.{TellsTruly, vote_is_true}
+use Rattle.irig_timekeeper.specs.Truth.{AreHeardTruly, IsToldTruly}
+use Rattle.irig_timekeeper.specs.Exactness.{vote_us}
+use Rattle.irig_timekeeper.proofs.VoteLaws.{TellsTrulyBy, TellsTruly, IsVoteNear, vote_is_near}
 
 -- ---- a true claim
 
@@ -70,22 +72,30 @@ module _ (rules : ReaderRules) (table : TableValue) where
 
 -- ---- a tick
 
-pub tick_voted : (IsTrue : List Pulse → Type 0) (t : TimelineValue) (edges : ℕ → ℕ) (k : Keeping) (early late : ℕ) → early + late ≤ 3002 → (now : ℕ) (pulses : ℕ → List Pulse) (b : Beat) (u : UtcSecond) → IsQuartz k.clock.drift_us edges
-    → TellsTruly IsTrue k.clock.within.us k.clock.drift_us k.rules t edges early late now → IsTimeline t → AreHeardTruly IsTrue k.rules (f_of k.clock.redundancy) now k.state.lines pulses
-    → answer_at k (now % 2 ^ 32) ≡ Some b → b.report.cause ≡ cause.Voted → b.report.announce ≡ Some u → IsToldTruly t edges (early + b.bound_us) (late + b.bound_us) now b u
-tick_voted IsTrue t edges k early late room now pulses b u quartz truly sound heard answer voted says = of (vote_at k (now % 2 ^ 32)) refl answer
+-- the edge of a second that is told by a vote lies so far off, by a counter that runs d us a second wrong:
+-- by the bound that is told, but for the drift of an element, and by no more than a vote does
+pub record IsToldBy (within e d : ℕ) (t : TimelineValue) (edges : ℕ → ℕ) (early late now : ℕ) (b : Beat) (u : UtcSecond) : Type 0 where
+  pub far : ℕ
+  pub bound : far + element_drift e ≤ b.bound_us + element_drift d
+  pub few : far ≤ vote_us within d
+  pub told : IsToldTruly t edges (early + far) (late + far) now b u
+
+pub tick_voted_by : (IsTrue : List Pulse → Type 0) (t : TimelineValue) (edges : ℕ → ℕ) (k : Keeping) (d early late : ℕ) → early + late ≤ 3002 → (now : ℕ) (pulses : ℕ → List Pulse) (b : Beat) (u : UtcSecond) → IsQuartz d edges
+    → TellsTrulyBy IsTrue k.clock.within.us k.clock.drift_us d k.rules t edges early late now → IsTimeline t → AreHeardTruly IsTrue k.clock.within.us k.clock.drift_us k.rules (f_of k.clock.redundancy) now k.state.lines pulses
+    → answer_at k (now % 2 ^ 32) ≡ Some b → b.report.cause ≡ cause.Voted → b.report.announce ≡ Some u → IsToldBy k.clock.within.us k.clock.drift_us d t edges early late now b u
+tick_voted_by IsTrue t edges k d early late room now pulses b u quartz truly sound heard answer voted says = of (vote_at k (now % 2 ^ 32)) refl answer
   where
     s : ClockState
-    s = settled_at k.state (now % 2 ^ 32)
+    s = settled_at k.clock k.state (now % 2 ^ 32)
 
-    by_own : (n : ℕ) (test : Bool) → (n == 0) ≡ test → cond test None (Some (beat_by k.clock s (step_to k.clock k.table s n None) (n - 1) (own_edge s.edge_us n) s.bound_us)) ≡ Some b → IsToldTruly t edges (early + b.bound_us) (late + b.bound_us) now b u
+    by_own : (n : ℕ) (test : Bool) → (n == 0) ≡ test → cond test None (Some (beat_by k.clock s (step_to k.clock k.table s n None) (n - 1) (own_edge s.edge_us n) s.bound_us)) ≡ Some b → IsToldBy k.clock.within.us k.clock.drift_us d t edges early late now b u
     by_own n true e answer = absurd cc
     by_own n false e answer =
         let beat : beat_by k.clock s (step_to k.clock k.table s n None) (n - 1) (own_edge s.edge_us n) s.bound_us ≡ b = cc in
         absurd (never_voted k.clock.reader_rules k.table (missed k.clock.reader_rules k.table (n - 1) k.state.reader) (ap (λ (x : Beat). x.report.cause) beat ∙ voted))
 
-    by_vote : (v : Vote) → IsTrueVote t edges early late now v → (n : ℕ) (test : Bool) → (n == 0) ≡ test → cond test None (Some (beat_by k.clock s (step_to k.clock k.table s n (Some v.claim)) (n - 1) v.edge_us v.bound_us)) ≡ Some b
-        → IsToldTruly t edges (early + b.bound_us) (late + b.bound_us) now b u
+    by_vote : (v : Vote) → IsVoteNear k.clock.within.us k.clock.drift_us d t edges early late now v → (n : ℕ) (test : Bool) → (n == 0) ≡ test → cond test None (Some (beat_by k.clock s (step_to k.clock k.table s n (Some v.claim)) (n - 1) v.edge_us v.bound_us)) ≡ Some b
+        → IsToldBy k.clock.within.us k.clock.drift_us d t edges early late now b u
     by_vote v vote n true e answer = absurd cc
     by_vote v vote n false e answer =
         let beat : beat_by k.clock s (step_to k.clock k.table s n (Some v.claim)) (n - 1) v.edge_us v.bound_us ≡ b = cc in
@@ -94,16 +104,41 @@ tick_voted IsTrue t edges k early late room now pulses b u quartz truly sound he
         let lock : Lock = (step_to k.clock k.table s n (Some v.claim)).report.lock in
         let bound : b.bound_us ≡ v.bound_us + lasted lock * k.clock.drift_us = ap (λ (x : Beat). x.bound_us) (sym beat) in
         record {
-          m = vote.truth.second + 1;
-          edge = vote.edge;
-          clock = ap (λ (x : Beat). x.edge_us) (sym beat) ∙ vote.clock;
-          near = record { least = omega (arith, vote.truth.near.least, bound); most = omega (arith, vote.truth.near.most, bound) };
-          come = vote.come;
-          soon = omega (arith, vote.soon);
-          truth = voted_second t vote.truth.second k.clock.reader_rules k.table state v.claim u sound truth (ap (λ (x : Beat). x.report.cause) beat ∙ voted) (ap (λ (x : Beat). x.report.announce) beat ∙ says);
+          far = vote.far;
+          bound = omega (arith, vote.told, bound);
+          few = vote.few;
+          told = record {
+            m = vote.truth.second + 1;
+            edge = vote.edge;
+            clock = ap (λ (x : Beat). x.edge_us) (sym beat) ∙ vote.clock;
+            near = vote.truth.near;
+            come = vote.come;
+            soon = omega (arith, vote.soon);
+            truth = voted_second t vote.truth.second k.clock.reader_rules k.table state v.claim u sound truth (ap (λ (x : Beat). x.report.cause) beat ∙ voted) (ap (λ (x : Beat). x.report.announce) beat ∙ says);
+          };
         }
 
-    of : (v : Option Vote) → vote_at k (now % 2 ^ 32) ≡ v → answer_by k.clock k.table s (now % 2 ^ 32) v ≡ Some b → IsToldTruly t edges (early + b.bound_us) (late + b.bound_us) now b u
+    of : (v : Option Vote) → vote_at k (now % 2 ^ 32) ≡ v → answer_by k.clock k.table s (now % 2 ^ 32) v ≡ Some b → IsToldBy k.clock.within.us k.clock.drift_us d t edges early late now b u
     of None e answer = by_own (edges_own s.edge_us (now % 2 ^ 32)) _ refl answer
     of (Some v) e answer =
-        by_vote v (vote_is_true IsTrue k.rules t k.clock edges quartz early late room now k.state.lines pulses truly heard v e) (edges_to_vote s.edge_us v.edge_us) _ refl answer
+        by_vote v (vote_is_near IsTrue k.rules t k.clock d edges quartz early late room now k.state.lines pulses truly heard v e) (edges_to_vote s.edge_us v.edge_us) _ refl answer
+
+-- what lies so near lies nearer than that
+pub nearer : (t : TimelineValue) (edges : ℕ → ℕ) (before behind more more_behind now : ℕ) (b : Beat) (u : UtcSecond) → before ≤ more → behind ≤ more_behind → IsToldTruly t edges before behind now b u → IsToldTruly t edges more more_behind now b u
+nearer t edges before behind more more_behind now b u low low_behind told = record {
+  m = told.m;
+  edge = told.edge;
+  clock = told.clock;
+  near = record { least = omega (arith, told.near.least, low); most = omega (arith, told.near.most, low_behind) };
+  come = told.come;
+  soon = told.soon;
+  truth = told.truth;
+}
+
+-- by the drift of the setup
+pub tick_voted : (IsTrue : List Pulse → Type 0) (t : TimelineValue) (edges : ℕ → ℕ) (k : Keeping) (early late : ℕ) → early + late ≤ 3002 → (now : ℕ) (pulses : ℕ → List Pulse) (b : Beat) (u : UtcSecond) → IsQuartz k.clock.drift_us edges
+    → TellsTruly IsTrue k.clock.within.us k.clock.drift_us k.rules t edges early late now → IsTimeline t → AreHeardTruly IsTrue k.clock.within.us k.clock.drift_us k.rules (f_of k.clock.redundancy) now k.state.lines pulses
+    → answer_at k (now % 2 ^ 32) ≡ Some b → b.report.cause ≡ cause.Voted → b.report.announce ≡ Some u → IsToldTruly t edges (early + b.bound_us) (late + b.bound_us) now b u
+tick_voted IsTrue t edges k early late room now pulses b u quartz truly sound heard answer voted says =
+    let by = tick_voted_by IsTrue t edges k k.clock.drift_us early late room now pulses b u quartz truly sound heard answer voted says in
+    nearer t edges (early + by.far) (late + by.far) (early + b.bound_us) (late + b.bound_us) now b u (omega (arith, by.bound)) (omega (arith, by.bound)) by.told

@@ -51,21 +51,21 @@ edge_in_life made start calls order = of (life_of made calls).state.edge_us pace
 IsTimely : ℕ → KeptClaim → Type 0
 IsTimely clock y = (is_late y.end_us clock ≡ false) × (y.end_us < 2 ^ 32)
 
-of_clock : (EndsSo : ℕ → Type 0) (rules : Rules) (kept : Option KeptClaim) (pulses : List Pulse) (y : KeptClaim) → IfKept EndsSo rules kept pulses → kept ≡ Some y → y.end_us < 2 ^ 32
-of_clock EndsSo rules None pulses y h e = absurd cc
-of_clock EndsSo rules (Some x) pulses y h e =
+of_clock : (EndsSo : ℕ → Type 0) (within d : ℕ) (rules : Rules) (kept : Option KeptClaim) (pulses : List Pulse) (y : KeptClaim) → IfKept EndsSo within d rules kept pulses → kept ≡ Some y → y.end_us < 2 ^ 32
+of_clock EndsSo within d rules None pulses y h e = absurd cc
+of_clock EndsSo within d rules (Some x) pulses y h e =
     let same : x ≡ y = cc in
     subst (λ (v : KeptClaim). v.end_us < 2 ^ 32) same (omega (arith, h.1))
 
 -- and the edge lies at most 898 us behind its end
-until_vote : (e end behind now : ℕ) → is_late end (now % 2 ^ 32) ≡ false → end < 2 ^ 32 → behind ≤ 898 → e ≡ (end + behind) % 2 ^ 32 → until (now % 2 ^ 32) e ≤ 11000
+until_vote : (e end behind now : ℕ) → is_late end (now % 2 ^ 32) ≡ false → end < 2 ^ 32 → behind ≤ 898 → e ≡ (end + behind) % 2 ^ 32 → until (now % 2 ^ 32) e ≤ 15000
 until_vote e end behind now timely range few at = of (nat_lt (clock_gap (now % 2 ^ 32) e) (2 ^ 31)) refl
   where
-    near : (e end now : ℕ) → end < 2 ^ 32 → now < 2 ^ 32 → e ≡ (end + behind) % 2 ^ 32 → (clock_gap end now + 10000) % 2 ^ 32 ≤ 110000 → clock_gap now e < 2 ^ 31 → clock_gap now e ≤ 11000
+    near : (e end now : ℕ) → end < 2 ^ 32 → now < 2 ^ 32 → e ≡ (end + behind) % 2 ^ 32 → (clock_gap end now + 14000) % 2 ^ 32 ≤ 114000 → clock_gap now e < 2 ^ 31 → clock_gap now e ≤ 15000
     near e end now range clock at timely low = omega (arith, range, clock, at, few, timely, low)
 
-    of : (test : Bool) → nat_lt (clock_gap (now % 2 ^ 32) e) (2 ^ 31) ≡ test → cond test (clock_gap (now % 2 ^ 32) e) 0 ≤ 11000
-    of true h = near e end (now % 2 ^ 32) range (omega arith) at (ltb-false 110000 ((clock_gap end (now % 2 ^ 32) + 10000) % 2 ^ 32) timely) (ltb-true (clock_gap (now % 2 ^ 32) e) (2 ^ 31) h)
+    of : (test : Bool) → nat_lt (clock_gap (now % 2 ^ 32) e) (2 ^ 31) ≡ test → cond test (clock_gap (now % 2 ^ 32) e) 0 ≤ 15000
+    of true h = near e end (now % 2 ^ 32) range (omega arith) at (ltb-false 114000 ((clock_gap end (now % 2 ^ 32) + 14000) % 2 ^ 32) timely) (ltb-true (clock_gap (now % 2 ^ 32) e) (2 ^ 31) h)
     of false h = omega arith
 
 until_edge : (e edge now : ℕ) → e ≡ edge % 2 ^ 32 → edge ≤ now → now ≤ edge + 1801005000 → until (now % 2 ^ 32) ((e + 1005000) % 2 ^ 32) ≤ 1005000
@@ -95,7 +95,7 @@ module _ (made : Made) (start now : ℕ) (calls : List Call) (order : AreInOrder
   timely i low y e =
       let l = lines_after (device_of made) start (begins made.limits made.rules made.clock made.table made.lines start made.fresh) calls now order in
       let kept = still (now % 2 ^ 32) (line_at (life_of made calls).state.lines i).frame y e in
-      (kept.1, of_clock _ _ _ (pulses_on i calls) y (l.lines i low).kept kept.0)
+      (kept.1, of_clock _ _ _ _ _ (pulses_on i calls) y (l.lines i low).kept kept.0)
 
   each_timely : EachKept (IsTimely (now % 2 ^ 32)) (all_kept lines)
   each_timely = one_more (IsTimely (now % 2 ^ 32)) _ _ (timely 0 (omega arith))

@@ -70,10 +70,10 @@ by_latest start time (Hear port rise width ∷ calls) low =
 told_in_turn : (start : ℕ) (x base : List Call) → AreMadeInTurn start x base → AreToldInTime start x base
 told_in_turn start [] base turn = tt
 told_in_turn start (Tick now ∷ x) base turn = told_in_turn start x base turn.1
-told_in_turn start (Hear port rise width ∷ x) base turn = ((by_latest start (rise + width + 1000) (x ++ base) turn.0).1, told_in_turn start x base turn.1)
+told_in_turn start (Hear port rise width ∷ x) base turn = ((by_latest start (rise + width + 3000) (x ++ base) turn.0).1, told_in_turn start x base turn.1)
 
 -- by a vote whose edge lies at a time it names no later one
-named_by : (time edge : ℕ) (o : Option ℕ) (v : Vote) → v.edge_us ≡ edge % 2 ^ 32 → edge ≤ time + 11000 → time ≤ edge + 101000 → (time + wait_by (time % 2 ^ 32) o (Some v) ≤ time) ⊎ (time + wait_by (time % 2 ^ 32) o (Some v) ≤ edge)
+named_by : (time edge : ℕ) (o : Option ℕ) (v : Vote) → v.edge_us ≡ edge % 2 ^ 32 → edge ≤ time + 15000 → time ≤ edge + 101000 → (time + wait_by (time % 2 ^ 32) o (Some v) ≤ time) ⊎ (time + wait_by (time % 2 ^ 32) o (Some v) ≤ edge)
 named_by time edge o v at ahead behind = of (nat_lt (clock_gap (time % 2 ^ 32) v.edge_us) (2 ^ 31)) refl
   where
     gap : (e : ℕ) → e ≡ edge % 2 ^ 32 → clock_gap (time % 2 ^ 32) e < 2 ^ 31 → time + clock_gap (time % 2 ^ 32) e ≤ edge
@@ -84,9 +84,9 @@ named_by time edge o v at ahead behind = of (nat_lt (clock_gap (time % 2 ^ 32) v
     of false e = inl (omega arith)
 
 -- a device that keeps the frames, asked at a time up to that of a tick that may come then
-module _ (t : TimelineValue) (d : ℕ) (edges : ℕ → ℕ) (quartz : IsQuartz d edges) (new : Keeping) (start : ℕ) (begun : AreLinesAt new new (λ i. []) start start) (m : ℕ) (some : 1 ≤ m) (older : List Call) (told : ℕ) (risen : HaveRisen told older) (past : told + 11000 < edges m)
+module _ (t : TimelineValue) (edges : ℕ → ℕ) (new : Keeping) (quartz : IsQuartz new.clock.drift_us edges) (start : ℕ) (begun : AreLinesAt new new (λ i. []) start start) (m : ℕ) (some : 1 ≤ m) (older : List Call) (told : ℕ) (risen : HaveRisen told older) (past : told + 11000 < edges m)
     (calls : List Call) (then : ℕ) (order : AreInOrder start new.clock.redundancy (Tick then ∷ calls)) (time : ℕ) (upto : time ≤ edges m + 98000) (come : ComesWhole t edges new m calls)
-    (keeps : (i : ℕ) (small : i < 5) → come.whole i ≡ true → Keeps t d edges quartz new start begun i small m older told risen past calls) (ahead : (i : ℕ) (small : i < 5) (is : come.whole i ≡ true) → (keeps i small is).end ≤ time + 10000) where
+    (keeps : (i : ℕ) (small : i < 5) → come.whole i ≡ true → Keeps t edges new quartz start begun i small m older told risen past calls) (ahead : (i : ℕ) (small : i < 5) (is : come.whole i ≡ true) → (keeps i small is).end ≤ time + 14000) where
   abbrev lines : Lines
   lines = settled (time % 2 ^ 32) (after_calls new calls).state.lines
 
@@ -95,7 +95,7 @@ module _ (t : TimelineValue) (d : ℕ) (edges : ℕ → ℕ) (quartz : IsQuartz 
 
   -- a vote that shares a line with the frames of an edge lies at most so far from it
   abbrev off : ℕ
-  off = end_off_us new.clock.within.us d + window_us new.clock.within.us
+  off = end_off_us new.clock.within.us new.clock.drift_us + window_us new.clock.within.us
 
   -- a line that is not there sends no frame
   none_there : (i : ℕ) → i < 5 → ports_in new.clock.redundancy ≤ i → come.whole i ≡ false
@@ -117,7 +117,7 @@ module _ (t : TimelineValue) (d : ℕ) (edges : ℕ → ℕ) (quartz : IsQuartz 
 
   in_range : (i : ℕ) → i < 5 → (y : KeptClaim) → claim_kept (line_at lines i).frame ≡ Some y → IsRanged y
   unfolding IsRanged
-  in_range i small y e = ranged (IsEndAt (pulses_on i calls) (last_tick start calls) then) (after_calls new calls).rules (claim_kept (line_at (after_calls new calls).state.lines i).frame) (pulses_on i calls) y ((lines_after new start begun calls then order).lines i small).kept (raw i small y e)
+  in_range i small y e = ranged (IsEndAt (pulses_on i calls) (last_tick start calls) then) _ _ (after_calls new calls).rules (claim_kept (line_at (after_calls new calls).state.lines i).frame) (pulses_on i calls) y ((lines_after new start begun calls then order).lines i small).kept (raw i small y e)
 
   none_agrees : (x : KeptClaim) (i : ℕ) → i < 5 → ports_in new.clock.redundancy ≤ i → agrees window x (claim_kept (line_at lines i).frame) ≡ false
   none_agrees x i small far = of (claim_kept (line_at lines i).frame) refl
@@ -126,7 +126,7 @@ module _ (t : TimelineValue) (d : ℕ) (edges : ℕ → ℕ) (quartz : IsQuartz 
       of None e = refl
       of (Some y) e =
           let l = (lines_after new start begun calls then order).lines i small in
-          let none = kept_of_nothing (IsEndAt (pulses_on i calls) (last_tick start calls) then) (after_calls new calls).rules (claim_kept (line_at (after_calls new calls).state.lines i).frame) (pulses_on i calls) (silent_line start new.clock.redundancy i far calls order.3) l.kept in
+          let none = kept_of_nothing (IsEndAt (pulses_on i calls) (last_tick start calls) then) _ _ (after_calls new calls).rules (claim_kept (line_at (after_calls new calls).state.lines i).frame) (pulses_on i calls) (silent_line start new.clock.redundancy i far calls order.3) l.kept in
           absurd (let both : None ≡ Some y = sym none ∙ raw i small y e in cc)
 
   -- its frame ends with a frame of these, or up to the window before, and its edge lies up to the
@@ -136,7 +136,7 @@ module _ (t : TimelineValue) (d : ℕ) (edges : ℕ → ℕ) (quartz : IsQuartz 
     clock : v.edge_us ≡ edge % 2 ^ 32
     least : edges m ≤ edge + off
     most : edge ≤ edges m + off
-    not_far : edge ≤ time + 11000
+    not_far : edge ≤ time + 15000
 
   lies_near : (v : Vote) → agreed new.clock lines ≡ Some v → LiesNear v
   unfolding IsRanged
@@ -155,7 +155,7 @@ module _ (t : TimelineValue) (d : ℕ) (edges : ℕ → ℕ) (quartz : IsQuartz 
       let counted = ltb-true f (count_by (agrees window x) all) one.0 in
       let there = shared new.clock.redundancy come.whole (λ i. agrees window x (claim_kept (line_at lines i).frame)) none_there (none_agrees x) come.many (omega (arith, counted)) in
       let k = keeps there.0 there.1 there.2 in
-      let keeps_it = kept t d edges quartz new start begun m some older told risen past calls time upto come.whole come.many keeps ahead there.0 there.1 there.2 in
+      let keeps_it = kept t edges new quartz start begun m some older told risen past calls time upto come.whole come.many keeps ahead there.0 there.1 there.2 in
       let agree : agrees window x (Some (record { claim = k.claim; end_us = k.end % 2 ^ 32 })) ≡ true = subst (λ (o : Option KeptClaim). agrees window x o ≡ true) keeps_it there.3 in
       let near = leb-true (clock_gap x.end_us (k.end % 2 ^ 32)) window (split (same_claim x.claim k.claim) (nat_le (clock_gap x.end_us (k.end % 2 ^ 32)) window) agree).1 in
       let few = new.clock.within.few in
@@ -176,7 +176,7 @@ module _ (t : TimelineValue) (d : ℕ) (edges : ℕ → ℕ) (quartz : IsQuartz 
   names_soon : (time + wait_at (after_calls new calls) (time % 2 ^ 32) ≤ time) ⊎ (time + wait_at (after_calls new calls) (time % 2 ^ 32) ≤ edges m + off)
   names_soon =
       let k : Keeping = after_calls new calls in
-      let v = some_agree t d edges quartz new start begun m some older told risen past calls time upto come.whole come.many keeps ahead in
+      let v = some_agree t edges new quartz start begun m some older told risen past calls time upto come.whole come.many keeps ahead in
       let lies = lies_near v.0 v.1 in
       let same = (lines_after new start begun calls then order).same.clock in
       let agree : agreed k.clock lines ≡ Some v.0 = ap (λ (c : ClockRules). agreed c lines) same ∙ v.1 in
@@ -186,7 +186,7 @@ module _ (t : TimelineValue) (d : ℕ) (edges : ℕ → ℕ) (quartz : IsQuartz 
         | inr late ↦ inr (omega (arith, wait, late, lies.most))
       ]
 
-module _ (IsTrue : ℕ → List Pulse → Type 0) (t : TimelineValue) (edges : ℕ → ℕ) (new : Keeping) (quartz : IsQuartz new.clock.drift_us edges) (start : ℕ) (begun : AreLinesAt new new (λ i. []) start start) (late : ℕ) (few : late ≤ 96000) where
+module _ (IsTrue : ℕ → List Pulse → Type 0) (t : TimelineValue) (edges : ℕ → ℕ) (new : Keeping) (quartz : IsQuartz new.clock.drift_us edges) (start : ℕ) (begun : AreLinesAt new new (λ i. []) start start) (late : ℕ) (few : late ≤ 95000) where
   abbrev pub Waits : List Call → List Call → Type 0
   Waits calls before = AreMadeInTurn start calls before × GoesByWait late new calls before
 
@@ -217,14 +217,14 @@ module _ (IsTrue : ℕ → List Pulse → Type 0) (t : TimelineValue) (edges : �
       time : ℕ
       z : List Call
       are : y ≡ x ++ (Tick time ∷ z)
-      near : edges m ≤ time + 11000
+      near : edges m ≤ time + 15000
       v : Vote
       voted : vote_at (after_calls new (z ++ done)) (time % 2 ^ 32) ≡ Some v
 
     voted_on : (call : Call) (y : List Call) → HasVoted y → HasVoted (call ∷ y)
     voted_on call y h = record { x = call ∷ h.x; time = h.time; z = h.z; are = ap (λ (c : List Call). call ∷ c) h.are; near = h.near; v = h.v; voted = h.voted }
 
-    find : (y : List Call) → HaveNoVotes new (edges m - 11000) y done ⊎ HasVoted y
+    find : (y : List Call) → HaveNoVotes new (edges m - 15000) y done ⊎ HasVoted y
     find [] = inl tt
     find (Hear port rise width ∷ y) = elim (find y) [ inl none ↦ inl none | inr h ↦ inr (voted_on (Hear port rise width) y h) ]
     find (Tick time ∷ y) = elim (find y) [
@@ -232,9 +232,9 @@ module _ (IsTrue : ℕ → List Pulse → Type 0) (t : TimelineValue) (edges : �
       | inl none ↦ by none (vote_at (after_calls new (y ++ done)) (time % 2 ^ 32)) refl
     ]
       where
-        by : HaveNoVotes new (edges m - 11000) y done → (o : Option Vote) → vote_at (after_calls new (y ++ done)) (time % 2 ^ 32) ≡ o → HaveNoVotes new (edges m - 11000) (Tick time ∷ y) done ⊎ HasVoted (Tick time ∷ y)
+        by : HaveNoVotes new (edges m - 15000) y done → (o : Option Vote) → vote_at (after_calls new (y ++ done)) (time % 2 ^ 32) ≡ o → HaveNoVotes new (edges m - 15000) (Tick time ∷ y) done ⊎ HasVoted (Tick time ∷ y)
         by none None e = inl ((λ _. e), none)
-        by none (Some v) e = elim (cases_lt (time + 11000) (edges m)) [
+        by none (Some v) e = elim (cases_lt (time + 15000) (edges m)) [
           | inl before ↦ inl ((λ from. absurd (omega (arith, from, before))), none)
           | inr behind ↦ inr (record { x = []; time = time; z = y; are = refl; near = behind; v = v; voted = e })
         ]
@@ -247,48 +247,48 @@ module _ (IsTrue : ℕ → List Pulse → Type 0) (t : TimelineValue) (edges : �
         (one.i, one.low, subst (λ (i : ℕ). come.whole i ≡ true) same one.at)
 
     -- the next tick comes soon behind the edge
-    module _ (now : ℕ) (behind : edges m + 2000 ≤ now) where
+    module _ (now : ℕ) (behind : edges m + 3000 ≤ now) where
       -- from these calls on, behind which they keep the frames, a time is named
-      by_named : (y : List Call) (time then : ℕ) → AreInOrder start new.clock.redundancy (Tick then ∷ (y ++ done)) → HaveNoVotes new (edges m - 11000) y done → then ≤ edges m + 2000 → time ≤ then → (then ≤ time) ⊎ (edges m ≤ time + 3950) → ComesWhole t edges new m (y ++ done)
-          → now ≤ time + wait_at (after_calls new (y ++ done)) (time % 2 ^ 32) + late → now ≤ edges m + 2000 + late
+      by_named : (y : List Call) (time then : ℕ) → AreInOrder start new.clock.redundancy (Tick then ∷ (y ++ done)) → HaveNoVotes new (edges m - 15000) y done → then ≤ edges m + 3000 → time ≤ then → (then ≤ time) ⊎ (edges m ≤ time + 3950) → ComesWhole t edges new m (y ++ done)
+          → now ≤ time + wait_at (after_calls new (y ++ done)) (time % 2 ^ 32) + late → now ≤ edges m + 3000 + late
       by_named y time then order none low upto behind come soon =
-          elim (names_soon t new.clock.drift_us edges quartz new start begun m some done told risen past (y ++ done) then order time (omega (arith, low, upto)) come keeps (λ i small is. ahead i (keeps i small is))) [
+          elim (names_soon t edges new quartz start begun m some done told risen past (y ++ done) then order time (omega (arith, low, upto)) come keeps (λ i small is. ahead i (keeps i small is))) [
             | inl early ↦ omega (arith, soon, early, low, upto)
             | inr end ↦ omega (arith, soon, end, new.clock.within.few, quartz.few)
           ]
         where
-          keeps : (i : ℕ) (small : i < 5) → come.whole i ≡ true → Keeps t new.clock.drift_us edges quartz new start begun i small m done told risen past (y ++ done)
-          keeps i small is = (let w = come.frames i small is in whole_kept t new.clock.drift_us edges quartz new start begun i small m done told risen past y then order none (omega (arith, low)) w.0 w.1)
+          keeps : (i : ℕ) (small : i < 5) → come.whole i ≡ true → Keeps t edges new quartz start begun i small m done told risen past (y ++ done)
+          keeps i small is = (let w = come.frames i small is in whole_kept t edges new quartz start begun i small m done told risen past y then order none (omega (arith, low)) w.0 w.1)
 
-          ahead : (i : ℕ) {small : i < 5} → (k : Keeps t new.clock.drift_us edges quartz new start begun i small m done told risen past (y ++ done)) → k.end ≤ time + 10000
+          ahead : (i : ℕ) {small : i < 5} → (k : Keeps t edges new quartz start begun i small m done told risen past (y ++ done)) → k.end ≤ time + 14000
           ahead i {small} k = elim behind [
-            | inl same ↦ (let end = ended t new.clock.drift_us edges quartz new start begun i small m done told risen past (y ++ done) then order in omega (arith, k.is, end, same))
+            | inl same ↦ (let end = ended t edges new quartz start begun i small m done told risen past (y ++ done) then order in omega (arith, k.is, end, same))
             | inr near ↦ omega (arith, k.most, near, new.clock.within.few, quartz.few)
           ]
 
-      soon_behind : (y : List Call) → AreInOrder start new.clock.redundancy (Tick now ∷ (y ++ done)) → HaveNoVotes new (edges m - 11000) y done → last_tick start (y ++ done) < edges m + 2000 → AreMadeInTurn start y done → IsSoonEnough late new now y done → ComesWhole t edges new m (y ++ done) → now ≤ edges m + 2000 + late
+      soon_behind : (y : List Call) → AreInOrder start new.clock.redundancy (Tick now ∷ (y ++ done)) → HaveNoVotes new (edges m - 15000) y done → last_tick start (y ++ done) < edges m + 3000 → AreMadeInTurn start y done → IsSoonEnough late new now y done → ComesWhole t edges new m (y ++ done) → now ≤ edges m + 3000 + late
       soon_behind [] order none early turn soon come =
           let one = some_line done come in
           let w = come.frames one.0 one.1 one.2 in
           let sorted = ((lines_after new start begun done now order).lines one.0 one.1).sorted in
-          absurd (not_before t new.clock.drift_us edges quartz new start begun one.0 one.1 m done told risen past w.0 (pulses_on one.0 done) sorted (risen one.0) w.1)
+          absurd (not_before t edges new quartz start begun one.0 one.1 m done told risen past w.0 (pulses_on one.0 done) sorted (risen one.0) w.1)
       soon_behind (Tick time ∷ y) order none early turn soon come =
           let again : AreInOrder start new.clock.redundancy (Tick time ∷ (Tick time ∷ (y ++ done))) = (omega arith, omega arith, order.3.2, order.3) in
           by_named (Tick time ∷ y) time time again none (omega (arith, early)) (omega arith) (inl (omega arith)) come soon
       soon_behind (Hear port rise width ∷ y) order none early turn soon come = elim (one_less t new.clock.drift_us edges quartz new m port rise width (y ++ done) come) [
         | inl less ↦ soon_behind y (unheard start new.clock.redundancy port rise width now (y ++ done) order) none early turn.1 soon.1 less
         | inr last ↦
-            let all = by_latest start (rise + width + 1000) (Hear port rise width ∷ (y ++ done)) (latest_by start (rise + width + 1000) (Hear port rise width) (y ++ done) turn.0 (omega arith)) in
-            let here : AreInOrder start new.clock.redundancy (Tick (rise + width + 1000) ∷ (Hear port rise width ∷ (y ++ done))) = (all.1, omega (arith, order.1, last.most, behind), all.0, order.3) in
+            let all = by_latest start (rise + width + 3000) (Hear port rise width ∷ (y ++ done)) (latest_by start (rise + width + 3000) (Hear port rise width) (y ++ done) turn.0 (omega arith)) in
+            let here : AreInOrder start new.clock.redundancy (Tick (rise + width + 3000) ∷ (Hear port rise width ∷ (y ++ done))) = (all.1, omega (arith, order.1, last.most, behind), (λ line. after_by (pulses_on line (Hear port rise width ∷ (y ++ done))) (rise + width + 3000) (rise + width + 3000 + 4000) (all.0 line) (omega arith)), order.3) in
             let ends = ends_whole new.clock.within new.limits new.rules t new.clock.drift_us edges m (pulses_on port (Hear port rise width ∷ (y ++ done))) quartz last.whole in
-            let place = place_is t new.clock.drift_us edges quartz new start begun port last.small m done told risen past port rise width (y ++ done) (rise + width + 1000) here last.narrow (eq-eqb port port refl) last.whole ends in
-            by_named (Hear port rise width ∷ y) (rise + width) (rise + width + 1000) here none (omega (arith, last.most)) (omega arith) (inr last.least) come (soon.0 place)
+            let place = place_is t edges new quartz start begun port last.small m done told risen past port rise width (y ++ done) (rise + width + 3000) here last.narrow (eq-eqb port port refl) last.whole ends in
+            by_named (Hear port rise width ∷ y) (rise + width) (rise + width + 3000) here none (omega (arith, last.most)) (omega arith) (inr last.least) come (soon.0 place)
       ]
 
-  pub waits_serve : (m : ℕ) → 1 ≤ m → (rest done : List Call) → AreServing IsTrue t edges new start Waits m rest done → ComesWhole t edges new m (rest ++ done) → edges m + 2000 ≤ last_tick start (rest ++ done) → IsStep IsTrue t edges new start m rest done
+  pub waits_serve : (m : ℕ) → 1 ≤ m → (rest done : List Call) → AreServing IsTrue t edges new start Waits m rest done → ComesWhole t edges new m (rest ++ done) → edges m + 3000 ≤ last_tick start (rest ++ done) → IsStep IsTrue t edges new start m rest done
   waits_serve m some rest done on come last =
       let r = new.clock.redundancy in
-      let first = first_tick start (edges m + 2000) rest done (omega (arith, on.ticked, on.past)) last in
+      let first = first_tick start (edges m + 3000) rest done (omega (arith, on.ticked, on.past)) last in
       let z : List Call = Tick first.now ∷ first.y in
       let joined : rest ++ done ≡ first.x ++ (z ++ done) = ap (λ (c : List Call). c ++ done) first.are ∙ append_assoc first.x z done in
       let waits = waits_split first.x z done (subst (λ (c : List Call). Waits c done) first.are on.loop) in
@@ -321,7 +321,7 @@ module _ (IsTrue : ℕ → List Pulse → Type 0) (t : TimelineValue) (edges : �
             let order = subst (AreInOrder start r) parts here.3 in
             let upto : h.time ≤ last_tick start (h.x ++ (voted ++ done)) = last_on start r h.x (voted ++ done) order in
             let same : last_tick start (first.y ++ done) ≡ last_tick start (h.x ++ (voted ++ done)) = ap (last_tick start) parts in
-            let low : h.time < edges m + 2000 = omega (arith, upto, same, first.early) in
+            let low : h.time < edges m + 3000 = omega (arith, upto, same, first.early) in
             let before = (order_before start r h.x (voted ++ done) order).0 in
             record {
               x = first.x ++ (Tick first.now ∷ h.x);
@@ -339,7 +339,7 @@ module _ (IsTrue : ℕ → List Pulse → Type 0) (t : TimelineValue) (edges : �
             }
       ]
 
-pub waiting_announces : (t : TimelineValue) (edges : ℕ → ℕ) (made : Made) (start m late : ℕ) (calls before : List Call) (u : UtcSecond) → ComeInARow (IsTrueLately made.clock.within.us) t edges made start m calls before → late ≤ 96000 → GoesByWait late (device_of made) calls before → AreMadeInTurn start calls before
+pub waiting_announces : (t : TimelineValue) (edges : ℕ → ℕ) (made : Made) (start m late : ℕ) (calls before : List Call) (u : UtcSecond) → ComeInARow (IsTrueLately made.clock.within.us) t edges made start m calls before → late ≤ 95000 → GoesByWait late (device_of made) calls before → AreMadeInTurn start calls before
     → IsSecond t (m + 1 + made.clock.reader_rules.lock_after) u → Announces edges (device_of made) (m + 1 + made.clock.reader_rules.lock_after) u (calls ++ before)
 waiting_announces t edges made start m late calls before u come few goes turn second =
     let quartz = come.is.steady in

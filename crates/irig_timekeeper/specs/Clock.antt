@@ -1,7 +1,7 @@
 -- A device's clock: what becomes of it at a tick, and what it then says. It counts the seconds from
 -- its last edge to one on which lines agree, or else by its own counter.
 -- Source: this project's profile.
-use Rattle.std.specs.Prelude.{ℕ, ◌+◌, ◌-◌, ◌*◌, ◌%◌, ◌^◌, ◌==◌, if◌then◌else◌, Option, Some, None, IfSome}
+use Rattle.std.specs.Prelude.{ℕ, Bool, not, ◌&&◌, ◌≤◌, ◌+◌, ◌-◌, ◌*◌, ◌%◌, ◌^◌, ◌==◌, min, max, if◌then◌else◌, Option, Some, None, is_none, IfSome}
 use Rattle.irig_time.specs.declared.second.UtcSecond.{UtcSecond}
 use Rattle.irig_time.specs.declared.claim.Claim.{Claim}
 use Rattle.irig_time.specs.Seconds.{IsValid}
@@ -10,6 +10,8 @@ use Rattle.irig_reader.specs.declared.report.Lock.{Lock}
 use Rattle.irig_reader.specs.declared.report.Lock.TheVariants as lock
 use Rattle.irig_reader.specs.declared.report.Report.{Report}
 use Rattle.irig_reader.specs.declared.rule.Step.{Step}
+use Rattle.irig_reader.specs.declared.rule.State.{State}
+use Rattle.irig_reader.specs.declared.rule.State.TheVariants.{Idle, Acquiring, Locked}
 use Rattle.irig_timekeeper.specs.declared.lines.Lines.{Lines}
 use Rattle.irig_timekeeper.specs.declared.lines.Vote.{Vote}
 use Rattle.irig_timekeeper.specs.declared.stamp.Announced.{Announced}
@@ -17,10 +19,12 @@ use Rattle.irig_timekeeper.specs.declared.clock.Beat.{Beat}
 use Rattle.irig_timekeeper.specs.declared.setup.ClockRules.{ClockRules}
 use Rattle.irig_timekeeper.specs.declared.clock.ClockState.{ClockState}
 use Rattle.irig_timekeeper.specs.Counting.{edges_to_vote, edges_own, edge_behind}
-use Rattle.irig_timekeeper.specs.Steps.{settled, taken, tells_of, agreed, if_come, wait_by}
+use Rattle.irig_timekeeper.specs.Steps.{settled, taken, tells_of, are_uneven, agreed, if_come, wait_by}
 use Rattle.irig_timekeeper.specs.declared.interval.Interval.{Interval}
 use Rattle.irig_timekeeper.specs.Intervals.{by_vote, carried_on, cut, contradicts}
 use Rattle.irig_timekeeper.specs.Rule.{step_behind}
+use Rattle.std.specs.Option.{ForSome}
+use Rattle.irig_timekeeper.specs.Exactness.{most_vote_us, most_held_us}
 
 -- ---- a second that is announced
 
@@ -51,7 +55,36 @@ still_serves None announce last = last
 still_serves (Some vote) None last = None
 still_serves (Some vote) (Some u) last = last
 
+-- ---- the second that ended at an edge
+
+-- the second at which a locked reader stands
+abbrev pub held_second : State → Option UtcSecond
+held_second Idle = None
+held_second (Acquiring h count) = None
+held_second (Locked h) = Some h.last
+
+-- by a vote that of its claim; by the own counter the one that was held, if the next one is announced
+abbrev pub second_ended : (held : Option UtcSecond) → (missed : ℕ) → Option Claim
+    → (announce : Option UtcSecond) → Option UtcSecond
+second_ended held missed (Some claim) announce = Some claim.at
+second_ended held missed None None = None
+second_ended held missed None (Some u) = if missed == 0 then held else None
+
 -- ---- an edge
+
+-- while something is in doubt, nothing is announced without a vote
+abbrev pub announce_unless : (doubt : ℕ) → Option Claim → Option UtcSecond → Option UtcSecond
+announce_unless doubt (Some vote) announce = announce
+announce_unless doubt None announce = if doubt == 0 then announce else None
+
+-- what is then said
+abbrev pub unless_doubted : (doubt : ℕ) → Option Claim → Report → Report
+unless_doubted doubt vote report =
+    record report { announce = announce_unless doubt vote report.announce }
+
+-- a step of the reader's rule that says so
+abbrev pub counted_on : (doubt : ℕ) → Option Claim → Step → Step
+counted_on doubt vote step = record step { report = unless_doubted doubt vote step.report }
 
 -- what is said of an edge by a step of the reader's rule, behind so many that were missed; that of
 -- the last vote lay at most so far off
@@ -65,24 +98,30 @@ beat_by c s step missed edge voted = record {
   moved = s.moved;
 }
 
--- where the clock then stands, with these lines, by this vote if there is one
-abbrev pub beaten : ClockRules → ClockState → Lines → Option Claim → Step → (edge voted : ℕ)
+-- where the clock then stands, with these lines, by this vote if there is one, behind so many seconds
+-- that were missed
+abbrev pub beaten : ClockRules → ClockState → Lines → Option Claim → Step → (missed edge voted : ℕ)
     → ClockState
-beaten c s lines vote step edge voted = record {
+beaten c s lines vote step missed edge voted = record {
   lines = lines;
   reader = step.state;
   edge_us = Some edge;
   bound_us = voted;
   interval = s.interval;
   strays = s.strays;
+  doubt = s.doubt;
   moved = 0;
   last = announced c.drift_us voted step.report edge;
   before = still_serves vote step.report.announce s.last;
+  ended = announced_at edge (bound_of c.drift_us voted step.report.lock)
+      (second_ended (held_second s.reader) missed vote step.report.announce);
+  ended_before = if missed == 0 then s.ended else None;
 }
 
 -- the step at an edge to which so many seconds were counted, one or more
 abbrev pub step_to : ClockRules → TableValue → ClockState → ℕ → Option Claim → Step
-step_to c table s edges vote = step_behind c.reader_rules table (edges - 1) s.reader vote
+step_to c table s edges vote =
+    counted_on s.doubt vote (step_behind c.reader_rules table (edges - 1) s.reader vote)
 
 -- ---- lines agree on an edge
 
@@ -97,7 +136,7 @@ after_vote c table s vote edges =
       moved = (s.moved + 1) % 2 ^ 32;
     }
     else beaten c s (taken s.lines) (Some vote.claim) (step_to c table s edges (Some vote.claim))
-    vote.edge_us vote.bound_us
+    (edges - 1) vote.edge_us vote.bound_us
 
 -- what a tick answers to a vote
 abbrev pub answer_to_vote : ClockRules → TableValue → ClockState → Vote → ℕ → Option Beat
@@ -117,7 +156,8 @@ own_edge (Some edge) edges = edge_behind edge edges
 abbrev pub after_own : ClockRules → TableValue → ClockState → ℕ → ClockState
 after_own c table s edges =
     if edges == 0 then s
-    else beaten c s s.lines None (step_to c table s edges None) (own_edge s.edge_us edges) s.bound_us
+    else beaten c s s.lines None (step_to c table s edges None) (edges - 1)
+    (own_edge s.edge_us edges) s.bound_us
 
 -- what a tick answers without a vote
 abbrev pub answer_alone : ClockRules → TableValue → ClockState → ℕ → Option Beat
@@ -136,12 +176,19 @@ known_then c s seconds = carried_on c.drift_us seconds s.interval
 abbrev pub knowing : ClockRules → ClockState → ℕ → ClockState → ClockState
 knowing c s seconds next = record next { interval = known_then c s seconds }
 
+-- behind a vote that contradicts those before it so many seconds have to be voted before one is
+-- announced again without a vote: as many as a holdover may last, 1,000 at most and one at least
+abbrev pub doubted_s : ClockRules → ℕ
+doubted_s c = max 1 (min 1000 c.reader_rules.holdover)
+
 -- a clock that then knows it by a vote too, and counts the votes that contradict what it knew
 abbrev pub knowing_vote : ClockRules → ClockState → Vote → ℕ → ClockState → ClockState
 knowing_vote c s vote seconds next = record next {
   interval = Some (cut (known_then c s seconds) (by_vote vote));
-  strays = (s.strays + (if contradicts (known_then c s seconds) (by_vote vote) then 1 else 0))
-      % 2 ^ 32;
+  strays = if contradicts (known_then c s seconds) (by_vote vote) then (s.strays + 1) % 2 ^ 32
+      else s.strays;
+  doubt = if contradicts (known_then c s seconds) (by_vote vote) then doubted_s c
+      else s.doubt - seconds;
 }
 
 -- ---- a tick
@@ -160,21 +207,32 @@ answer_by c table s now None = answer_alone c table s (edges_own s.edge_us now)
 answer_by c table s now (Some vote) =
     answer_to_vote c table s vote (edges_to_vote s.edge_us vote.edge_us)
 
--- the clock with its lines settled
-abbrev pub settled_at : ClockState → ℕ → ClockState
-settled_at s now = record s { lines = settled now s.lines }
-
 -- the edge on which lines agree, if it has come
 abbrev pub vote_of_lines : ClockRules → ClockState → ℕ → Option Vote
 vote_of_lines c s now = if_come now (agreed c (settled now s.lines))
 
+-- where a second is counted without a vote so many lines keep a frame that lasts too long or too short
+-- that they are not all true, or the counter is not so steady as the setup says
+abbrev pub is_unsteady : ClockRules → ClockState → ℕ → Bool
+is_unsteady c s now =
+    is_none (vote_of_lines c s now)
+    && (not (edges_own s.edge_us now == 0) && are_uneven c (settled now s.lines))
+
+-- the clock with its lines settled; that counts as a vote does that contradicts those before it
+abbrev pub settled_at : ClockRules → ClockState → ℕ → ClockState
+settled_at c s now = record s {
+  lines = settled now s.lines;
+  strays = if is_unsteady c s now then (s.strays + 1) % 2 ^ 32 else s.strays;
+  doubt = if is_unsteady c s now then doubted_s c else s.doubt;
+}
+
 -- what a tick leaves
 abbrev pub clock_after : ClockRules → TableValue → ClockState → ℕ → ClockState
-clock_after c table s now = clock_by c table (settled_at s now) now (vote_of_lines c s now)
+clock_after c table s now = clock_by c table (settled_at c s now) now (vote_of_lines c s now)
 
 -- what it answers
 abbrev pub clock_answer : ClockRules → TableValue → ClockState → ℕ → Option Beat
-clock_answer c table s now = answer_by c table (settled_at s now) now (vote_of_lines c s now)
+clock_answer c table s now = answer_by c table (settled_at c s now) now (vote_of_lines c s now)
 
 -- the claim on which lines agree, if they do
 abbrev pub claim_voted : Option Vote → Option Claim
@@ -193,6 +251,11 @@ SaysOfUtc beat = IfSome beat (λ b. IfSome b.report.announce IsValid)
 pub record AnnouncedOfUtc (s : ClockState) : Type 0 where
   pub last : IfSome s.last (λ announced. IsValid announced.second)
   pub before : IfSome s.before (λ announced. IsValid announced.second)
+
+-- the seconds that ended at told edges are told with no greater bound than a held one may have
+pub record AreSmall (s : ClockState) : Type 0 where
+  pub ended : ForSome s.ended (λ a. a.bound_us ≤ most_vote_us + most_held_us)
+  pub before : ForSome s.ended_before (λ a. a.bound_us ≤ most_vote_us + most_held_us)
 
 -- how long until a tick has something to do, if no call comes before it
 abbrev pub clock_wait : ClockRules → ClockState → ℕ → ℕ

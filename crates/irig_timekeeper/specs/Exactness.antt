@@ -1,6 +1,6 @@
 -- How exact the lines and the counter of a device are, and how exact it is by them, in microseconds.
 -- Source: this project's profile.
-use Rattle.std.specs.Prelude.{ℕ, ◌+◌, ◌-◌, ◌*◌}
+use Rattle.std.specs.Prelude.{ℕ, ◌+◌, ◌-◌, ◌*◌, min}
 use Rattle.irig_sync.specs.Edges.{element_drift}
 
 -- the most that a setup may say of its lines: a pulse of a true line rises less than this from its
@@ -21,6 +21,22 @@ window_us within = 2 * (within - 1)
 -- wrong: its end is 10 ms behind its last pulse, and the last element may be longer or shorter
 abbrev pub end_off_us : ℕ → ℕ → ℕ
 end_off_us within d = within - 1 + element_drift d
+
+-- the last pulse of a frame rises 990 ms behind its first one, but for this: each of them may be so far
+-- from its place, and the second may be longer or shorter by d us
+abbrev pub uneven_us : ℕ → ℕ → ℕ
+uneven_us within d = window_us within + d
+
+-- a frame of which one pulse is at fault ends at most so much further before its edge: if that is its
+-- last one, its first one is true, and the frame is even
+abbrev pub fault_early_us : ℕ → ℕ → ℕ
+fault_early_us within d = window_us within + 2 * d - element_drift d
+
+-- and at most so much further behind its edge: its last pulse also rises less than 11 ms behind the one
+-- before
+abbrev pub fault_late_us : ℕ → ℕ → ℕ
+fault_late_us within d =
+    min (fault_early_us within d) (999 + element_drift (2 * d) - element_drift d)
 
 -- the edge on which lines agree lies at most this far from the true one: lines that agree leave
 -- an interval twice as long as a true line's, of which it is the middle

@@ -67,9 +67,12 @@ new_state lines = record {
   bound_us = 0;
   interval = None;
   strays = 0;
+  doubt = 0;
   moved = 0;
   last = None;
   before = None;
+  ended = None;
+  ended_before = None;
 }
 
 -- nothing has happened, on lines on which nothing came
@@ -104,7 +107,7 @@ abbrev pub one_pulse_more : Keeping → ℕ → ℕ → ℕ → Keeping
 one_pulse_more k port rise width = record k {
   heard = with_heard k.heard port (heard_then k port rise width);
   state = with_lines k.state (with_line k.state.lines port
-      (line_heard (line_at k.state.lines port) rise width
+      (line_heard k.clock (line_at k.state.lines port) rise width
       (told_within k.limits k.rules (heard_then k port rise width))));
 }
 

@@ -2,6 +2,7 @@ pub mod Exactness
 pub mod Edges
 pub mod Lines
 pub mod Counting
+pub mod Delays
 pub mod Steps
 pub mod Rule
 pub mod Clock
@@ -16,6 +17,9 @@ pub mod Loops
 pub mod Since
 pub mod Rows
 pub mod Quality
+pub mod States
+pub mod LineTruths
 pub mod Healing
 pub mod Intervals
 pub mod Lived
+pub mod Doubts

@@ -68,7 +68,7 @@ HaveRisen time calls = (line : ℕ) → IsAfter (pulses_on line calls) time
 
 -- each line's pulses are told in order, the lines in any, and each pulse before a tick more than
 -- half a second behind its rise; what is too wide is no pulse. Ticks come in the order of their
--- times, one at least in half an hour, and none before the rise of a pulse that was told
+-- times, one at least in half an hour, and none more than 4 ms before the rise of a pulse that was told
 abbrev pub AreInOrder : ℕ → Redundancy → List Call → Type 0
 AreInOrder start redundancy [] = ⊤
 AreInOrder start redundancy (Hear port rise width ∷ calls) =
@@ -77,8 +77,8 @@ AreInOrder start redundancy (Hear port rise width ∷ calls) =
     → IsAfter (pulses_on port calls) rise × (last_tick start calls ≤ rise + 500000))
     × AreInOrder start redundancy calls
 AreInOrder start redundancy (Tick now ∷ calls) =
-    (last_tick start calls ≤ now) × (now + 500000 < last_tick start calls + 1800000000)
-    × HaveRisen now calls × AreInOrder start redundancy calls
+    (last_tick start calls ≤ now) × (now + 504000 < last_tick start calls + 1800000000)
+    × HaveRisen (now + 4000) calls × AreInOrder start redundancy calls
 
 -- all but at most f of the five lines are such true lines at this time; a line that is not there
 -- brought no pulse

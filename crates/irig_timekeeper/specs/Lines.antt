@@ -1,18 +1,19 @@
 -- What it is for a line to be true of late: each frame begins at its own edge, so that the
 -- device's counter may drift.
 -- Source: IRIG Standard 200-16, format B: an element each 10 ms; this project's profile.
-use Rattle.std.specs.Prelude.{◌≡◌, ℕ, ◌+◌, ◌-◌, ◌*◌, ◌/◌, ◌%◌, ◌^◌, ◌<◌, ◌≤◌, ◌⊎◌, nat_lt, if◌then◌else◌, List, [], ◌∷◌, Option, Some, None, take, drop, slice_get, get_or, ⊤}
+use Rattle.std.specs.Prelude.{◌≡◌, ℕ, zero, suc, ◌+◌, ◌-◌, ◌*◌, ◌/◌, ◌%◌, ◌^◌, ◌<◌, ◌≤◌, ◌⊎◌, nat_lt, if◌then◌else◌, List, [], ◌∷◌, Option, Some, None, take, drop, slice_get, get_or, ⊤}
 use Rattle.irig_frame.specs.declared.symbol.Symbol.{Symbol}
 use Rattle.irig_frame.specs.declared.symbol.Symbol.TheVariants.{One, Marker, Bad}
 use Rattle.irig_frame.specs.FieldTable.{is_marker_place}
 use Rattle.irig_sync.specs.Edges.{element_at}
 use Rattle.irig_sync.specs.FaultyLines.{IsPulseOf, HasOneFault}
-use Rattle.irig_sync.specs.Lines.{Pulse, AreOnTime, IsTrueLine, StandAt, symbols_of_last}
+use Rattle.irig_sync.specs.Lines.{Pulse, place_after, AreOnTime, IsTrueLine, StandAt, symbols_of_last}
 use Rattle.irig_time.specs.declared.rules.Rules.{Rules}
 use Rattle.irig_time.specs.declared.claim.Claim.{Claim}
 use Rattle.irig_time.specs.Carries.{Carries}
 use Rattle.irig_time.specs.Timelines.{TimelineValue, IsTrueClaim}
 use Rattle.irig_timekeeper.specs.declared.lines.KeptClaim.{KeptClaim}
+use Rattle.irig_timekeeper.specs.Exactness.{uneven_us}
 
 -- of these pulses, the newest first, those that rose within 1.2 s before now, or later, are those of
 -- some elements before the k-th, each less than `within` us off, in order: any others were lost
@@ -40,29 +41,50 @@ pub record IsTrueLately (within : ℕ) (rules : Rules) (t : TimelineValue) (edge
 
 -- ---- a frame that was heard whole
 
+-- when the pulse rose that came so many before the newest of these
+abbrev pub rise_before : ℕ → List Pulse → ℕ
+rise_before n [] = 0
+rise_before zero (p ∷ ps) = p.rise
+rise_before (suc n) (p ∷ ps) = rise_before n ps
+
+-- in a frame this is when the pulse rose that began it, by a clock of 32 bits
+abbrev pub KnowsBegin : (begin : ℕ) → List Pulse → Type 0
+KnowsBegin begin pulses =
+    (n : ℕ) → place_after pulses ≡ suc n → begin ≡ rise_before n pulses % 2 ^ 32
+
+-- of a hundred pulses, the newest first, the last rose 990 ms behind the first, but for what so exact
+-- lines and a counter that runs d us a second wrong may be off
+abbrev pub AreEven : (within d : ℕ) → List Pulse → Type 0
+AreEven within d pulses =
+    (rise_before 99 pulses + 990000 ≤ rise_before 0 pulses + uneven_us within d)
+    × (rise_before 0 pulses ≤ rise_before 99 pulses + 990000 + uneven_us within d)
+
 -- the newest of these pulses rose an element before that time
 abbrev pub IsLastBefore : ℕ → List Pulse → Type 0
 IsLastBefore end [] = ⊥
 IsLastBefore end (p ∷ ps) = end ≡ p.rise + 10000
 
--- a hundred pulses in a row, each but the first on time behind the one before, carry the claim; the
--- last of them rose an element before that time, and so many pulses came behind it
-pub record IsFrameOf (rules : Rules) (claim : Claim) (end : ℕ) (pulses : List Pulse) : Type 0 where
+-- a hundred pulses in a row, each but the first on time behind the one before, and so even, carry the
+-- claim; the last of them rose an element before that time, and so many pulses came behind it
+pub record IsFrameOf (within d : ℕ) (rules : Rules) (claim : Claim) (end : ℕ) (pulses : List Pulse)
+    : Type 0 where
   pub late : ℕ
   pub on_time : AreOnTime 100 (drop late pulses)
   pub carries : Carries rules (symbols_of_last 100 (drop late pulses)) claim
   pub last : IsLastBefore end (drop late pulses)
+  pub even : AreEven within d (drop late pulses)
 
 -- a line keeps a frame of these pulses, if it keeps one; it ends at such a time, which the line has
 -- by a clock of 32 bits
-abbrev pub IfKept : (ℕ → Type 0) → Rules → Option KeptClaim → List Pulse → Type 0
-IfKept EndsSo rules None pulses = ⊤
-IfKept EndsSo rules (Some kept) pulses =
-    (end : ℕ) × (kept.end_us ≡ end % 2 ^ 32) × IsFrameOf rules kept.claim end pulses × EndsSo end
+abbrev pub IfKept : (ℕ → Type 0) → (within d : ℕ) → Rules → Option KeptClaim → List Pulse → Type 0
+IfKept EndsSo within d rules None pulses = ⊤
+IfKept EndsSo within d rules (Some kept) pulses =
+    (end : ℕ) × (kept.end_us ≡ end % 2 ^ 32) × IsFrameOf within d rules kept.claim end pulses
+    × EndsSo end
 
--- the end lies less than a turn of that clock back, and at most 10 ms ahead
+-- the end lies less than a turn of that clock back, and at most 14 ms ahead
 abbrev pub IsInTurnOf : ℕ → ℕ → Type 0
-IsInTurnOf now end = (end ≤ now + 10000) × (now + 10000 < end + 2 ^ 32)
+IsInTurnOf now end = (end ≤ now + 14000) × (now + 14000 < end + 2 ^ 32)
 
 -- of an end nothing is asked
 abbrev pub IsAnyEnd : ℕ → Type 0

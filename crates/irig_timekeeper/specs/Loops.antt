@@ -13,7 +13,7 @@ use Rattle.irig_timekeeper.specs.Announcing.{ComesWhole}
 
 -- as many seconds in a row as a device locks after and two more, from the m-th on, come whole in
 -- these calls, which came behind those; the first of their frames ends in these. Up to the last
--- tick, 2 ms or more behind the last edge, at most f lines are not such true lines
+-- tick, 3 ms or more behind the last edge, at most f lines are not such true lines
 pub record ComeInARow (IsTrue : Rules → TimelineValue → (ℕ → ℕ) → ℕ → List Pulse → Type 0)
     (t : TimelineValue) (edges : ℕ → ℕ) (made : Made) (start m : ℕ) (calls before : List Call)
     : Type 0 where
@@ -28,7 +28,7 @@ pub record ComeInARow (IsTrue : Rules → TimelineValue → (ℕ → ℕ) → �
   pub past : told + 11000 < edges m
   pub whole : (n : ℕ) → n < made.clock.reader_rules.lock_after + 2
       → ComesWhole t edges (device_of made) (m + n) (calls ++ before)
-  pub last : edges (m + 1 + made.clock.reader_rules.lock_after) + 2000
+  pub last : edges (m + 1 + made.clock.reader_rules.lock_after) + 3000
       ≤ last_tick start (calls ++ before)
 
 -- ---- a tick at least so often
@@ -40,11 +40,11 @@ TicksEach most start (Hear port rise width ∷ calls) before = TicksEach most st
 TicksEach most start (Tick now ∷ calls) before =
     (now ≤ last_tick start (calls ++ before) + most) × TicksEach most start calls before
 
--- each pulse is told before any tick that comes more than 1 ms behind its end
+-- each pulse is told before any tick that comes more than 3 ms behind its end
 abbrev pub AreToldInTime : ℕ → List Call → List Call → Type 0
 AreToldInTime start [] before = ⊤
 AreToldInTime start (Hear port rise width ∷ calls) before =
-    (last_tick start (calls ++ before) ≤ rise + width + 1000) × AreToldInTime start calls before
+    (last_tick start (calls ++ before) ≤ rise + width + 3000) × AreToldInTime start calls before
 AreToldInTime start (Tick now ∷ calls) before = AreToldInTime start calls before
 
 -- ---- a tick when `wait` says
@@ -60,11 +60,11 @@ latest start [] = start
 latest start (call ∷ calls) =
     if nat_le (made_at call) (latest start calls) then latest start calls else made_at call
 
--- these calls, which came behind those, are made one after another, but for 1 ms
+-- these calls, which came behind those, are made one after another, but for 3 ms
 abbrev pub AreMadeInTurn : ℕ → List Call → List Call → Type 0
 AreMadeInTurn start [] before = ⊤
 AreMadeInTurn start (call ∷ calls) before =
-    (latest start (calls ++ before) ≤ made_at call + 1000) × AreMadeInTurn start calls before
+    (latest start (calls ++ before) ≤ made_at call + 3000) × AreMadeInTurn start calls before
 
 -- the time that a device names when it is asked behind its last call: until then it has nothing to
 -- do

@@ -1,7 +1,7 @@
 -- What becomes of a device's lines by a pulse and at a tick, and on which edge they agree.
 -- Source: this project's profile.
-use Rattle.std.specs.Prelude.{◌≡◌, ℕ, ◌+◌, ◌-◌, ◌/◌, ◌%◌, ◌^◌, ◌==◌, min, max, Bool, false, ◌&&◌, nat_lt, nat_le, if◌then◌else◌, List, [], ◌∷◌, count_by, Option, Some, None, IfSome}
-use Rattle.irig_sync.specs.Sync.{clock_gap, place_of, pulse_of, idle_of}
+use Rattle.std.specs.Prelude.{◌≡◌, ℕ, ◌+◌, ◌-◌, ◌/◌, ◌%◌, ◌^◌, ◌==◌, min, max, Bool, true, false, not, ◌&&◌, nat_lt, nat_le, if◌then◌else◌, List, [], ◌∷◌, count_by, Option, Some, None, IfSome}
+use Rattle.irig_sync.specs.Sync.{clock_gap, place_of, pulse_of, idle_of, is_idle}
 use Rattle.irig_sync.specs.Lines.{IsSyncOf}
 use Rattle.irig_time.specs.Claims.{same_claim}
 use Rattle.irig_time.specs.Seconds.{IsValid}
@@ -16,8 +16,8 @@ use Rattle.irig_timekeeper.specs.declared.lines.Lines.{Lines}
 use Rattle.irig_timekeeper.specs.declared.lines.Vote.{Vote}
 use Rattle.irig_timekeeper.specs.declared.setup.ClockRules.{ClockRules}
 use Rattle.irig_vote.specs.Vote.{f_of}
-use Rattle.irig_timekeeper.specs.Counting.{is_late, has_come}
-use Rattle.irig_timekeeper.specs.Exactness.{window_us, end_off_us}
+use Rattle.irig_timekeeper.specs.Counting.{is_late, is_gone, has_come}
+use Rattle.irig_timekeeper.specs.Exactness.{window_us, end_off_us, uneven_us}
 
 -- ---- a pulse
 
@@ -25,11 +25,31 @@ use Rattle.irig_timekeeper.specs.Exactness.{window_us, end_off_us}
 abbrev pub is_pulse : ℕ → Bool
 is_pulse width = nat_lt width 500000
 
--- what a line keeps behind a pulse with this place: at a frame's last one what its port then tells,
--- and where the frame ends
-abbrev pub frame_behind : ℕ → ℕ → Told → Option KeptFrame → Option KeptFrame
-frame_behind place rise told frame =
-    if place == 100 then Some (record { told = told; end_us = (rise + 10000) % 2 ^ 32 }) else frame
+-- a frame is even whose last pulse rises 990 ms behind its first one, but for what so exact lines and
+-- such a counter may be off
+abbrev pub is_even : ClockRules → (begin rise : ℕ) → Bool
+is_even c begin rise =
+    nat_le 990000 (clock_gap begin rise + uneven_us c.within.us c.drift_us)
+    && nat_le (clock_gap begin rise) (990000 + uneven_us c.within.us c.drift_us)
+
+-- when the first pulse of a line's frame rose, behind a pulse with this place
+abbrev pub begin_behind : (place rise begin : ℕ) → ℕ
+begin_behind place rise begin = if place == 1 then rise else begin
+
+-- a frame whose first and last pulses rose then: what its port tells, where it ends, and whether it is
+-- even
+abbrev pub whole_frame : ClockRules → (begin rise : ℕ) → Told → KeptFrame
+whole_frame c begin rise told = record {
+  told = told;
+  end_us = (rise + 10000) % 2 ^ 32;
+  is_even = is_even c begin rise;
+}
+
+-- what a line keeps behind a pulse with this place: at a frame's last one that frame
+abbrev pub frame_behind : ClockRules → (place begin rise : ℕ) → Told → Option KeptFrame
+    → Option KeptFrame
+frame_behind c place begin rise told frame =
+    if place == 100 then Some (whole_frame c begin rise told) else frame
 
 -- the line of a port
 abbrev pub line_at : Lines → ℕ → Line
@@ -50,10 +70,13 @@ with_line lines port line =
     else record lines { e = line })))
 
 -- a line behind a pulse; `told` is what its port then tells
-abbrev pub line_heard : Line → ℕ → ℕ → Told → Line
-line_heard line rise width told = record {
+abbrev pub line_heard : ClockRules → Line → ℕ → ℕ → Told → Line
+line_heard c line rise width told = record {
   sync = pulse_of line.sync rise width;
-  frame = frame_behind (place_of line.sync rise width) rise told line.frame;
+  begin_us = begin_behind (place_of line.sync rise width) rise line.begin_us;
+  frame = frame_behind c (place_of line.sync rise width) line.begin_us rise told line.frame;
+  seen = frame_behind c (place_of line.sync rise width) line.begin_us rise told line.seen;
+  is_heard = true;
 }
 
 -- ---- a tick
@@ -63,10 +86,19 @@ abbrev pub still_kept : ℕ → Option KeptFrame → Option KeptFrame
 still_kept now None = None
 still_kept now (Some frame) = if is_late frame.end_us now then None else Some frame
 
+-- what is not gone is still seen
+abbrev pub still_seen : ℕ → Option KeptFrame → Option KeptFrame
+still_seen now None = None
+still_seen now (Some frame) = if is_gone frame.end_us now then None else Some frame
+
 -- a line at a tick: it may be idle, and its frame may be late
 abbrev pub line_settled : ℕ → Line → Line
-line_settled now line =
-    record { sync = idle_of line.sync now; frame = still_kept now line.frame }
+line_settled now line = record line {
+  sync = idle_of line.sync now;
+  frame = still_kept now line.frame;
+  seen = still_seen now line.seen;
+  is_heard = line.is_heard && not (is_idle (clock_gap line.sync.rise_us now));
+}
 
 -- what a tick does first
 abbrev pub settled : ℕ → Lines → Lines
@@ -80,7 +112,7 @@ settled now lines = record {
 
 -- the line without its frame
 abbrev pub line_taken : Line → Line
-line_taken line = record { sync = line.sync; frame = None }
+line_taken line = record line { frame = None }
 
 -- what a tick leaves that takes the frames
 abbrev pub taken : Lines → Lines
@@ -109,6 +141,23 @@ tells_of lines = record {
   e = frame_tells lines.e.frame;
 }
 
+-- ---- frames that are uneven
+
+-- a kept frame is uneven
+abbrev pub is_uneven : Option KeptFrame → Bool
+is_uneven None = false
+is_uneven (Some frame) = not frame.is_even
+
+-- what five lines keep
+abbrev pub frames_of : Lines → List (Option KeptFrame)
+frames_of lines =
+    lines.a.frame ∷ lines.b.frame ∷ lines.c.frame ∷ lines.d.frame ∷ lines.e.frame ∷ []
+
+-- more than f lines keep a frame that is uneven: these are not all true, if the counter is as steady as
+-- the setup says
+abbrev pub are_uneven : ClockRules → Lines → Bool
+are_uneven c lines = nat_lt (f_of c.redundancy) (count_by is_uneven (frames_of lines))
+
 -- ---- the edge on which lines agree
 
 -- what a frame claims, if it claims a second
@@ -118,10 +167,10 @@ claim_told tells.Silence end = None
 claim_told (tells.Fault f) end = None
 claim_told (tells.Poor q) end = None
 
--- the claim of a kept frame, and where it ends
+-- the claim of a kept frame that is even, and where it ends
 abbrev pub claim_kept : Option KeptFrame → Option KeptClaim
 claim_kept None = None
-claim_kept (Some frame) = claim_told frame.told frame.end_us
+claim_kept (Some frame) = if frame.is_even then claim_told frame.told frame.end_us else None
 
 -- those of the five lines
 abbrev pub all_kept : Lines → List (Option KeptClaim)
@@ -257,6 +306,8 @@ pub record AreKeptOfUtc (lines : Lines) : Type 0 where
 pub record IsNewLine (line : Line) : Type 0 where
   pub sync : IsSyncOf line.sync []
   pub frame : line.frame ≡ None
+  pub seen : line.seen ≡ None
+  pub heard : line.is_heard ≡ false
 
 -- nor on any
 pub record AreNewLines (lines : Lines) : Type 0 where

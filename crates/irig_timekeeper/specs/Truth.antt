@@ -28,14 +28,14 @@ use Rattle.irig_timekeeper.specs.Exactness.{vote_us, most_drift_us, most_vote_us
 
 -- the lines keep frames of these pulses, and all but at most f of the five are such true lines; a
 -- line that is not there brought no pulse
-pub record AreHeardTruly (IsTrue : List Pulse → Type 0) (rules : Rules) (f now : ℕ)
+pub record AreHeardTruly (IsTrue : List Pulse → Type 0) (within d : ℕ) (rules : Rules) (f now : ℕ)
     (lines : Lines) (pulses : ℕ → List Pulse)
     : Type 0 where
   pub untrue : ℕ → Bool
   pub few : count_by untrue (range_with_len 0 5) ≤ f
   pub true_lines : (i : ℕ) → i < 5 → untrue i ≡ false → IsTrue (pulses i)
   pub kept : (i : ℕ) → i < 5
-      → IfKept (IsInTurnOf now) rules (claim_kept (line_at lines i).frame) (pulses i)
+      → IfKept (IsInTurnOf now) within d rules (claim_kept (line_at lines i).frame) (pulses i)
 
 -- lines claim the true second before an edge, and the edge on which they agree lies no further from it
 -- than its bound, and so much more before it and behind it; it has come, at most 100 ms ago

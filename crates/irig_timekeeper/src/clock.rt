@@ -8,13 +8,13 @@ ghost use Rattle.irig_timekeeper.specs.Rule.{missed, step_behind};
 ghost use Rattle.irig_timekeeper.specs.Steps.{AreKeptOfUtc, AreNewLines};
 ghost use Rattle.irig_timekeeper.specs.Keeping.{new_state};
 ghost use Rattle.irig_timekeeper.specs.Intervals.{IsShort};
-ghost use Rattle.irig_timekeeper.specs.Clock.{knowing, knowing_vote, lasted, bound_of, announced_at, still_serves, beat_by, beaten, step_to, after_vote, answer_to_vote, after_own, answer_alone, clock_after, clock_answer, clock_vote, clock_wait, SaysOfUtc, AnnouncedOfUtc};
+ghost use Rattle.irig_timekeeper.specs.Clock.{knowing, knowing_vote, lasted, bound_of, announced_at, still_serves, beat_by, beaten, step_to, after_vote, answer_to_vote, after_own, answer_alone, doubted_s, settled_at, vote_of_lines, clock_after, clock_answer, clock_vote, clock_wait, held_second, second_ended, unless_doubted, SaysOfUtc, AnnouncedOfUtc, AreSmall};
 ghost use Rattle.irig_timekeeper.specs.Exactness.{most_drift_us, most_vote_us, most_held_us};
 
 use crate::counting::{edge_behind, edges_own, edges_to_vote};
 use crate::interval::{Interval, by_vote, carried_on, contradicts, cut};
 use crate::lines::{
-    Lines, Vote, agreed, if_come, lines_of_nothing, settle, take, tells_of, wait_by,
+    Lines, Vote, agreed, are_uneven, if_come, lines_of_nothing, settle, take, tells_of, wait_by,
 };
 use crate::setup::ClockRules;
 use crate::stamp::Announced;
@@ -37,14 +37,22 @@ pub struct ClockState {
     /// In which the true edge lies by all votes since one that contradicted those before it, if it
     /// is known so well that seconds can be counted by it: at most 980,000 us.
     pub interval: Option<Interval>,
-    /// How many votes contradicted those before them.
+    /// How many votes contradicted those before them, and how many seconds were counted without a
+    /// vote where frames told that the counter is not so steady as the setup says.
     pub strays: u32,
+    /// How many seconds have to be voted yet, behind the last of these, before one is announced
+    /// again without a vote.
+    pub doubt: u32,
     /// How often lines set that edge right since.
     pub moved: u32,
     /// The last second that was counted, if it was announced.
     pub last: Option<Announced>,
     /// The one counted before it, if it was announced and no vote since announced nothing.
     pub before: Option<Announced>,
+    /// The second that ended at the last edge, if it was voted or announced without a vote.
+    pub ended: Option<Announced>,
+    /// The one that ended at the edge before, if that was told.
+    pub ended_before: Option<Announced>,
 }
 
 /// What a tick answers at which an edge has come.
@@ -84,9 +92,12 @@ pub fn clock_of_nothing() -> ClockState
         bound_us: 0,
         interval: None,
         strays: 0,
+        doubt: 0,
         moved: 0,
         last: None,
         before: None,
+        ended: None,
+        ended_before: None,
     }
 }
 
@@ -102,6 +113,7 @@ pub fn tick<T: Leaps>(rules: &ClockRules, table: &T, state: &mut ClockState, now
     requires counting { count_of state.old.reader < rules.now.reader_rules.lock_after }
     requires small { state.old.bound_us ≤ most_vote_us }
     requires known { IsShort state.old.interval }
+    requires ended { AreSmall state.old }
     requires valid { AreKeptOfUtc state.old.lines }
     ensures answer { result.beat ≡ clock_answer rules.now (T.says table.now) state.old now_us }
     ensures after { state.new ≡ clock_after rules.now (T.says table.now) state.old now_us }
@@ -111,10 +123,10 @@ pub fn tick<T: Leaps>(rules: &ClockRules, table: &T, state: &mut ClockState, now
     ensures said { SaysOfUtc result.beat }
     ensures small { state.new.bound_us ≤ most_vote_us }
     ensures known { IsShort state.new.interval }
+    ensures ended { AreSmall state.new }
     ensures announced { AnnouncedOfUtc state.old → AnnouncedOfUtc state.new }
 {
-    settle(&mut state.lines, now_us);
-    match if_come(now_us, agreed(rules, &state.lines)) {
+    match settle_clock(rules, state, now_us) {
         Some(vote) => tick_by_vote(rules, table, state, vote),
         None => tick_alone(rules, table, state, now_us),
     }
@@ -129,6 +141,7 @@ fn tick_by_vote<T: Leaps>(
 ) -> Ticked
     requires steady { rules.now.drift_us ≤ most_drift_us }
     requires known { IsShort state.old.interval }
+    requires ended { AreSmall state.old }
     requires short { (rules.now.reader_rules.holdover + 2) * rules.now.drift_us ≤ most_held_us }
     requires small { vote.bound_us ≤ most_vote_us }
     requires counting { count_of state.old.reader < rules.now.reader_rules.lock_after }
@@ -140,6 +153,7 @@ fn tick_by_vote<T: Leaps>(
         (after_vote rules.now (T.says table.now) state.old vote
         (edges_to_vote state.old.edge_us vote.edge_us)) }
     ensures known { IsShort state.new.interval }
+    ensures ended { AreSmall state.new }
     ensures vote { result.vote ≡ Some vote.claim }
     ensures counting { count_of state.new.reader < rules.now.reader_rules.lock_after }
     ensures valid { AreKeptOfUtc state.new.lines }
@@ -173,6 +187,7 @@ fn tick_alone<T: Leaps>(
 ) -> Ticked
     requires steady { rules.now.drift_us ≤ most_drift_us }
     requires known { IsShort state.old.interval }
+    requires ended { AreSmall state.old }
     requires short { (rules.now.reader_rules.holdover + 2) * rules.now.drift_us ≤ most_held_us }
     requires counting { count_of state.old.reader < rules.now.reader_rules.lock_after }
     requires small { state.old.bound_us ≤ most_vote_us }
@@ -182,6 +197,7 @@ fn tick_alone<T: Leaps>(
     ensures after { state.new ≡ knowing rules.now state.old (edges_own state.old.edge_us now_us)
         (after_own rules.now (T.says table.now) state.old (edges_own state.old.edge_us now_us)) }
     ensures known { IsShort state.new.interval }
+    ensures ended { AreSmall state.new }
     ensures vote { result.vote ≡ None }
     ensures counting { count_of state.new.reader < rules.now.reader_rules.lock_after }
     ensures valid { AreKeptOfUtc state.new.lines }
@@ -201,6 +217,30 @@ fn tick_alone<T: Leaps>(
     Ticked { beat, vote: None }
 }
 
+// Settles the lines: the edge on which they agree, if it has come. If they do not, how long their
+// frames last tells whether the counter is so steady as the setup says.
+fn settle_clock(rules: &ClockRules, state: &mut ClockState, now_us: u32) -> Option<Vote>
+    requires steady { rules.now.drift_us ≤ most_drift_us }
+    ensures vote { result ≡ vote_of_lines rules.now state.old now_us }
+    ensures after { state.new ≡ settled_at rules.now state.old now_us }
+    ensures small { IfSome result (λ vote. vote.bound_us ≤ most_vote_us) }
+{
+    settle(&mut state.lines, now_us);
+    let vote = if_come(now_us, agreed(rules, &state.lines));
+    if vote.is_none() && edges_own(state.edge_us, now_us) > 0 && are_uneven(rules, &state.lines) {
+        state.strays = state.strays.wrapping_add(1);
+        state.doubt = doubted_s(rules);
+    }
+    vote
+}
+
+// How many seconds have to be voted before one is announced again without a vote.
+fn doubted_s(rules: &ClockRules) -> u32
+    ensures { result ≡ doubted_s rules.now }
+{
+    rules.reader_rules.holdover.clamp(1, 1_000)
+}
+
 // What is then known of the edge by all votes, and whether this one contradicts it.
 fn know_vote(rules: &ClockRules, state: &mut ClockState, vote: Vote, edges: u32)
     requires steady { rules.now.drift_us ≤ most_drift_us }
@@ -212,9 +252,13 @@ fn know_vote(rules: &ClockRules, state: &mut ClockState, vote: Vote, edges: u32)
 {
     let known = carried_on(rules.drift_us, edges, state.interval);
     let voted = by_vote(vote);
-    let strays = u32::from(contradicts(known, voted));
     state.interval = Some(cut(known, voted));
-    state.strays = state.strays.wrapping_add(strays);
+    if contradicts(known, voted) {
+        state.strays = state.strays.wrapping_add(1);
+        state.doubt = doubted_s(rules);
+    } else {
+        state.doubt = state.doubt.saturating_sub(edges);
+    }
 }
 
 // An edge to which so many seconds were counted, with the vote on it, if there is one.
@@ -230,20 +274,24 @@ fn beat_at<T: Leaps>(
     requires counting { count_of state.old.reader < rules.now.reader_rules.lock_after }
     requires small { state.old.bound_us ≤ most_vote_us }
     requires valid { IfSome vote (λ claim. IsValid claim.at) }
+    requires ended { AreSmall state.old }
     requires some { 1 ≤ edges }
     ensures answer { result ≡ beat_by rules.now state.old
         (step_to rules.now (T.says table.now) state.old edges vote) (edges - 1) edge_us
         state.old.bound_us }
     ensures after { state.new ≡ beaten rules.now state.old state.old.lines vote
-        (step_to rules.now (T.says table.now) state.old edges vote) edge_us state.old.bound_us }
+        (step_to rules.now (T.says table.now) state.old edges vote) (edges - 1) edge_us
+        state.old.bound_us }
     ensures counting { count_of state.new.reader < rules.now.reader_rules.lock_after }
     ensures said { IfSome result.report.announce IsValid }
+    ensures ended { AreSmall state.new }
     ensures announced { AnnouncedOfUtc state.old → AnnouncedOfUtc state.new }
 {
     let reader = mem::replace(&mut state.reader, State::Idle);
+    let held = held_second(&reader);
     let step = step_behind(rules.reader_rules, table, edges - 1, reader, vote);
     let beat = Beat {
-        report: step.report,
+        report: unless_doubted(state.doubt, vote, step.report),
         told: tells_of(&state.lines),
         edge_us,
         bound_us: bound_of(rules, state.bound_us, step.report.lock),
@@ -251,6 +299,12 @@ fn beat_at<T: Leaps>(
         moved: state.moved,
     };
     state.reader = step.state;
+    state.ended_before = if edges == 1 { state.ended } else { None };
+    state.ended = announced(
+        second_ended(held, edges - 1, vote, beat.report.announce),
+        edge_us,
+        beat.bound_us,
+    );
     state.edge_us = Some(edge_us);
     state.moved = 0;
     state.before = still_serves(vote, beat.report.announce, state.last);
@@ -278,6 +332,46 @@ fn step_behind<T: Leaps>(
         state = step_of(rules, table, state, None).state;
     }
     step_of(rules, table, state, vote)
+}
+
+// The second at which a locked reader stands.
+fn held_second(reader: &State) -> Option<UtcSecond>
+    ensures { result ≡ held_second reader.now }
+{
+    match reader {
+        State::Locked(hold) => Some(hold.now()),
+        _ => None,
+    }
+}
+
+// The second that ended at an edge.
+fn second_ended(
+    held: Option<UtcSecond>,
+    missed: u32,
+    vote: Option<Claim>,
+    announce: Option<UtcSecond>,
+) -> Option<UtcSecond>
+    ensures { result ≡ second_ended held missed vote announce }
+{
+    match (vote, announce) {
+        (Some(claim), _) => Some(claim.at),
+        (None, Some(_)) if missed == 0 => held,
+        _ => None,
+    }
+}
+
+// What a reader says, but that nothing is announced without a vote while something is in doubt.
+fn unless_doubted(doubt: u32, vote: Option<Claim>, report: Report) -> Report
+    ensures { result ≡ unless_doubted doubt vote report }
+{
+    Report {
+        announce: if doubt == 0 || vote.is_some() {
+            report.announce
+        } else {
+            None
+        },
+        ..report
+    }
 }
 
 // What was announced before: if a vote announces nothing, as at a jump, it may be false.

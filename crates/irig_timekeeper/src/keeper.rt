@@ -1,6 +1,6 @@
 //! A timekeeper.
 
-ghost use Rattle.std.specs.Prelude.{◌≡◌, ◌<◌, ◌≤◌, ◌+◌, ◌*◌, ◌%◌, ◌^◌, ℕ, List, [], ◌∷◌, IfOk, MatchResult, None, Option, Some};
+ghost use Rattle.std.specs.Prelude.{◌≡◌, ◌<◌, ◌≤◌, ◌+◌, ◌-◌, ◌*◌, ◌%◌, ◌^◌, false, ℕ, List, [], ◌∷◌, IfOk, MatchResult, None, Option, Some};
 ghost use Rattle.irig_frame.specs.declared.symbol.Symbol.{Symbol};
 ghost use Rattle.irig_sync.specs.Sync.{place_of};
 ghost use Rattle.irig_time.specs.declared.rules.Rules.{Rules};
@@ -12,18 +12,18 @@ ghost use Rattle.irig_vote.specs.Vote.{ports_in};
 ghost use Rattle.irig_reader.specs.Rule.{count_of};
 ghost use Rattle.irig_reader.specs.Rules.{IsReaderRules};
 ghost use Rattle.irig_timekeeper.specs.Steps.{line_at, line_heard, AreKeptOfUtc, IsKeptOfUtc, AreNewLines};
+ghost use Rattle.irig_timekeeper.specs.Clock.{AreSmall};
 ghost use Rattle.irig_timekeeper.specs.Intervals.{IsShort};
 ghost use Rattle.irig_timekeeper.specs.Exactness.{most_drift_us, most_vote_us, most_held_us};
 
 use crate::clock::{Beat, ClockState, clock_of_nothing, tick, wait_of};
-use crate::lines::{KeptFrame, Line, is_pulse, line_at, with_line};
+use crate::delay::{corrected, delay_at};
+use crate::lines::{Line, is_pulse, line_at, whole_frame, with_line};
 use crate::setup::{ClockFault, ClockRules, clock_fault};
 use crate::stamp::{Stamp, stamp_of};
-use crate::within::Within;
+use crate::states::{LineState, state_of};
 use irig_port::{Limits, Port, Told, edge_within, hear};
-use irig_reader::ReaderRules;
 use irig_time::{LeapTable, Rules};
-use irig_vote::Redundancy;
 
 /// A device that keeps time by one line, three or five. It knows no timeline.
 ///
@@ -46,99 +46,65 @@ pub struct Timekeeper<P: Port> {
     ghost small: { state.bound_us ≤ most_vote_us },
     ghost known: { IsShort state.interval },
     ghost valid: { ∥ AreKeptOfUtc state.lines ∥₁ },
+    ghost ended: { AreSmall state },
 }
 
 impl<P: Port> Timekeeper<P> {
     ghost use Rattle.irig_timekeeper.specs.Refusals.{clock_fault};
+    ghost use Rattle.irig_timekeeper.specs.Delays.{corrected, delay_at};
+    ghost use Rattle.irig_timekeeper.specs.States.{state_of};
+    ghost use Rattle.irig_timekeeper.specs.LineTruths.{is_untrue, IsSaidRightly};
     ghost use Rattle.irig_timekeeper.specs.Keeping.{place_told, one_pulse_more, after_pulse, after_tick, answer_at, restarted, heard_by, with_heard, wait_at, stamp_at};
     ghost use Rattle.irig_timekeeper.specs.Keepers.{IsKeeping, IsNew, ForKeeping, Goes};
-    ghost use Rattle.irig_timekeeper.specs.Life.{Call, AreInOrder, device_of};
+    ghost use Rattle.irig_timekeeper.specs.Life.{Call, AreInOrder, device_of, last_tick, pulses_on};
     ghost use Rattle.irig_timekeeper.specs.Life.Call.{Hear, Tick};
     ghost use Rattle.irig_timekeeper.specs.Lived.{MadeOf, HasLived, LivesWell, made_with};
     ghost use Rattle.irig_timekeeper.specs.Rows.{AreToldLast};
+    ghost use Rattle.irig_timekeeper.specs.Doubts.{SaysTheRule};
     ghost use Rattle.irig_timekeeper.specs.Lines.{IsTrueLately};
     ghost use Rattle.irig_timekeeper.specs.Truth.{IsToldInHoldover, IsStampedTruly};
     ghost use Rattle.irig_time.specs.Timelines.{TimelineValue};
     ghost use Rattle.irig_time.specs.declared.second.UtcSecond.{UtcSecond};
 
-    /// A timekeeper to which nothing has happened, with rules that are
-    /// [`in_range`](irig_reader::in_range), by a counter that is at most `drift_us` microseconds a
-    /// second wrong; or the setup's [`first fault`](clock_fault).
-    pub fn new(
-        rules: Rules,
-        reader_rules: ReaderRules,
-        table: LeapTable,
-        redundancy: Redundancy,
-        within: Within,
-        drift_us: u32,
-    ) -> Result<Self, ClockFault>
-        requires { IsReaderRules reader_rules }
+    /// A timekeeper to which nothing has happened, with reader's rules that are
+    /// [`in_range`](irig_reader::in_range); or the setup's [`first fault`](clock_fault).
+    pub fn new(rules: Rules, clock: ClockRules, table: LeapTable) -> Result<Self, ClockFault>
+        requires { IsReaderRules clock.reader_rules }
         ensures new { MatchResult result
-            (λ keeper. (clock_fault reader_rules drift_us ≡ None)
-            × IsNew keeper None rules (record {
-              reader_rules = reader_rules;
-              redundancy = redundancy;
-              within = within;
-              drift_us = drift_us;
-            }) table)
-            (λ fault. clock_fault reader_rules drift_us ≡ Some fault) }
+            (λ keeper. (clock_fault clock.reader_rules clock.drift_us ≡ None)
+            × IsNew keeper None rules clock table)
+            (λ fault. clock_fault clock.reader_rules clock.drift_us ≡ Some fault) }
         ensures lived { IfOk result (λ keeper. HasLived keeper (record {
           limits = None;
           rules = rules;
-          clock = record {
-            reader_rules = reader_rules;
-            redundancy = redundancy;
-            within = within;
-            drift_us = drift_us;
-          };
+          clock = clock;
           table = table;
         }) []) }
     {
-        Timekeeper::new_within(
-            rules,
-            reader_rules,
-            table,
-            redundancy,
-            within,
-            drift_us,
-            None,
-        )
+        Timekeeper::new_within(rules, clock, table, None)
     }
 
     /// The same, whose lines give no frame a vote that does not lie within the limits, if there are
     /// any ([`edge_within`]).
     pub fn new_within(
         rules: Rules,
-        reader_rules: ReaderRules,
+        clock: ClockRules,
         table: LeapTable,
-        redundancy: Redundancy,
-        within: Within,
-        drift_us: u32,
         limits: Option<Limits>,
     ) -> Result<Self, ClockFault>
-        requires { IsReaderRules reader_rules }
+        requires { IsReaderRules clock.reader_rules }
         ensures new { MatchResult result
-            (λ keeper. (clock_fault reader_rules drift_us ≡ None)
-            × IsNew keeper limits rules (record {
-              reader_rules = reader_rules;
-              redundancy = redundancy;
-              within = within;
-              drift_us = drift_us;
-            }) table)
-            (λ fault. clock_fault reader_rules drift_us ≡ Some fault) }
+            (λ keeper. (clock_fault clock.reader_rules clock.drift_us ≡ None)
+            × IsNew keeper limits rules clock table)
+            (λ fault. clock_fault clock.reader_rules clock.drift_us ≡ Some fault) }
         ensures lived { IfOk result (λ keeper. HasLived keeper (record {
           limits = limits;
           rules = rules;
-          clock = record {
-            reader_rules = reader_rules;
-            redundancy = redundancy;
-            within = within;
-            drift_us = drift_us;
-          };
+          clock = clock;
           table = table;
         }) []) }
     {
-        if let Some(fault) = clock_fault(reader_rules, drift_us) {
+        if let Some(fault) = clock_fault(clock.reader_rules, clock.drift_us) {
             return Err(fault);
         }
         Ok(Timekeeper {
@@ -149,12 +115,7 @@ impl<P: Port> Timekeeper<P> {
             e: P::fresh(rules),
             rules,
             limits,
-            clock: ClockRules {
-                reader_rules,
-                redundancy,
-                within,
-                drift_us,
-            },
+            clock,
             table,
             state: clock_of_nothing(),
         })
@@ -163,18 +124,23 @@ impl<P: Port> Timekeeper<P> {
     /// A pulse on a line, once it has ended, each line's in order, and before any tick of half a
     /// second or more after it rose: its place in its frame, 1 to 100, or 0 out of step. It rose at
     /// `rise_us`, and is `width_us` microseconds wide. The line is 0 of one, 0 to 2 of three, 0 to 4
-    /// of five.
+    /// of five. What the laws say of the rise of a pulse is so of the time at which it rose by its
+    /// clock: the line's delay is taken off.
     ///
     /// What is half a second wide or wider is no pulse: 0 is answered, and nothing changes.
     pub fn hear(&mut self, line: u8, rise_us: u32, width_us: u32) -> u8
         requires { line < ports_in self.old.clock.redundancy }
-        ensures place { ForKeeping self.old (λ k. result ≡ place_told k line rise_us width_us) }
-        ensures heard { Goes self.old self.new (λ k. after_pulse k line rise_us width_us) }
+        ensures place { ForKeeping self.old (λ k. result ≡ place_told k line
+            (corrected rise_us (delay_at k.clock.delays line)) width_us) }
+        ensures heard { Goes self.old self.new (λ k. after_pulse k line
+            (corrected rise_us (delay_at k.clock.delays line)) width_us) }
         ensures lived { (made : MadeOf) (calls : List Call) (rise : ℕ) → HasLived self.old made calls
-            → rise_us ≡ rise % 2 ^ 32 → HasLived self.new made (Hear line rise width_us ∷ calls) }
+            → corrected rise_us (delay_at made.clock.delays line) ≡ rise % 2 ^ 32
+            → HasLived self.new made (Hear line rise width_us ∷ calls) }
         ensures lines { self.new.clock ≡ self.old.clock }
     {
         if is_pulse(width_us) {
+            let rise_us = corrected(rise_us, delay_at(&self.clock.delays, line));
             self.hear_pulse(line, rise_us, width_us)
         } else {
             0
@@ -202,14 +168,15 @@ impl<P: Port> Timekeeper<P> {
         ensures heard { Goes self.old self.new (λ k. record k {
           heard = with_heard k.heard port (heard_at result (heard_by k.heard port) width_us);
         }) }
-        ensures line { ForKeeping self.old (λ k. line.new ≡ line_heard line.old rise_us width_us
-            (told_within k.limits k.rules (heard_at result (heard_by k.heard port) width_us))) }
+        ensures line { ForKeeping self.old (λ k. line.new ≡ line_heard k.clock line.old rise_us
+            width_us (told_within k.limits k.rules (heard_at result (heard_by k.heard port) width_us))) }
         ensures valid { IsKeptOfUtc line.new.frame }
         ensures state { self.new.state ≡ self.old.state }
         ensures lines { self.new.clock ≡ self.old.clock }
     {
         match port {
             0 => hear_line(
+                &self.clock,
                 self.rules,
                 self.limits,
                 &mut self.a,
@@ -218,6 +185,7 @@ impl<P: Port> Timekeeper<P> {
                 width_us,
             ),
             1 => hear_line(
+                &self.clock,
                 self.rules,
                 self.limits,
                 &mut self.b,
@@ -226,6 +194,7 @@ impl<P: Port> Timekeeper<P> {
                 width_us,
             ),
             2 => hear_line(
+                &self.clock,
                 self.rules,
                 self.limits,
                 &mut self.c,
@@ -234,6 +203,7 @@ impl<P: Port> Timekeeper<P> {
                 width_us,
             ),
             3 => hear_line(
+                &self.clock,
                 self.rules,
                 self.limits,
                 &mut self.d,
@@ -242,6 +212,7 @@ impl<P: Port> Timekeeper<P> {
                 width_us,
             ),
             _ => hear_line(
+                &self.clock,
                 self.rules,
                 self.limits,
                 &mut self.e,
@@ -253,8 +224,8 @@ impl<P: Port> Timekeeper<P> {
     }
 
     /// To be called at any time, as often as one likes, and at least once in 29 minutes, but with
-    /// no time before the last tick's or before the rise of a pulse that was told: what is said of
-    /// a second, if an edge has come since the last one.
+    /// no time before the last tick's or more than 4 ms before the rise of a pulse that was told:
+    /// what is said of a second, if an edge has come since the last one.
     pub fn tick(&mut self, now_us: u32) -> Option<Beat>
         ensures answer { ForKeeping self.old (λ k. result ≡ answer_at k now_us) }
         ensures after { Goes self.old self.new (λ k. after_tick k now_us) }
@@ -268,6 +239,12 @@ impl<P: Port> Timekeeper<P> {
             → result ≡ Some beat → beat.report.announce ≡ Some u
             → IsToldInHoldover t edges 0 0 made.clock.within.us made.clock.drift_us
             made.clock.reader_rules.holdover now beat u }
+        // While lines are true nothing is in doubt (`what_strays_is_not_held`).
+        ensures rule { (t : TimelineValue) (edges : ℕ → ℕ) (made : MadeOf) (start now : ℕ)
+            (calls : List Call) (beat : Beat) → HasLived self.old made calls
+            → now_us ≡ now % 2 ^ 32
+            → LivesWell (IsTrueLately made.clock.within.us) t edges made start (Tick now ∷ calls)
+            → result ≡ Some beat → ForKeeping self.old (λ k. SaysTheRule k now_us beat) }
         ensures lines { self.new.clock ≡ self.old.clock }
     {
         tick(&self.clock, &self.table, &mut self.state, now_us).beat
@@ -286,8 +263,9 @@ impl<P: Port> Timekeeper<P> {
 
     /// How many votes contradicted what all votes before them had said, since it was made or
     /// restarted: the interval in which the edge lay by those, carried on by the drift, had nothing
-    /// in common with that of the vote. None does while all lines but f are true and the counter is
-    /// as steady as the setup says. It turns over at 2^32.
+    /// in common with that of the vote. A second that is counted without a vote counts too, if more
+    /// than f lines keep a frame that lasted too long or too short. There is none while all lines
+    /// but f are true and the counter is as steady as the setup says. It turns over at 2^32.
     pub fn strays(&self) -> u32
         ensures value { ForKeeping self.now (λ k. result ≡ k.state.strays) }
         // the law `votes_do_not_stray`
@@ -326,6 +304,30 @@ impl<P: Port> Timekeeper<P> {
         stamp_of(self.state.last, self.state.before, time_us)
     }
 
+    /// What a line is, as of the last tick and the pulses since. It is by the edges that were told
+    /// last, and the second that ended at each.
+    pub fn line(&self, line: u8) -> LineState
+        requires { line < ports_in self.now.clock.redundancy }
+        ensures value { ForKeeping self.now (λ k. result ≡ state_of k.clock k.state line) }
+        // While all lines but f are true, none is said to be uneven, apart or to differ that was
+        // true since 2.7 s before the last tick.
+        ensures truth { (t : TimelineValue) (edges : ℕ → ℕ) (made : MadeOf) (start now : ℕ)
+            (calls : List Call) → HasLived self.now made calls
+            → LivesWell (IsTrueLately made.clock.within.us) t edges made start calls
+            → AreInOrder start made.clock.redundancy (Tick now ∷ calls)
+            → IsTrueLately made.clock.within.us made.rules t edges (last_tick start calls - 1500000)
+            (pulses_on line calls) → is_untrue result ≡ false }
+        // And what is said of any line is so.
+        ensures said { (t : TimelineValue) (edges : ℕ → ℕ) (made : MadeOf) (start now : ℕ)
+            (calls : List Call) → HasLived self.now made calls
+            → LivesWell (IsTrueLately made.clock.within.us) t edges made start calls
+            → AreInOrder start made.clock.redundancy (Tick now ∷ calls)
+            → IsSaidRightly made.clock self.now.state made.rules t edges (last_tick start calls)
+            (pulses_on line calls) result }
+    {
+        state_of(&self.clock, &self.state, line)
+    }
+
     /// As new.
     pub fn restart(&mut self)
         ensures forgotten { Goes self.old self.new (λ k. restarted k self.new.state.lines) }
@@ -345,6 +347,7 @@ impl<P: Port> Timekeeper<P> {
 
 // A pulse on a line and at its port; at a frame's last one the line keeps what the port tells.
 fn hear_line<P: Port>(
+    clock: &ClockRules,
     rules: Rules,
     limits: Option<Limits>,
     port: &mut P,
@@ -352,22 +355,26 @@ fn hear_line<P: Port>(
     rise_us: u32,
     width_us: u32,
 ) -> u8
-    requires { IsKeptOfUtc line.old.frame }
+    requires valid { IsKeptOfUtc line.old.frame }
+    requires steady { clock.now.drift_us ≤ most_drift_us }
     ensures place { result ≡ place_of line.old.sync rise_us width_us }
     ensures line { (l : Option Limits) (r : Rules) (s : List Symbol) → P.stands_for port.old r s
-        → limits ≡ l → rules ≡ r → line.new ≡ line_heard line.old rise_us width_us
+        → limits ≡ l → rules ≡ r → line.new ≡ line_heard clock.now line.old rise_us width_us
         (told_within l r (heard_at result s width_us)) }
     ensures heard { (r : Rules) (s : List Symbol) → P.stands_for port.old r s
         → P.stands_for port.new r (heard_at result s width_us) }
     ensures valid { IsKeptOfUtc line.new.frame }
 {
     let place = hear(port, &mut line.sync, rise_us, width_us);
+    line.is_heard = true;
+    if place == 1 {
+        line.begin_us = rise_us;
+    }
     if place == 100 {
         let told = told_by(rules, limits, port);
-        line.frame = Some(KeptFrame {
-            told,
-            end_us: rise_us.wrapping_add(10_000),
-        });
+        let frame = whole_frame(clock, line.begin_us, rise_us, told);
+        line.frame = Some(frame);
+        line.seen = Some(frame);
     }
     place
 }

@@ -2,10 +2,11 @@
 
 ghost use Rattle.std.specs.Prelude.{◌≡◌, ◌≤◌, ◌<◌, ◌-◌, None, IfSome, count_by};
 ghost use Rattle.irig_vote.specs.Vote.{f_of};
+ghost use Rattle.irig_sync.specs.Sync.{clock_gap, is_idle};
 ghost use Rattle.irig_timekeeper.specs.Exactness.{most_drift_us, most_vote_us, window_us};
-ghost use Rattle.irig_timekeeper.specs.Steps.{is_pulse, line_at, with_line, still_kept, line_settled, settled, taken, frame_tells, tells_of, claim_kept, all_kept, agrees, is_candidate, earlier, first_candidate, place_behind, ends_by, ends_from, end_behind, earlier_end, ended_by, later_end, ending_from, vote_between, vote_with, agreed, if_come, IsNewLine, AreNewLines, until, wait_by};
+ghost use Rattle.irig_timekeeper.specs.Steps.{is_pulse, line_at, with_line, still_kept, line_settled, settled, taken, still_seen, is_even, is_uneven, are_uneven, whole_frame, frame_tells, tells_of, claim_kept, all_kept, agrees, is_candidate, earlier, first_candidate, place_behind, ends_by, ends_from, end_behind, earlier_end, ended_by, later_end, ending_from, vote_between, vote_with, agreed, if_come, IsNewLine, AreNewLines, until, wait_by};
 
-use crate::counting::{has_come, is_late};
+use crate::counting::{has_come, is_gone, is_late};
 use crate::setup::ClockRules;
 use irig_port::Told;
 use irig_sync::Sync;
@@ -25,6 +26,9 @@ pub struct KeptFrame {
     pub told: Told,
     /// The local time at which it ends.
     pub end_us: u32,
+    /// Whether its last pulse rose 990 ms behind its first one, but for what lines so exact may be
+    /// off. One that did not has no vote.
+    pub is_even: bool,
 }
 
 /// A frame that a line has sent whole, by which the line votes.
@@ -52,8 +56,14 @@ pub struct Vote {
 pub struct Line {
     /// Where it stands in its frame.
     pub sync: Sync,
+    /// When the first pulse of the frame rose that it stands in.
+    pub begin_us: u32,
     /// Its last whole frame, until a tick takes it, or comes more than 100 ms behind its end.
     pub frame: Option<KeptFrame>,
+    /// The same, until a tick comes more than 1.5 s behind its end.
+    pub seen: Option<KeptFrame>,
+    /// Whether a pulse came on it, until a tick comes a second or more behind its rise.
+    pub is_heard: bool,
 }
 
 /// The lines of a device: of one `b` to `e` are not heard, of three `d` and `e`.
@@ -72,7 +82,10 @@ fn line_of_nothing() -> Line
 {
     Line {
         sync: Sync::none(),
+        begin_us: 0,
         frame: None,
+        seen: None,
+        is_heard: false,
     }
 }
 
@@ -123,11 +136,52 @@ pub fn is_pulse(width_us: u32) -> bool
     width_us < STUCK_US
 }
 
+/// Whether a frame is even whose first and whose last pulse rose then.
+pub fn is_even(rules: &ClockRules, begin_us: u32, rise_us: u32) -> bool
+    requires { rules.now.drift_us ≤ most_drift_us }
+    ensures { result ≡ is_even rules.now begin_us rise_us }
+{
+    let off_us = 2 * (rules.within.us() - 1) + rules.drift_us;
+    let long_us = rise_us.wrapping_sub(begin_us);
+    990_000 <= u64::from(long_us) + u64::from(off_us) && long_us <= 990_000 + off_us
+}
+
+/// The frame whose first and last pulses rose then, of which its port tells this.
+pub fn whole_frame(rules: &ClockRules, begin_us: u32, rise_us: u32, told: Told) -> KeptFrame
+    requires { rules.now.drift_us ≤ most_drift_us }
+    ensures { result ≡ whole_frame rules.now begin_us rise_us told }
+{
+    KeptFrame {
+        told,
+        end_us: rise_us.wrapping_add(10_000),
+        is_even: is_even(rules, begin_us, rise_us),
+    }
+}
+
 fn settle_line(line: &mut Line, now_us: u32)
     ensures { line.new ≡ line_settled now_us line.old }
 {
+    line.is_heard = line.is_heard && !is_idle(&line.sync, now_us);
     line.sync.idle(now_us);
     line.frame = still_kept(now_us, line.frame);
+    line.seen = still_seen(now_us, line.seen);
+}
+
+// Whether the last pulse of a line rose a second or more before now.
+fn is_idle(sync: &Sync, now_us: u32) -> bool
+    ensures { result ≡ is_idle (clock_gap sync.now.rise_us now_us) }
+{
+    let gap_us = now_us.wrapping_sub(sync.rise_us);
+    1_000_000 <= gap_us && gap_us < 1 << 31
+}
+
+fn still_seen(now_us: u32, frame: Option<KeptFrame>) -> Option<KeptFrame>
+    ensures { result ≡ still_seen now_us frame }
+{
+    match frame {
+        Some(kept) if !is_gone(kept.end_us, now_us) => frame,
+        _ => None,
+    }
 }
 
 fn still_kept(now_us: u32, frame: Option<KeptFrame>) -> Option<KeptFrame>
@@ -183,12 +237,44 @@ pub fn tells_of(lines: &Lines) -> Tells
     }
 }
 
+fn is_uneven(frame: &Option<KeptFrame>) -> bool
+    ensures { result ≡ is_uneven frame.now }
+{
+    match frame {
+        Some(kept) => !kept.is_even,
+        None => false,
+    }
+}
+
+/// Whether more than f lines keep a frame that is uneven.
+pub fn are_uneven(rules: &ClockRules, lines: &Lines) -> bool
+    ensures { result ≡ are_uneven rules.now lines.now }
+{
+    let uneven = count_uneven(&[
+        lines.a.frame,
+        lines.b.frame,
+        lines.c.frame,
+        lines.d.frame,
+        lines.e.frame,
+    ]);
+    usize::from(rules.redundancy.f()) < uneven
+}
+
+fn count_uneven(frames: &[Option<KeptFrame>]) -> usize
+    ensures { result ≡ count_by is_uneven frames.now }
+{
+    frames.iter().filter(|frame| is_uneven(frame)).count()
+}
+
 fn claim_kept(frame: Option<KeptFrame>) -> Option<KeptClaim>
     ensures { result ≡ claim_kept frame }
 {
     let Some(kept) = frame else {
         return None;
     };
+    if !kept.is_even {
+        return None;
+    }
     match kept.told {
         Told::Claim(claim) => Some(KeptClaim {
             claim,

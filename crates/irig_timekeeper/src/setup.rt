@@ -4,6 +4,7 @@ ghost use Rattle.std.specs.Prelude.{◌≡◌, ◌≤◌};
 ghost use Rattle.irig_timekeeper.specs.Exactness.{most_within_us};
 ghost use Rattle.irig_timekeeper.specs.Refusals.{clock_fault, within_of};
 
+use crate::delay::Delays;
 use crate::within::Within;
 use irig_reader::ReaderRules;
 use irig_vote::Redundancy;
@@ -19,6 +20,8 @@ pub struct ClockRules {
     pub within: Within,
     /// How many microseconds a second the device's counter may be wrong, 0 to 100.
     pub drift_us: u32,
+    /// How late each of them is.
+    pub delays: Delays,
 }
 
 /// Why there is no timekeeper of such a setup, in the order in which faults are answered.

@@ -9,7 +9,9 @@ use irig_gen::{Generator, Zone};
 use irig_port::FlowPort;
 use irig_reader::{Cause, ReaderRules};
 use irig_time::{LeapTable, Rules, Timeline, UtcSecond};
-use irig_timekeeper::{Beat, ClockFault, Timekeeper, Within, clock_fault, nearest_within};
+use irig_timekeeper::{
+    Beat, ClockFault, ClockRules, NO_DELAYS, Timekeeper, Within, clock_fault, nearest_within,
+};
 use irig_vote::Redundancy;
 use std::test::Fail;
 
@@ -83,9 +85,15 @@ fn it_locks_holds_and_comes_back(rt: HostRuntime) -> Result<(), Fail> {
         half_hours: 0,
         dst: false,
     };
-    let rules = ReaderRules {
-        lock_after: 3,
-        holdover: 100,
+    let clock = ClockRules {
+        reader_rules: ReaderRules {
+            lock_after: 3,
+            holdover: 100,
+        },
+        redundancy: Redundancy::Three,
+        within: nearest_within(450),
+        drift_us: 100,
+        delays: NO_DELAYS,
     };
     let (Ok(timeline), Ok(generator)) = (
         Timeline::new(rt.alloc(), START, &[]),
@@ -93,14 +101,7 @@ fn it_locks_holds_and_comes_back(rt: HostRuntime) -> Result<(), Fail> {
     ) else {
         return Err(Fail::from("no plant"));
     };
-    let Ok(mut keeper) = Timekeeper::<FlowPort>::new(
-        Rules::PLAIN,
-        rules,
-        LeapTable::empty(),
-        Redundancy::Three,
-        nearest_within(450),
-        100,
-    ) else {
+    let Ok(mut keeper) = Timekeeper::<FlowPort>::new(Rules::PLAIN, clock, LeapTable::empty()) else {
         return Err(Fail::from("no timekeeper"));
     };
     for n in 0u32..20 {

@@ -15,6 +15,6 @@ returns-clause-agree _ clock lines i first low keeps more = one_is_agreed clock 
 
 pub returns-clause-come : goal.returns-clause-come
 returns-clause-come _ t edges k now pulses vote steady heard ready e =
-    vote_comes (IsTrueLately k.clock.within.us k.rules t edges now) k.rules t k.clock edges steady 0 0 (omega arith) now k.state.lines pulses
+    vote_comes (IsTrueLately k.clock.within.us k.rules t edges now) k.rules t k.clock k.clock.drift_us edges steady 0 0 (omega arith) now k.state.lines pulses
     (λ end ps claim is frame soon. true_lately k.clock.within k.rules t k.clock.drift_us edges now end ps claim steady is frame soon) heard
-    (λ i low right y end is frame ahead soon keeps. ready_by k.clock.within.us k.rules now (claim_kept (line_at k.state.lines i).frame) (pulses i) y end (ready i low right) keeps is ahead soon) vote e
+    (λ i low right y end is frame ahead soon keeps. ready_by _ _ k.clock.within.us k.rules now (claim_kept (line_at k.state.lines i).frame) (pulses i) y end (ready i low right) keeps is ahead soon) vote e

@@ -1,8 +1,9 @@
 use Rattle.std.proofs.Common.{◌+◌, ◌≤◌, arith}
 use Rattle.std.proofs.Math.Nat.{mul-le-mul_left}
 use Rattle.irig_timekeeper.specs.Lines.{IsTrueButForFaults, IsTrueOrFaulty}
+use Rattle.irig_timekeeper.specs.Exactness.{fault_early_us, fault_late_us}
 use Rattle.irig_timekeeper.proofs.LifeLaws.{device_true, device_calm, device_in_order}
-use Rattle.irig_timekeeper.proofs.FaultLines.{faults_are_true, faults_tell_truly, either_tells_truly, whole_is_true}
+use Rattle.irig_timekeeper.proofs.FaultLines.{fault_small, faults_are_true, faults_tell_truly, either_tells_truly, whole_is_true}
 use Rattle.irig_gen.proofs.GenLaws.{true_frames}
 use Rattle.irig_lives.proofs.SentLines.{sent_is_checked, checked_is_line}
 use Rattle.irig_timekeeper.proofs.RowLaws.{in_a_row}
@@ -14,34 +15,38 @@ returns-clause-kept _ within rules t d now end edges pulses claim steady is fram
 
 pub returns-clause-life : goal.returns-clause-life
 returns-clause-life _ t edges made start now calls beat u lives answer says =
-    device_true made.limits made.rules made.clock made.table made.lines start made.fresh (IsTrueButForFaults made.clock.within.us made.rules t edges) t edges 2002 1000 lives.is (omega arith) (faults_tell_truly made.clock.within made.rules t made.clock.drift_us edges lives.is.steady) calls now beat u lives.order lives.truth answer says
+    device_true made.limits made.rules made.clock made.table made.lines start made.fresh (IsTrueButForFaults made.clock.within.us made.rules t edges) t edges (fault_early_us made.clock.within.us made.clock.drift_us) (fault_late_us made.clock.within.us made.clock.drift_us) lives.is (let most = fault_small made.clock.within made.clock.drift_us lives.is.steady.few in omega (arith, most.0, most.1)) (faults_tell_truly made.clock.within made.rules t made.clock.drift_us edges lives.is.steady) calls now beat u lives.order lives.truth answer says
 
 pub returns-clause-either : goal.returns-clause-either
 returns-clause-either _ t edges made start now calls beat u lives answer says =
-    device_true made.limits made.rules made.clock made.table made.lines start made.fresh (IsTrueOrFaulty made.clock.within.us made.rules t edges) t edges 2002 1000 lives.is (omega arith) (either_tells_truly made.clock.within made.rules t made.clock.drift_us edges lives.is.steady) calls now beat u lives.order lives.truth answer says
+    device_true made.limits made.rules made.clock made.table made.lines start made.fresh (IsTrueOrFaulty made.clock.within.us made.rules t edges) t edges (fault_early_us made.clock.within.us made.clock.drift_us) (fault_late_us made.clock.within.us made.clock.drift_us) lives.is (let most = fault_small made.clock.within made.clock.drift_us lives.is.steady.few in omega (arith, most.0, most.1)) (either_tells_truly made.clock.within made.rules t made.clock.drift_us edges lives.is.steady) calls now beat u lives.order lives.truth answer says
 
 pub returns-clause-order : goal.returns-clause-order
 returns-clause-order _ t edges made start before now earlier later beat then u v lives answer says answers again =
-    device_in_order made.limits made.rules made.clock made.table made.lines start made.fresh (IsTrueButForFaults made.clock.within.us made.rules t edges) t edges 2002 1000 lives.is (omega arith) (faults_tell_truly made.clock.within made.rules t made.clock.drift_us edges lives.is.steady) earlier later before now beat then u v lives.order lives.truth answer says answers again
+    device_in_order made.limits made.rules made.clock made.table made.lines start made.fresh (IsTrueButForFaults made.clock.within.us made.rules t edges) t edges (fault_early_us made.clock.within.us made.clock.drift_us) (fault_late_us made.clock.within.us made.clock.drift_us) lives.is (let most = fault_small made.clock.within made.clock.drift_us lives.is.steady.few in omega (arith, most.0, most.1)) (faults_tell_truly made.clock.within made.rules t made.clock.drift_us edges lives.is.steady) earlier later before now beat then u v lives.order lives.truth answer says answers again
 
 pub returns-clause-calm : goal.returns-clause-calm
 returns-clause-calm _ t edges made start now calls beat lives answer =
-    device_calm made.limits made.rules made.clock made.table made.lines start made.fresh (IsTrueButForFaults made.clock.within.us made.rules t edges) t edges 2002 1000 lives.is (omega arith) (faults_tell_truly made.clock.within made.rules t made.clock.drift_us edges lives.is.steady) calls now beat lives.order lives.truth answer
+    device_calm made.limits made.rules made.clock made.table made.lines start made.fresh (IsTrueButForFaults made.clock.within.us made.rules t edges) t edges (fault_early_us made.clock.within.us made.clock.drift_us) (fault_late_us made.clock.within.us made.clock.drift_us) lives.is (let most = fault_small made.clock.within made.clock.drift_us lives.is.steady.few in omega (arith, most.0, most.1)) (faults_tell_truly made.clock.within made.rules t made.clock.drift_us edges lives.is.steady) calls now beat lives.order lives.truth answer
 
 pub returns-clause-stamps : goal.returns-clause-stamps
 returns-clause-stamps _ t edges made start time now calls stamp is order truth past young e =
-    stamped made.limits made.rules made.clock made.table made.lines start made.fresh t edges 2002 1000 2002 is (omega arith) (omega arith) (IsTrueOrFaulty made.clock.within.us made.rules t edges) (omega arith)
+    stamped made.limits made.rules made.clock made.table made.lines start made.fresh t edges (fault_early_us made.clock.within.us made.clock.drift_us) (fault_late_us made.clock.within.us made.clock.drift_us) (fault_early_us made.clock.within.us made.clock.drift_us) is (omega arith) (let most = fault_small made.clock.within made.clock.drift_us is.steady.few in omega (arith, most.2)) (IsTrueOrFaulty made.clock.within.us made.rules t edges) (let most = fault_small made.clock.within made.clock.drift_us is.steady.few in omega (arith, most.0, most.1))
     (either_tells_truly made.clock.within made.rules t made.clock.drift_us edges is.steady) calls time now order truth past young stamp e
 
 pub returns-clause-row : goal.returns-clause-row
 returns-clause-row _ t edges made start edge next calls beat then u lives row says none =
-    in_a_row made.limits made.rules made.clock made.table made.lines start made.fresh (IsTrueOrFaulty made.clock.within.us made.rules t edges) t edges 2002 1000 lives.is (omega arith)
+    in_a_row made.limits made.rules made.clock made.table made.lines start made.fresh (IsTrueOrFaulty made.clock.within.us made.rules t edges) t edges (fault_early_us made.clock.within.us made.clock.drift_us) (fault_late_us made.clock.within.us made.clock.drift_us) lives.is (let most = fault_small made.clock.within made.clock.drift_us lives.is.steady.few in omega (arith, most.0, most.1))
     (either_tells_truly made.clock.within made.rules t made.clock.drift_us edges lives.is.steady) calls beat then edge next u lives.order lives.truth row says none
 
+pub returns-clause-most : goal.returns-clause-most
+returns-clause-most _ within d few = fault_small within d few
+
 pub returns-clause-half : goal.returns-clause-half
-returns-clause-half _ t d edges rules table far is few =
+returns-clause-half _ t within d edges rules table far is few =
+    let small = fault_small within d is.steady.few in
     let most = mul-le-mul_left d (let h : far ≤ rules.holdover + 2 = omega (arith, few) in h) in
-    omega (arith, most, is.short)
+    omega (arith, most, small.0, is.short)
 
 pub returns-clause-lines : goal.returns-clause-lines
 returns-clause-lines _ = sent_is_checked

@@ -1,5 +1,9 @@
-use Rattle.std.proofs.Common.{◌≡◌, arith}
+use Rattle.std.proofs.Common.{◌≡◌, ◌∙◌, ap, arith}
+use Rattle.irig_port.specs.Limits.{told_within}
+use Rattle.irig_port.specs.Hearing.{heard_at}
 use Rattle.irig_reader.proofs.FedLaws.{at_most_five}
+use Rattle.irig_timekeeper.specs.declared.setup.ClockRules.{ClockRules}
+use Rattle.irig_timekeeper.specs.Steps.{line_heard}
 use Rattle.irig_timekeeper.proofs.keeper.Timekeeper.hear_port.Goals as goal
 
 pub returns-in-0-clause-heard : goal.returns-in-0-clause-heard
@@ -30,24 +34,24 @@ returns-in_default-clause-heard g c k s =
 pub returns-in-0-clause-line : goal.returns-in-0-clause-line
 returns-in-0-clause-line g c k s =
     let at : c.args.port ≡ 0 = omega arith in
-    rw at (c.hear_line.ensures.line k.limits k.rules k.heard.a s.a s.limits s.rules)
+    rw at (c.hear_line.ensures.line k.limits k.rules k.heard.a s.a s.limits s.rules ∙ ap (λ (x : ClockRules). line_heard x c.args.line.now c.args.rise_us c.args.width_us (told_within k.limits k.rules (heard_at c.hear_line.result k.heard.a c.args.width_us))) s.clock)
 
 pub returns-in-1-clause-line : goal.returns-in-1-clause-line
 returns-in-1-clause-line g c k s =
     let at : c.args.port ≡ 1 = omega arith in
-    rw at (c.hear_line-in-1.ensures.line k.limits k.rules k.heard.b s.b s.limits s.rules)
+    rw at (c.hear_line-in-1.ensures.line k.limits k.rules k.heard.b s.b s.limits s.rules ∙ ap (λ (x : ClockRules). line_heard x c.args.line.now c.args.rise_us c.args.width_us (told_within k.limits k.rules (heard_at c.hear_line-in-1.result k.heard.b c.args.width_us))) s.clock)
 
 pub returns-in-2-clause-line : goal.returns-in-2-clause-line
 returns-in-2-clause-line g c k s =
     let at : c.args.port ≡ 2 = omega arith in
-    rw at (c.hear_line-in-2.ensures.line k.limits k.rules k.heard.c s.c s.limits s.rules)
+    rw at (c.hear_line-in-2.ensures.line k.limits k.rules k.heard.c s.c s.limits s.rules ∙ ap (λ (x : ClockRules). line_heard x c.args.line.now c.args.rise_us c.args.width_us (told_within k.limits k.rules (heard_at c.hear_line-in-2.result k.heard.c c.args.width_us))) s.clock)
 
 pub returns-in-3-clause-line : goal.returns-in-3-clause-line
 returns-in-3-clause-line g c k s =
     let at : c.args.port ≡ 3 = omega arith in
-    rw at (c.hear_line-in-3.ensures.line k.limits k.rules k.heard.d s.d s.limits s.rules)
+    rw at (c.hear_line-in-3.ensures.line k.limits k.rules k.heard.d s.d s.limits s.rules ∙ ap (λ (x : ClockRules). line_heard x c.args.line.now c.args.rise_us c.args.width_us (told_within k.limits k.rules (heard_at c.hear_line-in-3.result k.heard.d c.args.width_us))) s.clock)
 
 pub returns-in_default-clause-line : goal.returns-in_default-clause-line
 returns-in_default-clause-line g c k s =
     let at : c.args.port ≡ 4 = omega (arith, c.requires.port, at_most_five c.args.self.now.clock.redundancy) in
-    rw at (c.hear_line-in_default.ensures.line k.limits k.rules k.heard.e s.e s.limits s.rules)
+    rw at (c.hear_line-in_default.ensures.line k.limits k.rules k.heard.e s.e s.limits s.rules ∙ ap (λ (x : ClockRules). line_heard x c.args.line.now c.args.rise_us c.args.width_us (told_within k.limits k.rules (heard_at c.hear_line-in_default.result k.heard.e c.args.width_us))) s.clock)

@@ -1,13 +1,10 @@
-use Rattle.std.proofs.Common.{◌≡◌, ◌∙◌, ℕ, ap}
+use Rattle.std.proofs.Common.{◌∙◌, ap}
 use Rattle.irig_timekeeper.specs.declared.clock.ClockState.{ClockState}
-use Rattle.irig_timekeeper.specs.Lines.{IsTrueLately}
 use Rattle.irig_timekeeper.specs.Lived.{made_with}
-use Rattle.irig_timekeeper.proofs.LineLaws.{true_lately}
 use Rattle.irig_timekeeper.proofs.StrayLaws.{never_strays}
 use Rattle.irig_timekeeper.proofs.keeper.Timekeeper.strays.Goals as goal
 
 pub returns-clause-none : goal.returns-clause-none
 returns-clause-none g c t edges made start calls h well =
     ap (λ (s : ClockState). s.strays) h.is.state
-    ∙ never_strays (IsTrueLately made.clock.within.us) t edges (made_with made h.lines h.fresh) start calls (record { is = well.is; order = well.order; truth = well.truth })
-    (λ now end pulses claim is frame soon. true_lately made.clock.within made.rules t made.clock.drift_us edges now end pulses claim well.is.steady is frame soon)
+    ∙ never_strays t edges (made_with made h.lines h.fresh) start calls (record { is = well.is; order = well.order; truth = well.truth })

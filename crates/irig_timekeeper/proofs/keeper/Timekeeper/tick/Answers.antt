@@ -1,14 +1,17 @@
-use Rattle.std.proofs.Common.{◌∙◌, sym, ap, arith}
+use Rattle.std.proofs.Common.{◌≡◌, false, ◌∙◌, ◌∷◌, sym, ap, arith}
 use Rattle.irig_time.specs.Tables.{TableValue}
 use Rattle.irig_timekeeper.specs.declared.setup.ClockRules.{ClockRules}
 use Rattle.irig_timekeeper.specs.declared.clock.ClockState.{ClockState}
-use Rattle.irig_timekeeper.specs.Clock.{clock_answer}
+use Rattle.irig_timekeeper.specs.Clock.{clock_answer, is_unsteady}
 use Rattle.irig_timekeeper.specs.Keeping.{Keeping, answer_at}
-use Rattle.irig_timekeeper.specs.Life.{life_of}
+use Rattle.irig_timekeeper.specs.Life.{life_of, LivesTruly}
+use Rattle.irig_timekeeper.specs.Life.Call.{Tick}
 use Rattle.irig_timekeeper.specs.Lines.{IsTrueLately}
 use Rattle.irig_timekeeper.specs.Lived.{made_with}
 use Rattle.irig_timekeeper.proofs.LifeLaws.{device_true}
 use Rattle.irig_timekeeper.proofs.LineLaws.{true_lately}
+use Rattle.irig_timekeeper.proofs.StrayLaws.{never_doubts, never_unsteady}
+use Rattle.irig_timekeeper.proofs.DoubtLaws.{says_rule}
 use Rattle.irig_timekeeper.proofs.ValidLines.{all_valid}
 use Rattle.irig_timekeeper.proofs.keeper.Timekeeper.tick.Goals as goal
 
@@ -26,3 +29,21 @@ returns-clause-life g c t edges made start now calls beat u h clock well told sa
     device_true made.limits made.rules made.clock made.table h.lines start h.fresh (IsTrueLately made.clock.within.us made.rules t edges) t edges 0 0 well.is (omega arith)
     (λ now end pulses claim is frame soon. true_lately made.clock.within made.rules t made.clock.drift_us edges now end pulses claim well.is.steady is frame soon)
     calls now beat u well.order well.truth (sym value ∙ told) says
+
+pub returns-clause-rule : goal.returns-clause-rule
+returns-clause-rule g c t edges made start now calls beat h clock well told k is =
+    let self = c.args.self.now in
+    let device = made_with made h.lines h.fresh in
+    let value = c.tick.ensures.answer
+    ∙ (ap (λ (rules : ClockRules). clock_answer rules self.table self.state c.args.now_us) is.clock
+    ∙ (ap (λ (table : TableValue). clock_answer k.clock table self.state c.args.now_us) is.table
+    ∙ ap (λ (s : ClockState). clock_answer k.clock k.table s c.args.now_us) is.state)) in
+    let lives : LivesTruly (IsTrueLately made.clock.within.us) t edges device start (Tick now ∷ calls) = record { is = well.is; order = well.order; truth = well.truth } in
+    let same : (life_of device calls).state ≡ k.state = sym h.is.state ∙ is.state in
+    let certain = ap (λ (s : ClockState). s.doubt) (sym same) ∙ never_doubts t edges device start calls (record { is = well.is; order = well.order.3; truth = well.truth.1 }) in
+    let steady : is_unsteady k.clock k.state c.args.now_us ≡ false =
+    ap (λ (rules : ClockRules). is_unsteady rules k.state c.args.now_us) (sym is.clock ∙ h.is.clock)
+    ∙ ap (λ (s : ClockState). is_unsteady (life_of device calls).clock s c.args.now_us) (sym same)
+    ∙ ap (is_unsteady (life_of device calls).clock (life_of device calls).state) clock
+    ∙ never_unsteady t edges device start calls now lives in
+    says_rule k c.args.now_us beat certain steady (sym value ∙ told)
