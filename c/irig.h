@@ -4,7 +4,7 @@
  * IRIG Standard 200-16, format B, code B004, with the control bits of IEEE 1344-1995. Link with
  * libirig (`make -C c`; docs/C.md). It asks for no memory, keeps nothing between calls, and needs
  * `memcpy`, `memmove` and `memset` of the C library and, of what compilers bring along, what
- * docs/C.md lists. A call takes less than 2 KB of stack.
+ * docs/C.md lists. A call takes less than 4 KB of stack.
  *
  * Pointers. A pointer must lead to one whole, aligned object that no other call reads or writes
  * meanwhile, and no two pointers of one call into the same object: also not into a part of it. A null
@@ -61,9 +61,9 @@ IRIG_ASSERT(sizeof(irig_count) == 8u);
 
 /* The number of the layout: of the structures, and of what calls take and answer. The linker finds it
  * in the name of each call but irig_version, so that no program is linked with a library of another
- * layout. `undefined reference to irig_reader_init_layout_4` says that this header and the library
+ * layout. `undefined reference to irig_reader_init_layout_5` says that this header and the library
  * are of different ones: take both of one version, and compile all that includes the header. */
-#define IRIG_LAYOUT 4
+#define IRIG_LAYOUT 5
 #define IRIG_JOINED(name, number) name##_layout_##number
 #define IRIG_NAME(name, number) IRIG_JOINED(name, number)
 
@@ -329,20 +329,29 @@ typedef struct irig_wires {
                          * the counter, the k-th of a frame k hundredths of the second from edge to
                          * edge behind its beginning: 1 to 450 */
     uint16_t drift_us;  /* the most by which the counter is wrong in a second: 0 to 100 */
+    int16_t delay_us[5]; /* how much later each line's pulses rise here than at its clock, by a cable,
+                          * a converter or an input: -4,000 to 4,000, below 0 if a line is early. It
+                          * is taken off, so that a constant delay does not make a line untrue */
 } irig_wires;
-IRIG_ASSERT((sizeof(irig_wires) == 4u) && (offsetof(irig_wires, drift_us) == 2u));
+IRIG_ASSERT((sizeof(irig_wires) == 14u) && (offsetof(irig_wires, drift_us) == 2u) &&
+            (offsetof(irig_wires, delay_us) == 4u));
 
 /* A line of a timekeeper. */
 typedef struct irig_line {
-    irig_sync sync;    /* where it stands in its frame */
-    irig_tally port;   /* what it heard of its frame */
-    irig_tally frame;  /* its last whole frame */
-    uint32_t end_us;   /* where that ends */
-    uint8_t has_frame; /* 0 if that was taken, or is late */
+    irig_sync sync;     /* where it stands in its frame */
+    irig_tally port;    /* what it heard of its frame */
+    irig_tally frame;   /* its last whole frame */
+    uint32_t begin_us;  /* where the frame begins in which it stands */
+    uint32_t end_us;    /* where its last whole frame ends */
+    uint8_t is_uneven;  /* 0 if the first and the last pulse of that rose 990 ms apart */
+    uint8_t has_frame;  /* 0 if that was taken, or is late */
+    uint8_t is_seen;    /* 0 if that is more than 1.5 s old */
+    uint8_t is_heard;   /* 0 if no pulse came within a second */
 } irig_line;
-IRIG_ASSERT((sizeof(irig_line) == 64u) && (offsetof(irig_line, port) == 8u) &&
-            (offsetof(irig_line, frame) == 32u) && (offsetof(irig_line, end_us) == 56u) &&
-            (offsetof(irig_line, has_frame) == 60u));
+IRIG_ASSERT((sizeof(irig_line) == 72u) && (offsetof(irig_line, port) == 8u) &&
+            (offsetof(irig_line, frame) == 32u) && (offsetof(irig_line, begin_us) == 56u) &&
+            (offsetof(irig_line, end_us) == 60u) && (offsetof(irig_line, is_uneven) == 64u) &&
+            (offsetof(irig_line, is_heard) == 67u));
 
 /* A second that was announced. */
 typedef struct irig_announced {
@@ -368,23 +377,40 @@ typedef struct irig_timekeeper {
     uint16_t bound_us;     /* how far from its true edge that of the last vote may lie, 899 at most */
     irig_announced last;   /* that second, if it was announced */
     irig_announced before; /* the one counted before it, if it was */
+    irig_announced ended;  /* the second that ended at the last edge, if it was voted or held */
+    irig_announced ended_before; /* the one that ended at the edge before, if that was told */
     uint32_t begin_us;     /* where the interval begins in which the true edge lies by all votes, */
     uint32_t long_us;      /* and how long it is, 980,000 at most */
     uint32_t strays;       /* how many votes contradicted those before them */
+    uint32_t doubt;        /* seconds to be voted yet before one is held again */
     uint8_t has_interval;  /* 0 if there is no such interval */
     uint64_t check;
 } irig_timekeeper;
-IRIG_ASSERT((sizeof(irig_timekeeper) == 952u) && (offsetof(irig_timekeeper, state) == 536u) &&
+IRIG_ASSERT((sizeof(irig_timekeeper) == 1048u) && (offsetof(irig_timekeeper, state) == 536u) &&
             (offsetof(irig_timekeeper, lines) == 552u) &&
-            (offsetof(irig_timekeeper, wires) == 872u) &&
-            (offsetof(irig_timekeeper, has_edge) == 884u) &&
-            (offsetof(irig_timekeeper, bound_us) == 886u) &&
-            (offsetof(irig_timekeeper, last) == 888u) &&
-            (offsetof(irig_timekeeper, before) == 908u) &&
-            (offsetof(irig_timekeeper, begin_us) == 928u) &&
-            (offsetof(irig_timekeeper, strays) == 936u) &&
-            (offsetof(irig_timekeeper, has_interval) == 940u) &&
-            (offsetof(irig_timekeeper, check) == 944u));
+            (offsetof(irig_timekeeper, wires) == 912u) &&
+            (offsetof(irig_timekeeper, has_edge) == 936u) &&
+            (offsetof(irig_timekeeper, bound_us) == 938u) &&
+            (offsetof(irig_timekeeper, last) == 940u) &&
+            (offsetof(irig_timekeeper, before) == 960u) &&
+            (offsetof(irig_timekeeper, ended) == 980u) &&
+            (offsetof(irig_timekeeper, begin_us) == 1020u) &&
+            (offsetof(irig_timekeeper, doubt) == 1032u) &&
+            (offsetof(irig_timekeeper, has_interval) == 1036u) &&
+            (offsetof(irig_timekeeper, check) == 1040u));
+
+/* What each line of a timekeeper is: bit p of a mask is line p. Each line is in exactly one. */
+typedef struct irig_masks {
+    uint8_t agreed;   /* they claim the second that ended at the told edge, and end there */
+    uint8_t apart;    /* they claim it, but end further from that edge than a true line's frame */
+    uint8_t differed; /* they claim another second */
+    uint8_t faulty;   /* their last frame is at fault, or does not last as long as a frame does */
+    uint8_t poor;     /* their clock is too inexact to vote, as it says itself */
+    uint8_t broken;   /* pulses come, but no whole frame came within 1.5 s */
+    uint8_t silent;   /* no pulse came within a second */
+    uint8_t unjudged; /* they claim a second, and none is told yet to which it could be compared */
+} irig_masks;
+IRIG_ASSERT((sizeof(irig_masks) == 8u) && (offsetof(irig_masks, unjudged) == 7u));
 
 /* What a tick of a timekeeper says. */
 typedef struct irig_second {
@@ -397,11 +423,41 @@ typedef struct irig_second {
     uint32_t strays;    /* how many votes contradicted those before them, since it was made or
                          * restarted: above 0 something is not as it was set up
                          * (irig_timekeeper_tick) */
-    irig_report report; /* masks, quality and zone by the last whole frame of each line */
+    uint32_t doubt;     /* how many seconds have to be voted yet before one is held again: until
+                         * then a second with the cause IRIG_CAUSE_HELD is not announced */
+    irig_masks lines;   /* what each line is */
+    irig_report report; /* masks, quality and zone by the frames that could vote at this edge */
 } irig_second;
-IRIG_ASSERT((sizeof(irig_second) == 48u) && (offsetof(irig_second, edge_us) == 4u) &&
+IRIG_ASSERT((sizeof(irig_second) == 60u) && (offsetof(irig_second, edge_us) == 4u) &&
             (offsetof(irig_second, bound_us) == 8u) && (offsetof(irig_second, strays) == 20u) &&
-            (offsetof(irig_second, report) == 24u));
+            (offsetof(irig_second, doubt) == 24u) && (offsetof(irig_second, lines) == 28u) &&
+            (offsetof(irig_second, report) == 36u));
+
+/* What a line is, by a number. */
+enum {
+    IRIG_LINE_SILENT = 0,   /* no pulse came within a second */
+    IRIG_LINE_BROKEN = 1,   /* pulses come, but no whole frame came within 1.5 s */
+    IRIG_LINE_FAULTY = 2,   /* its last frame is at fault: `told` says which */
+    IRIG_LINE_UNEVEN = 3,   /* that claims a second, but its first and last pulse did not rise 990 ms
+                             * apart: it has no vote */
+    IRIG_LINE_POOR = 4,     /* its clock is too inexact to vote, as it says itself */
+    IRIG_LINE_UNJUDGED = 5, /* it claims a second, and none is told yet to compare it with */
+    IRIG_LINE_AGREED = 6,   /* it claims the second that ended at the told edge, and ends there */
+    IRIG_LINE_APART = 7,    /* it claims it, but ends further off than a true line's frame */
+    IRIG_LINE_DIFFERED = 8  /* it claims another second */
+};
+
+/* What is said of a line of a timekeeper. */
+typedef struct irig_line_said {
+    uint8_t state;   /* IRIG_LINE_SILENT .. */
+    irig_told told;  /* what its last whole frame tells, silence if there is none within 1.5 s */
+    uint32_t end_us; /* where that frame ends, or 0 */
+    int32_t off_us;  /* how far that lies behind the told edge at which its second ended; of a line
+                      * that is not judged yet, behind the end of the first other line's frame of that
+                      * second. 0 if there is none, or none so near as two seconds */
+} irig_line_said;
+IRIG_ASSERT((sizeof(irig_line_said) == 32u) && (offsetof(irig_line_said, told) == 4u) &&
+            (offsetof(irig_line_said, end_us) == 24u) && (offsetof(irig_line_said, off_us) == 28u));
 
 /* The time of an event: a second, and how long behind its beginning. By the error of its edge, and of
  * the next one, the offset may reach 1,000,000 and more, below 1,500,000, when the next second had
@@ -454,6 +510,7 @@ IRIG_ASSERT((sizeof(irig_stamp) == 16u) && (offsetof(irig_stamp, bound_us) == 12
 #define irig_timekeeper_tick IRIG_NAME(irig_timekeeper_tick, IRIG_LAYOUT)
 #define irig_timekeeper_wait IRIG_NAME(irig_timekeeper_wait, IRIG_LAYOUT)
 #define irig_timekeeper_stamp IRIG_NAME(irig_timekeeper_stamp, IRIG_LAYOUT)
+#define irig_timekeeper_line IRIG_NAME(irig_timekeeper_line, IRIG_LAYOUT)
 #define irig_timekeeper_restart IRIG_NAME(irig_timekeeper_restart, IRIG_LAYOUT)
 #define irig_quality_of IRIG_NAME(irig_quality_of, IRIG_LAYOUT)
 
@@ -601,7 +658,8 @@ uint32_t irig_timekeeper_init(irig_timekeeper *timekeeper, const irig_setup *set
 
 /* A pulse on a line, 0 to 2 of three, 0 to 4 of five, 0 of one, once it has ended, each line's in
  * order, and before any tick of half a second or more after it rose: its place, as irig_sync_pulse
- * answers it. A width of 500,000 us or more is no pulse, the line is stuck: 0, and nothing changes.
+ * answers it. All that is said of when a pulse rose is said of the time from which the line's
+ * `delay_us` is taken off. A width of 500,000 us or more is no pulse, the line is stuck: 0, and nothing changes.
  * IRIG_NO_PORT. After a place of 100 there may be less to wait. */
 uint8_t irig_timekeeper_hear(irig_timekeeper *timekeeper, uint8_t line, uint32_t rise_us,
                              uint32_t width_us);
@@ -609,7 +667,7 @@ uint8_t irig_timekeeper_hear(irig_timekeeper *timekeeper, uint8_t line, uint32_t
 /* Says which second begins, if one has begun since the last call, by frames of which enough claim one
  * second and end within 2 * (within_us - 1) us, 898 at most; or else by the counter alone, 5 ms later.
  * `now_us` is the time up to which pulses were told (above): it is not before the last tick's, nor
- * before the rise of a pulse that was told. IRIG_FAULT_VALUE as irig_reader_tick answers it; then the
+ * more than 4 ms before the rise of a pulse that was told. IRIG_FAULT_VALUE as irig_reader_tick answers it; then the
  * second is silent, and irig_timekeeper_init begins afresh.
  *
  * The edge that a vote tells lies in the middle between two ends of frames of that claim: that by
@@ -634,9 +692,9 @@ uint8_t irig_timekeeper_hear(irig_timekeeper *timekeeper, uint8_t line, uint32_t
  * before, and no cause is IRIG_CAUSE_JUMP. If lines were untrue before, all this holds again once a
  * tick has told a second with `agreed` above 0, provided that no two of three lines were untrue at that
  * tick and at each later one. That tick itself may have the cause IRIG_CAUSE_JUMP, or tell a second
- * that is not later than a false one before. What this paragraph says holds, with edges from `bound_us`
- * and 2,002 us before to `bound_us` and 1,000 us after the true ones, also if a line counts as true
- * that had one fault of any kind in each hundred pulses (docs/WIRES.md). Whatever lines carry, edges
+ * that is not later than a false one before. What this paragraph says holds, with edges that lie
+ * off by `bound_us` and 2 * (within_us - 1) + 2 * drift_us more, which is less than 1.1 ms, also if a
+ * line counts as true that had one fault of any kind in each hundred pulses (docs/WIRES.md). Whatever lines carry, edges
  * that are told lie at least half a second apart if calls were in order. docs/WIRES.md also says when
  * it announces.
  *
@@ -649,8 +707,13 @@ uint8_t irig_timekeeper_hear(irig_timekeeper *timekeeper, uint8_t line, uint32_t
  * each tick no two of three lines (three of five; not the one line) were untrue in the last 1.2 s,
  * the counter is as steady as `drift_us` says, and calls were in order, `strays` stays 0. A device
  * whose `strays` rise should be looked at: its lines, their delays, or the drift of its counter are
- * not what it was told. Its seconds are announced as before, and those that it holds may then lie
- * further off than their `bound_us`. */
+ * not what it was told. Seconds that lines vote are announced as before. Those that it would hold are
+ * not, as nobody knows how far off they are, until as many seconds as `holdover` says, 1,000 at most
+ * and one at least, were voted without another contradiction: so many are still wanted as `doubt`
+ * says. Until then a second without a vote has the cause IRIG_CAUSE_HELD and is not announced.
+ *
+ * `lines` says what each line is. A line that was true for the last 2.7 s is neither `apart` nor
+ * `differed`, while what is announced is true. */
 uint32_t irig_timekeeper_tick(irig_timekeeper *timekeeper, uint32_t now_us, irig_second *second);
 
 /* How long until a tick has something to do, in microseconds, if no call comes before it: 0 if it has
@@ -676,10 +739,19 @@ uint32_t irig_timekeeper_wait(const irig_timekeeper *timekeeper, uint32_t now_us
  * before the event, to within `bound_us`, if a tick may come now and the event lies at most half an
  * hour back. If only ticks since a vote were true, the event has to come at that vote's edge or
  * later, unless that tick announced nothing. If lines with faults count as true, it is to within
- * `bound_us` and 2,002 us. Stamps of one instant by two devices, each to within its `bound_us`, differ
+ * `bound_us` and as much more. Stamps of one instant by two devices, each to within its `bound_us`, differ
  * by no more than the sum of both and the drift of two seconds of each device. */
 uint32_t irig_timekeeper_stamp(const irig_timekeeper *timekeeper, uint32_t time_us,
                                irig_stamp *stamp);
+
+/* What a line is as of the last tick, from the first pulse on and whether seconds are told or not:
+ * what one looks at while a device is installed, or when it tells nothing. IRIG_FAULT_VALUE, also if
+ * there is no such line, or where a tick would be refused.
+ *
+ * In a timekeeper of which irig_timekeeper_tick's held seconds are true a line that was true for the
+ * last 2.7 s is never IRIG_LINE_APART, nor IRIG_LINE_DIFFERED: one of which a tick says so was untrue. */
+uint32_t irig_timekeeper_line(const irig_timekeeper *timekeeper, uint8_t line,
+                              irig_line_said *said);
 
 /* Forgets all that was heard and counted. A timekeeper that a tick refuses stays so. */
 void irig_timekeeper_restart(irig_timekeeper *timekeeper);

@@ -54,7 +54,7 @@ void on_event(const irig_stamp *stamp) {
 /* What a user may set, and the leap seconds that are known beforehand: none. */
 irig_setup setup_wanted = {.lock_after = 3, .holdover = 3600};
 static const irig_table NO_TABLE = {0};
-static const irig_wires WIRES = {WITHIN_US, MOST_DRIFT_US};
+static const irig_wires WIRES = {.within_us = WITHIN_US, .drift_us = MOST_DRIFT_US};
 
 int main(void) {
     board_begin();

@@ -163,10 +163,20 @@ static void log_lines(const char *what, uint8_t mask) {
         if (mask >> line & 1) log_text((char[]){(char)('A' + line), 0});
 }
 
-/* As `1234567 2016-12-31T23:59:60Z locked voted agree:AC differ:B`: the count at which it begins, the
- * second, how and why, and which lines said so. One that differs, or is against what is held, lies. An
- * alarm is `strays:1`: votes contradict one another, so lines, their delays or the crystal are not as
- * they should be. */
+static void log_states(const irig_masks *lines) {
+    log_lines(" agreed:", lines->agreed);
+    log_lines(" apart:", lines->apart);
+    log_lines(" differed:", lines->differed);
+    log_lines(" faulty:", lines->faulty);
+    log_lines(" poor:", lines->poor);
+    log_lines(" broken:", lines->broken);
+    log_lines(" silent:", lines->silent);
+}
+
+/* As `1234567 2016-12-31T23:59:60Z locked voted agreed:AC differed:B alarm:degraded`: the count at which
+ * it begins, the second, how and why, what each line is, and the alarm. With `untrusted` comes `strays:1`
+ * or more: votes contradict one another, so lines, their delays or the crystal are not as they should
+ * be. */
 void on_second(const irig_second *second) {
     const irig_report *report = &second->report;
     char text[21] = "-";
@@ -182,13 +192,14 @@ void on_second(const irig_second *second) {
     }
     log_text(" ");
     log_text(irig_cause_name(report->cause));
-    log_lines(" agree:", report->agreed);
-    if (report->agreed) log_lines(" differ:", report->differed);
-    else log_lines(" against:", report->against_hold);
-    log_lines(" fault:", report->faulty);
+    log_states(&second->lines);
     if (second->strays > 0) {
         log_text(" strays:");
         log_number(second->strays);
+    }
+    if (*alarm_of(second)) {
+        log_text(" alarm:");
+        log_text(alarm_of(second));
     }
     log_text("\n");
 }

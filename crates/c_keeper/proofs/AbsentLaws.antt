@@ -18,7 +18,7 @@ use Rattle.c_keeper.specs.declared.line.IrigLine.{IrigLine}
 use Rattle.c_keeper.specs.declared.line.IrigLines.{IrigLines}
 use Rattle.c_keeper.specs.declared.timekeeper.IrigTimekeeper.{IrigTimekeeper}
 use Rattle.c_keeper.specs.Lines.{line_in, lines_in, KeepNoMore}
-use Rattle.c_keeper.specs.Timekeepers.{HeardTruly}
+use Rattle.c_keeper.specs.Timekeepers.{clock_in, HeardTruly}
 
 -- what keeps no frame claims nothing
 none_in : (limits : Option Limits) (rules : Rules) (l : IrigLine) → l.has_frame ≡ 0 → claim_kept (line_in limits rules l).frame ≡ None
@@ -26,10 +26,10 @@ none_in limits rules l empty = rw empty refl
 
 none_at : (limits : Option Limits) (rules : Rules) (ls : IrigLines) (ports i : ℕ) → 1 ≤ ports → KeepNoMore ports ls → ports ≤ i → i < 5 → claim_kept (line_at (lines_in limits rules ls) i).frame ≡ None
 none_at limits rules ls ports zero some absent past low = absurd (omega (arith, some, past))
-none_at limits rules ls ports (suc zero) some absent past low = none_in limits rules ls.b (absent.b past)
-none_at limits rules ls ports (suc (suc zero)) some absent past low = none_in limits rules ls.c (absent.c past)
-none_at limits rules ls ports (suc (suc (suc zero))) some absent past low = none_in limits rules ls.d (absent.d past)
-none_at limits rules ls ports (suc (suc (suc (suc zero)))) some absent past low = none_in limits rules ls.e (absent.e past)
+none_at limits rules ls ports (suc zero) some absent past low = none_in limits rules ls.b (absent.b past).frame
+none_at limits rules ls ports (suc (suc zero)) some absent past low = none_in limits rules ls.c (absent.c past).frame
+none_at limits rules ls ports (suc (suc (suc zero))) some absent past low = none_in limits rules ls.d (absent.d past).frame
+none_at limits rules ls ports (suc (suc (suc (suc zero)))) some absent past low = none_in limits rules ls.e (absent.e past).frame
 none_at limits rules ls ports (suc (suc (suc (suc (suc i))))) some absent past low = absurd (omega (arith, low))
 
 some_port : (r : Redundancy) → 1 ≤ ports_in r
@@ -74,11 +74,11 @@ one_true Five untrue less few = absurd (omega (arith, less))
 abbrev pub pulses_there : Redundancy → (ℕ → List Pulse) → ℕ → List Pulse
 pulses_there r pulses i = if nat_lt i (ports_in r) then pulses i else []
 
-kept_nothing : (EndsSo : ℕ → Type 0) (rules : Rules) (kept : Option KeptClaim) (pulses : List Pulse) → kept ≡ None → IfKept EndsSo rules kept pulses
-kept_nothing EndsSo rules kept pulses none = subst (λ (o : Option KeptClaim). IfKept EndsSo rules o pulses) (sym none) tt
+kept_nothing : (EndsSo : ℕ → Type 0) (within d : ℕ) (rules : Rules) (kept : Option KeptClaim) (pulses : List Pulse) → kept ≡ None → IfKept EndsSo within d rules kept pulses
+kept_nothing EndsSo within d rules kept pulses none = subst (λ (o : Option KeptClaim). IfKept EndsSo within d rules o pulses) (sym none) tt
 
 pub all_heard : (IsTrue : List Pulse → Type 0) (t : IrigTimekeeper) (now : ℕ) (pulses : ℕ → List Pulse) → ((ps : List Pulse) → IsTrue ps → IsTrue []) → KeepNoMore (ports_in (redundancy_in t.setup)) t.lines → HeardTruly IsTrue t now pulses
-    → AreHeardTruly IsTrue (rules_in t.setup) (f_of (redundancy_in t.setup)) now (lines_in (limits_in t.setup) (rules_in t.setup) t.lines) (pulses_there (redundancy_in t.setup) pulses)
+    → AreHeardTruly IsTrue (clock_in t).within.us (clock_in t).drift_us (rules_in t.setup) (f_of (redundancy_in t.setup)) now (lines_in (limits_in t.setup) (rules_in t.setup) t.lines) (pulses_there (redundancy_in t.setup) pulses)
 all_heard IsTrue t now pulses silent absent h = record {
   untrue = there r h.untrue;
   few = few_there r h.untrue (f_of r) h.few;
@@ -91,7 +91,7 @@ all_heard IsTrue t now pulses silent absent h = record {
   ];
   kept = λ i low. elim (cases_Bool (nat_lt i (ports_in r))) [
     | inl here ↦ rw here (h.kept i (ltb-true i (ports_in r) here))
-    | inr gone ↦ kept_nothing (IsInTurnOf now) (rules_in t.setup) _ _ (none_at (limits_in t.setup) (rules_in t.setup) t.lines (ports_in r) i (some_port r) absent (ltb-false i (ports_in r) gone) low)
+    | inr gone ↦ kept_nothing (IsInTurnOf now) (clock_in t).within.us (clock_in t).drift_us (rules_in t.setup) _ _ (none_at (limits_in t.setup) (rules_in t.setup) t.lines (ports_in r) i (some_port r) absent (ltb-false i (ports_in r) gone) low)
   ];
 }
   where

@@ -8,6 +8,7 @@ use Rattle.irig_port.specs.Tallies.{IsTallyOf}
 use Rattle.irig_port.specs.declared.limits.Limits.{Limits}
 use Rattle.irig_port.specs.Limits.{told_within}
 use Rattle.irig_sync.specs.Sync.{place_of}
+use Rattle.irig_timekeeper.specs.declared.setup.ClockRules.{ClockRules}
 use Rattle.irig_timekeeper.specs.declared.clock.ClockState.{ClockState}
 use Rattle.irig_timekeeper.specs.declared.lines.Line.{Line}
 use Rattle.irig_timekeeper.specs.declared.lines.Lines.{Lines}
@@ -21,7 +22,7 @@ use Rattle.c_keeper.specs.declared.line.IrigLines.{IrigLines}
 use Rattle.c_keeper.specs.declared.timekeeper.IrigTimekeeper.{IrigTimekeeper}
 use Rattle.c_keeper.specs.CheckWord.{IsSealed}
 use Rattle.c_keeper.specs.Lines.{line_in, lines_in, numbers_at, with_numbers, HaveHeard, KeepNoMore}
-use Rattle.c_keeper.specs.Timekeepers.{clock_state_in, IsTimekeeperOf}
+use Rattle.c_keeper.specs.Timekeepers.{clock_in, clock_state_in, IsTimekeeperOf}
 
 -- a fact of each of five ports is one of a port
 of_each : (P : ℕ → Type 0) → P 0 → P 1 → P 2 → P 3 → P 4 → (port : ℕ) → port < 5 → P port
@@ -74,10 +75,10 @@ place_as t k port rise width here h =
 -- ---- a pulse
 
 -- a line's numbers behind a pulse with this place
-pub record IsBehindPulse (rise width place : ℕ) (before after : IrigLine) : Type 0 where
+pub record IsBehindPulse (clock : ClockRules) (rise width place : ℕ) (before after : IrigLine) : Type 0 where
   pub at : place ≡ place_of before.sync rise width
   pub line : (limits : Option Limits) (rules : Rules) (s : List Symbol) → IsTallyOf before.port s
-      → line_in limits rules after ≡ line_heard (line_in limits rules before) rise width (told_within limits rules (heard_at place s width))
+      → line_in limits rules after ≡ line_heard clock (line_in limits rules before) rise width (told_within limits rules (heard_at place s width))
   pub heard : (s : List Symbol) → IsTallyOf before.port s → IsTallyOf after.port (heard_at place s width)
 
 -- a line that is there may keep a frame
@@ -90,7 +91,7 @@ put_there ports ls l (suc (suc (suc (suc zero)))) low there h = record { b = h.b
 put_there ports ls l (suc (suc (suc (suc (suc n))))) low there h = absurd (omega (arith, low))
 
 -- the timekeeper that has such a line is the value behind the pulse
-pub one_more : (t q : IrigTimekeeper) (k : Keeping) (port rise width place : ℕ) (l : IrigLine) → port < ports_in (redundancy_in t.setup) → IsBehindPulse rise width place (numbers_at t.lines port) l
+pub one_more : (t q : IrigTimekeeper) (k : Keeping) (port rise width place : ℕ) (l : IrigLine) → port < ports_in (redundancy_in t.setup) → IsBehindPulse (clock_in t) rise width place (numbers_at t.lines port) l
     → q ≡ record t { lines = with_numbers t.lines port l; check = q.check } → (IsSealed q ↔ IsSealed t) → IsTimekeeperOf t k
     → IsTimekeeperOf q (one_pulse_more k port rise width)
 one_more t q k port rise width place l there behind is seal h =
@@ -111,6 +112,8 @@ one_more t q k port rise width place l there behind is seal h =
         is_state = h.accepted.is_state;
         last = h.accepted.last;
         before = h.accepted.before;
+        ended = h.accepted.ended;
+        ended_before = h.accepted.ended_before;
         absent = put_there (ports_in (redundancy_in t.setup)) t.lines l port here there h.accepted.absent;
         sealed = subst (λ (x : IrigTimekeeper). IsSealed x) is (seal.1 h.accepted.sealed);
       };
@@ -138,15 +141,16 @@ one_more t q k port rise width place l there behind is seal h =
     heard : heard_at place (heard_by k.heard port) width ≡ heard_then k port rise width
     heard = ap (λ (n : ℕ). heard_at n (heard_by k.heard port) width) (sym place_is)
 
-    new_line : line_in limits rules l ≡ line_heard (line_at k.state.lines port) rise width (told_within k.limits k.rules (heard_then k port rise width))
+    new_line : line_in limits rules l ≡ line_heard k.clock (line_at k.state.lines port) rise width (told_within k.limits k.rules (heard_then k port rise width))
     new_line = behind.line limits rules (heard_by k.heard port) was
-        ∙ (ap (λ (x : Line). line_heard x rise width (told_within limits rules (heard_at place (heard_by k.heard port) width))) (sym line)
-        ∙ (ap (λ (r : Rules). line_heard (line_at k.state.lines port) rise width (told_within limits r (heard_at place (heard_by k.heard port) width))) h.rules
-        ∙ (ap (λ (l : Option Limits). line_heard (line_at k.state.lines port) rise width (told_within l k.rules (heard_at place (heard_by k.heard port) width))) h.limits
-        ∙ ap (λ (s : List Symbol). line_heard (line_at k.state.lines port) rise width (told_within k.limits k.rules s)) heard)))
+        ∙ (ap (λ (c : ClockRules). line_heard c (line_in limits rules (numbers_at t.lines port)) rise width (told_within limits rules (heard_at place (heard_by k.heard port) width))) h.clock
+        ∙ (ap (λ (x : Line). line_heard k.clock x rise width (told_within limits rules (heard_at place (heard_by k.heard port) width))) (sym line)
+        ∙ (ap (λ (r : Rules). line_heard k.clock (line_at k.state.lines port) rise width (told_within limits r (heard_at place (heard_by k.heard port) width))) h.rules
+        ∙ (ap (λ (l : Option Limits). line_heard k.clock (line_at k.state.lines port) rise width (told_within l k.rules (heard_at place (heard_by k.heard port) width))) h.limits
+        ∙ ap (λ (s : List Symbol). line_heard k.clock (line_at k.state.lines port) rise width (told_within k.limits k.rules s)) heard))))
 
     whole : clock_state_in (record t { lines = with_numbers t.lines port l; check = q.check })
-        ≡ with_lines k.state (with_line k.state.lines port (line_heard (line_at k.state.lines port) rise width (told_within k.limits k.rules (heard_then k port rise width))))
+        ≡ with_lines k.state (with_line k.state.lines port (line_heard k.clock (line_at k.state.lines port) rise width (told_within k.limits k.rules (heard_then k port rise width))))
     whole = ap (λ (ls : Lines). with_lines (clock_state_in t) ls) (line_put limits rules t.lines l port here)
         ∙ (ap (λ (s : ClockState). with_lines s (with_line s.lines port (line_in limits rules l))) h.state
         ∙ ap (λ (x : Line). with_lines k.state (with_line k.state.lines port x)) new_line)

@@ -11,7 +11,7 @@ use Rattle.irig_timekeeper.specs.declared.clock.Beat.{Beat}
 use Rattle.irig_timekeeper.specs.declared.lines.Lines.{Lines}
 use Rattle.irig_timekeeper.specs.declared.within.Within.{Within}
 use Rattle.irig_timekeeper.specs.Clock.{lasted}
-use Rattle.irig_timekeeper.specs.Exactness.{vote_us}
+use Rattle.irig_timekeeper.specs.Exactness.{most_drift_us, vote_us, fault_early_us, fault_late_us}
 use Rattle.irig_timekeeper.specs.Edges.{IsQuartz}
 use Rattle.irig_timekeeper.specs.Keeping.{Keeping, answer_at}
 use Rattle.irig_timekeeper.specs.Life.{Call, AreInOrder, AreTrueLately, AreTrueAtTicks, AreTrueOver, after_calls, device_of}
@@ -21,7 +21,7 @@ use Rattle.irig_timekeeper.specs.Lived.{MadeOf, made_with}
 use Rattle.irig_timekeeper.specs.Steps.{AreNewLines}
 use Rattle.irig_timekeeper.specs.Truth.{IsToldInHoldover, IsLaterSecond, AreApartBeats}
 use Rattle.irig_timekeeper.specs.Healing as device
-use Rattle.irig_timekeeper.proofs.FaultLines.{either_tells_truly}
+use Rattle.irig_timekeeper.proofs.FaultLines.{either_tells_truly, fault_small}
 use Rattle.irig_timekeeper.proofs.HealLaws.{healed, in_order, calm_since}
 use Rattle.irig_timekeeper.proofs.LifeLaws.{TellAlwaysTruly, begins, device_calm, device_in_order, device_true}
 use Rattle.irig_timekeeper.proofs.LineLaws.{true_lately}
@@ -88,19 +88,22 @@ as_told s beat t edges early late within d holdover now u same h = record {
 
 -- what such lines keep is true, and ends as near its edge as that of a line that is so exact, and at
 -- most so much earlier or later
-pub record AreLinesSo (within : Within) (IsTrue : Rules → TimelineValue → (ℕ → ℕ) → ℕ → List Pulse → Type 0) (early late : ℕ) : Type 0 where
-  pub room : early + late ≤ 3002
-  pub truly : (rules : Rules) (t : TimelineValue) (d : ℕ) (edges : ℕ → ℕ) → IsQuartz d edges → TellAlwaysTruly (IsTrue rules t edges) within.us d rules t edges early late
+pub record AreLinesSo (within : Within) (d : ℕ) (IsTrue : Rules → TimelineValue → (ℕ → ℕ) → ℕ → List Pulse → Type 0) (early late : ℕ) : Type 0 where
+  pub room : d ≤ most_drift_us → early + late ≤ 3002
+  pub truly : (rules : Rules) (t : TimelineValue) (edges : ℕ → ℕ) → IsQuartz d edges → TellAlwaysTruly (IsTrue rules t edges) within.us d rules t edges early late
 
-pub whole_lines : (within : Within) → AreLinesSo within (IsTrueLately within.us) 0 0
-whole_lines within = record {
-  room = omega arith;
-  truly = λ rules t d edges steady now end pulses claim is frame soon. true_lately within rules t d edges now end pulses claim steady is frame soon;
+pub whole_lines : (within : Within) (d : ℕ) → AreLinesSo within d (IsTrueLately within.us) 0 0
+whole_lines within d = record {
+  room = λ few. omega arith;
+  truly = λ rules t edges steady now end pulses claim is frame soon. true_lately within rules t d edges now end pulses claim steady is frame soon;
 }
 
 -- they may have faults
-pub faulty_lines : (within : Within) → AreLinesSo within (IsTrueOrFaulty within.us) 2002 1000
-faulty_lines within = record { room = omega arith; truly = either_tells_truly within }
+pub faulty_lines : (within : Within) (d : ℕ) → AreLinesSo within d (IsTrueOrFaulty within.us) (fault_early_us within.us d) (fault_late_us within.us d)
+faulty_lines within d = record {
+  room = λ few. (let most = fault_small within d few in omega (arith, most.0, most.1));
+  truly = λ rules t edges steady. either_tells_truly within rules t d edges steady;
+}
 
 module _ (IsTrue : Rules → TimelineValue → (ℕ → ℕ) → ℕ → List Pulse → Type 0) (t : TimelineValue) (edges : ℕ → ℕ) (made : MadeOf) (start : ℕ) (lines : Lines) (fresh : AreNewLines lines) where
   abbrev pub new : Keeping
@@ -127,14 +130,14 @@ module _ (IsTrue : Rules → TimelineValue → (ℕ → ℕ) → ℕ → List Pu
         since = h.since;
       }
 
-  healed_tells : (early late : ℕ) → AreLinesSo made.clock.within IsTrue early late → (now : ℕ) (calls : List Call) (beat : Beat) (u : UtcSecond) → device.HasHealed IsTrue t edges (made_with made lines fresh) start calls
+  healed_tells : (early late : ℕ) → AreLinesSo made.clock.within made.clock.drift_us IsTrue early late → (now : ℕ) (calls : List Call) (beat : Beat) (u : UtcSecond) → device.HasHealed IsTrue t edges (made_with made lines fresh) start calls
       → AreInOrder start made.clock.redundancy (Tick now ∷ calls) → AreTrueLately (IsTrue made.rules t edges) (f_of made.clock.redundancy) now calls
       → answer_at (after_calls new calls) (now % 2 ^ 32) ≡ Some beat → beat.report.announce ≡ Some u
       → IsToldInHoldover t edges early late made.clock.within.us made.clock.drift_us made.clock.reader_rules.holdover now beat u
   healed_tells early late so now calls beat u h =
       subst Tells (sym h.are) (λ order here answer says.
-      healed (IsTrue made.rules t edges) t edges early late new start (begins made.limits made.rules made.clock made.table lines start fresh) tt h.is so.room
-      (so.truly made.rules t made.clock.drift_us edges h.is.steady) (omega arith)
+      healed (IsTrue made.rules t edges) t edges early late new start (begins made.limits made.rules made.clock made.table lines start fresh) tt h.is (so.room h.is.steady.few)
+      (so.truly made.rules t edges h.is.steady) (omega arith)
       h.earlier h.later h.mend now h.vote h.beat beat u order h.truth (here, h.since) h.voted h.answer answer says)
     where
       Tells : List Call → Type 0
@@ -142,7 +145,7 @@ module _ (IsTrue : Rules → TimelineValue → (ℕ → ℕ) → ℕ → List Pu
           → answer_at (after_calls new calls) (now % 2 ^ 32) ≡ Some beat → beat.report.announce ≡ Some u
           → IsToldInHoldover t edges early late made.clock.within.us made.clock.drift_us made.clock.reader_rules.holdover now beat u
 
-module _ (IsTrue : Rules → TimelineValue → (ℕ → ℕ) → ℕ → List Pulse → Type 0) (early late : ℕ) (q : IrigTimekeeper) (t : TimelineValue) (edges : ℕ → ℕ) (made : MadeOf) (so : AreLinesSo made.clock.within IsTrue early late) where
+module _ (IsTrue : Rules → TimelineValue → (ℕ → ℕ) → ℕ → List Pulse → Type 0) (early late : ℕ) (q : IrigTimekeeper) (t : TimelineValue) (edges : ℕ → ℕ) (made : MadeOf) (so : AreLinesSo made.clock.within made.clock.drift_us IsTrue early late) where
   -- what is announced in a life is true
   pub tells_truly : (start now : ℕ) (past : List Moment) (s : IrigSecond) (u : UtcSecond) → HasLived q made (Ticked now s ∷ past)
       → GoesOnTruly IsTrue t edges made start now [] past → (report_in s.report).announce ≡ Some u
@@ -152,8 +155,8 @@ module _ (IsTrue : Rules → TimelineValue → (ℕ → ℕ) → ℕ → List Pu
       let announces = ap (λ (r : Report). r.announce) (sym beat.1.told.report) ∙ says in
       as_told s beat.0 t edges early late made.clock.within.us made.clock.drift_us made.clock.reader_rules.holdover now u beat.1.told
       (elim g.sound [
-        | inl well ↦ device_true made.limits made.rules made.clock made.table h.lines start h.fresh (IsTrue made.rules t edges) t edges early late well.is so.room
-            (so.truly made.rules t made.clock.drift_us edges well.is.steady) (calls_of past) now beat.0 u g.order (g.truth.0, well.truth) beat.1.is announces
+        | inl well ↦ device_true made.limits made.rules made.clock made.table h.lines start h.fresh (IsTrue made.rules t edges) t edges early late well.is (so.room well.is.steady.few)
+            (so.truly made.rules t edges well.is.steady) (calls_of past) now beat.0 u g.order (g.truth.0, well.truth) beat.1.is announces
         | inr mended ↦ healed_tells IsTrue t edges made start h.lines h.fresh early late so now (calls_of past) beat.0 u (as_device IsTrue t edges made start h.lines h.fresh past h.told.1 mended) g.order g.truth.0 beat.1.is announces
       ])
 
@@ -164,12 +167,12 @@ module _ (IsTrue : Rules → TimelineValue → (ℕ → ℕ) → ℕ → List Pu
       let beat = jump_beat s _ h.told.0.is jump in
       let jumps = ap (λ (r : Report). r.cause) (sym beat.1.told.report) ∙ jump in
       elim g.sound [
-        | inl well ↦ device_calm made.limits made.rules made.clock made.table h.lines start h.fresh (IsTrue made.rules t edges) t edges early late well.is so.room
-            (so.truly made.rules t made.clock.drift_us edges well.is.steady) (calls_of past) now beat.0 g.order (g.truth.0, well.truth) beat.1.is jumps
+        | inl well ↦ device_calm made.limits made.rules made.clock made.table h.lines start h.fresh (IsTrue made.rules t edges) t edges early late well.is (so.room well.is.steady.few)
+            (so.truly made.rules t edges well.is.steady) (calls_of past) now beat.0 g.order (g.truth.0, well.truth) beat.1.is jumps
         | inr mended ↦
             let d = as_device IsTrue t edges made start h.lines h.fresh past h.told.1 mended in
-            calm_since (IsTrue made.rules t edges) t edges early late (new IsTrue t edges made start h.lines h.fresh) start (begins made.limits made.rules made.clock made.table h.lines start h.fresh) tt d.is so.room
-            (so.truly made.rules t made.clock.drift_us edges d.is.steady)
+            calm_since (IsTrue made.rules t edges) t edges early late (new IsTrue t edges made start h.lines h.fresh) start (begins made.limits made.rules made.clock made.table h.lines start h.fresh) tt d.is (so.room d.is.steady.few)
+            (so.truly made.rules t edges d.is.steady)
             d.earlier d.mend d.vote d.beat d.truth d.voted d.answer d.later (calls_of past) now d.are d.since g.order g.truth.0 beat.0 beat.1.is jumps
       ]
 
@@ -188,14 +191,14 @@ module _ (IsTrue : Rules → TimelineValue → (ℕ → ℕ) → ℕ → List Pu
       let says_one = ap (λ (r : Report). r.announce) (sym one.1.told.report) ∙ says in
       let says_two = ap (λ (r : Report). r.announce) (sym two.1.told.report) ∙ then in
       elim g.sound [
-        | inl well ↦ device_in_order made.limits made.rules made.clock made.table h.lines start h.fresh (IsTrue made.rules t edges) t edges early late well.is so.room
-            (so.truly made.rules t made.clock.drift_us edges well.is.steady) (calls_of earlier) (calls_of later) before now one.0 two.0 u v order
+        | inl well ↦ device_in_order made.limits made.rules made.clock made.table h.lines start h.fresh (IsTrue made.rules t edges) t edges early late well.is (so.room well.is.steady.few)
+            (so.truly made.rules t edges well.is.steady) (calls_of earlier) (calls_of later) before now one.0 two.0 u v order
             (true_at_all (IsTrue made.rules t edges) (f_of made.clock.redundancy) (Tick now ∷ calls_of later) (Tick before ∷ calls_of earlier) g.truth well.truth)
             one.1.is says_one answers says_two
         | inr mended ↦
             let d = as_device IsTrue t edges made start h.lines h.fresh (Ticked before first ∷ earlier) told mended in
-            in_order (IsTrue made.rules t edges) t edges early late made_new start (begins made.limits made.rules made.clock made.table h.lines start h.fresh) tt d.is so.room
-            (so.truly made.rules t made.clock.drift_us edges d.is.steady)
+            in_order (IsTrue made.rules t edges) t edges early late made_new start (begins made.limits made.rules made.clock made.table h.lines start h.fresh) tt d.is (so.room d.is.steady.few)
+            (so.truly made.rules t edges d.is.steady)
             d.earlier d.mend d.vote d.beat d.truth d.voted d.answer d.later before (calls_of earlier) (calls_of later) now one.0 two.0 u v d.are d.since order g.truth one.1.is says_one answers says_two
       ]
 

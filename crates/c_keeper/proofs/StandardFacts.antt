@@ -14,14 +14,14 @@ use Rattle.c_keeper.specs.Seconds.{nothing_told, stamp_in}
 use Rattle.c_keeper.specs.Timekeepers.{announced_in}
 
 abbrev silent : IrigLine
-silent = record { sync = record { rise_us = 0; place = 0; was_marker = 0 }; port = no_tally; frame = no_tally; end_us = 0; has_frame = 0 }
+silent = record { sync = record { rise_us = 0; place = 0; was_marker = 0 }; port = no_tally; frame = no_tally; begin_us = 0; end_us = 0; is_uneven = 0; has_frame = 0; is_seen = 0; is_heard = 0 }
 
 abbrev all_silent : IrigLines
 all_silent = record { a = silent; b = silent; c = silent; d = silent; e = silent }
 
 -- the weights of the first number of the first line, of the last one of the last, and of a second's
-pub known_weights : (weighted 331 (lines_numbers (record all_silent { a = record silent { sync = record { rise_us = 1000; place = 0; was_marker = 0 } } })) ≡ 331000)
-    × (weighted 331 (lines_numbers (record all_silent { e = record silent { has_frame = 1 } })) ≡ 479)
+pub known_weights : (weighted 363 (lines_numbers (record all_silent { a = record silent { sync = record { rise_us = 1000; place = 0; was_marker = 0 } } })) ≡ 363000)
+    × (weighted 363 (lines_numbers (record all_silent { e = record silent { is_uneven = 1 } })) ≡ 521)
     × (weighted 311 (announced_numbers (record { day = 1; sod = 0; edge_us = 0; bound_us = 0; is_told = 1000 })) ≡ 319311)
 known_weights = (refl, refl, refl)
 
@@ -45,9 +45,9 @@ known_seconds = (refl, refl, refl, refl)
 abbrev asked_from : ℕ → List Moment
 asked_from time = Waited time 5000 ∷ (Pulsed 0 10000 8000 100 ∷ [])
 
--- the tick comes 96 ms behind the time that was named, and a microsecond later it is too late
+-- the tick comes 95 ms behind the time that was named, and a microsecond later it is too late
 pub known_waits : AreAsked None (asked_from 18000) × (AreAsked None (asked_from 18001) → ⊥) × (AreAsked None (Pulsed 0 10000 8000 100 ∷ []) → ⊥) × AreAsked None (Pulsed 0 10000 2000 99 ∷ [])
-    × GoesByWait 96000 (Ticked 119000 nothing_told ∷ asked_from 18000) × (GoesByWait 96000 (Ticked 119001 nothing_told ∷ asked_from 18000) → ⊥)
+    × GoesByWait 95000 (Ticked 118000 nothing_told ∷ asked_from 18000) × (GoesByWait 95000 (Ticked 118001 nothing_told ∷ asked_from 18000) → ⊥)
 known_waits = (
   (λ e. refl, tt),
   λ h. (let other : ◌≡◌ {A = ℕ} 18001 18000 = (let both = h.0 refl in cc) in absurd (omega (arith, other))),

@@ -19,7 +19,7 @@ use Rattle.c_keeper.specs.declared.second.IrigSecond.{IrigSecond}
 use Rattle.c_keeper.specs.declared.timekeeper.IrigTimekeeper.{IrigTimekeeper}
 use Rattle.c_keeper.specs.declared.timekeeper.IrigWires.{IrigWires}
 use Rattle.c_keeper.specs.Seconds.{IsSecondOf, IsToldOf}
-use Rattle.c_keeper.specs.Timekeepers.{answer_in, clock_in, clock_state_in, state_behind, wait_in, IsAnnounced, IsTimekeeperOf}
+use Rattle.c_keeper.specs.Timekeepers.{answer_in, clock_in, clock_state_in, delays_in, state_behind, wait_in, IsAnnounced, IsSmall, IsTimekeeperOf}
 
 pub answers_as : (t : IrigTimekeeper) (k : Keeping) (now : ℕ) → IsTimekeeperOf t k → answer_in t now ≡ answer_at k now
 answers_as t k now h =
@@ -60,7 +60,7 @@ clock_as t q setup wires =
     ap (λ (s : IrigSetup). clock_of s q.wires) setup ∙ ap (λ (w : IrigWires). clock_of t.setup w) wires
   where
     clock_of : IrigSetup → IrigWires → ClockRules
-    clock_of s w = record { reader_rules = reader_rules_in s; redundancy = redundancy_in s; within = within_of w.within_us; drift_us = w.drift_us }
+    clock_of s w = record { reader_rules = reader_rules_in s; redundancy = redundancy_in s; within = within_of w.within_us; drift_us = w.drift_us; delays = delays_in w.delays }
 
 pub steady_as : (t q : IrigTimekeeper) → q.setup ≡ t.setup → q.wires ≡ t.wires → clock_fault (reader_rules_in t.setup) t.wires.drift_us ≡ None
     → clock_fault (reader_rules_in q.setup) q.wires.drift_us ≡ None
@@ -70,3 +70,6 @@ steady_as t q setup wires steady =
 -- nothing was announced
 pub none_announced : (a : IrigAnnounced) → a.is_told ≡ 0 → IsAnnounced a
 none_announced a e = rw e tt
+
+pub none_small : (a : IrigAnnounced) → a.is_told ≡ 0 → IsSmall a
+none_small a e = rw e (λ announced is. absurd cc)

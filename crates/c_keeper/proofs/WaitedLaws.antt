@@ -39,7 +39,7 @@ module _ (t : IrigTimekeeper) (made : MadeOf) (start time now : ℕ) (past : Lis
   waited_at_most = subst (λ (n : ℕ). n ≤ 1005000) (sym (waits_as t k time now h.is clock)) (waits_at_most whole start now (calls_of past) order)
 
   pub waited_votes : (then edge : ℕ) (vote : Vote) → AreInOrder start made.clock.redundancy (Tick then ∷ calls_of past) → agreed_in t time ≡ Some vote → vote.edge_us ≡ edge % 2 ^ 32
-      → edge ≤ now + 11000 → now ≤ edge + 98000 → now + wait_in t time ≤ then → then ≤ edge + 98000 → vote_in t (then % 2 ^ 32) ≡ Some vote.claim
+      → edge ≤ now + 15000 → now ≤ edge + 98000 → now + wait_in t time ≤ then → then ≤ edge + 98000 → vote_in t (then % 2 ^ 32) ≡ Some vote.claim
   waited_votes then edge vote order' agree at ahead behind waited soon =
       let begun = begins made.limits made.rules made.clock made.table h.lines start h.fresh in
       let agreed_then = sym (agreed_as t k time now h.is clock) ∙ agree in

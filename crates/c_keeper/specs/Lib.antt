@@ -2,6 +2,8 @@ pub mod Lines
 pub mod Timekeepers
 pub mod CheckWord
 pub mod Seconds
+pub mod States
+pub mod Said
 pub mod Lives
 pub mod Announcing
 pub mod Rows

@@ -1,5 +1,5 @@
 -- Where the lines of a timekeeper stand, by their numbers.
-use Rattle.std.specs.Prelude.{◌≡◌, ℕ, ◌≤◌, ◌⊎◌, ◌==◌, if◌then◌else◌, List, [], ◌∷◌, Option, Some, None}
+use Rattle.std.specs.Prelude.{◌≡◌, ℕ, ◌≤◌, ◌⊎◌, ◌==◌, not, false, if◌then◌else◌, List, [], ◌∷◌, Option, Some, None}
 use Rattle.irig_time.specs.declared.rules.Rules.{Rules}
 use Rattle.irig_port.specs.declared.tally.Tally.{Tally}
 use Rattle.irig_port.specs.declared.limits.Limits.{Limits}
@@ -12,15 +12,24 @@ use Rattle.irig_timekeeper.specs.Keeping.{Heard}
 use Rattle.c_keeper.specs.declared.line.IrigLine.{IrigLine}
 use Rattle.c_keeper.specs.declared.line.IrigLines.{IrigLines}
 
--- its last whole frame, if it keeps one: what its numbers tell, and where it ends
-abbrev pub frame_in : Option Limits → Rules → IrigLine → Option KeptFrame
-frame_in limits rules l =
-    if l.has_frame == 0 then None
-    else Some (record { told = tally_told_within limits rules l.frame; end_us = l.end_us })
+-- its last whole frame, whatever became of it: what its numbers tell, where it ends, and whether it is
+-- even
+abbrev pub frame_in : Option Limits → Rules → IrigLine → KeptFrame
+frame_in limits rules l = record {
+  told = tally_told_within limits rules l.frame;
+  end_us = l.end_us;
+  is_even = l.is_uneven == 0;
+}
 
 -- the line that has these numbers
 abbrev pub line_in : Option Limits → Rules → IrigLine → Line
-line_in limits rules l = record { sync = l.sync; frame = frame_in limits rules l }
+line_in limits rules l = record {
+  sync = l.sync;
+  begin_us = l.begin_us;
+  frame = if l.has_frame == 0 then None else Some (frame_in limits rules l);
+  seen = if l.is_seen == 0 then None else Some (frame_in limits rules l);
+  is_heard = not (l.is_heard == 0);
+}
 
 -- the five lines
 abbrev pub lines_in : Option Limits → Rules → IrigLines → Lines
@@ -30,6 +39,20 @@ lines_in limits rules ls = record {
   c = line_in limits rules ls.c;
   d = line_in limits rules ls.d;
   e = line_in limits rules ls.e;
+}
+
+-- a line of which only that is looked at which it keeps
+abbrev pub bare_line : Line → Line
+bare_line l = record l { seen = None; is_heard = false }
+
+-- five such lines
+abbrev pub bare_lines : Lines → Lines
+bare_lines ls = record {
+  a = bare_line ls.a;
+  b = bare_line ls.b;
+  c = bare_line ls.c;
+  d = bare_line ls.d;
+  e = bare_line ls.e;
 }
 
 -- the frames that they keep, and of others what they kept last
@@ -66,17 +89,28 @@ pub record HaveHeard (ls : IrigLines) (heard : Heard) : Type 0 where
 abbrev pub IsKeptFrom : Option KeptFrame → Option KeptFrame → Type 0
 IsKeptFrom before after = (after ≡ None) ⊎ (after ≡ before)
 
+-- of a line it moves no more than its synchroniser, and may drop what it keeps and sees
+pub record IsLineFrom (before after : Line) : Type 0 where
+  pub begin : after.begin_us ≡ before.begin_us
+  pub frame : IsKeptFrom before.frame after.frame
+  pub seen : IsKeptFrom before.seen after.seen
+
 -- so it does of each line
 pub record AreKeptFrom (before after : Lines) : Type 0 where
-  pub a : IsKeptFrom before.a.frame after.a.frame
-  pub b : IsKeptFrom before.b.frame after.b.frame
-  pub c : IsKeptFrom before.c.frame after.c.frame
-  pub d : IsKeptFrom before.d.frame after.d.frame
-  pub e : IsKeptFrom before.e.frame after.e.frame
+  pub a : IsLineFrom before.a after.a
+  pub b : IsLineFrom before.b after.b
+  pub c : IsLineFrom before.c after.c
+  pub d : IsLineFrom before.d after.d
+  pub e : IsLineFrom before.e after.e
 
--- of so many lines: what stands for one beyond them keeps no frame
+-- a line keeps no frame, and sees none
+pub record IsEmptyLine (l : IrigLine) : Type 0 where
+  pub frame : l.has_frame ≡ 0
+  pub seen : l.is_seen ≡ 0
+
+-- of so many lines: what stands for one beyond them is empty
 pub record KeepNoMore (ports : ℕ) (ls : IrigLines) : Type 0 where
-  pub b : ports ≤ 1 → ls.b.has_frame ≡ 0
-  pub c : ports ≤ 2 → ls.c.has_frame ≡ 0
-  pub d : ports ≤ 3 → ls.d.has_frame ≡ 0
-  pub e : ports ≤ 4 → ls.e.has_frame ≡ 0
+  pub b : ports ≤ 1 → IsEmptyLine ls.b
+  pub c : ports ≤ 2 → IsEmptyLine ls.c
+  pub d : ports ≤ 3 → IsEmptyLine ls.d
+  pub e : ports ≤ 4 → IsEmptyLine ls.e

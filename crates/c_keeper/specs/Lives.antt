@@ -30,7 +30,7 @@ use Rattle.c_keeper.specs.declared.timekeeper.IrigTimekeeper.{IrigTimekeeper}
 use Rattle.c_keeper.specs.declared.timekeeper.IrigWires.{IrigWires}
 use Rattle.irig_timekeeper.specs.Refusals.{within_of}
 use Rattle.c_keeper.specs.Seconds.{IsSecondOf}
-use Rattle.c_keeper.specs.Timekeepers.{clock_in, clock_state_in, IsTimekeeperOf}
+use Rattle.c_keeper.specs.Timekeepers.{clock_in, clock_state_in, delays_in, IsTimekeeperOf}
 
 -- a pulse on a line: it rose then, is so wide, and was answered this place; a tick, and the second
 -- that it gave; or a question how long to wait from then on, and the answer
@@ -56,6 +56,7 @@ made_in setup table wires = record {
     redundancy = redundancy_in setup;
     within = within_of wires.within_us;
     drift_us = wires.drift_us;
+    delays = delays_in wires.delays;
   };
   table = table_in table;
 }

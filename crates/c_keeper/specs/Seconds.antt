@@ -48,6 +48,17 @@ nothing_told = record {
   missed = 0;
   moved = 0;
   strays = 0;
+  doubt = 0;
+  lines = record {
+    agreed = 0;
+    apart = 0;
+    differed = 0;
+    faulty = 0;
+    poor = 0;
+    broken = 0;
+    silent = 0;
+    unjudged = 0;
+  };
   report = nothing_reported;
 }
 

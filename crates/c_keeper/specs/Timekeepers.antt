@@ -1,6 +1,8 @@
 -- What it is for the numbers that C holds to be those of a timekeeper.
-use Rattle.std.specs.Prelude.{◌≡◌, ◌⊎◌, ℕ, ◌<◌, ◌≤◌, ◌*◌, ◌==◌, if◌then◌else◌, Bool, false, List, count_by, Option, Some, None, IfSome}
+use Rattle.std.specs.Prelude.{◌≡◌, ◌⊎◌, ℕ, ℤ, unsigned_abs, ◌<◌, ◌≤◌, ◌+◌, ◌*◌, ◌==◌, if◌then◌else◌, Bool, false, List, count_by, Option, Some, None, IfSome}
 use Rattle.std.specs.List.{range_with_len}
+use Rattle.std.specs.Option.{ForSome}
+use Rattle.irig_timekeeper.specs.declared.delay.Delays.{Delays}
 use Rattle.irig_sync.specs.Lines.{Pulse}
 use Rattle.irig_time.specs.declared.claim.Claim.{Claim}
 use Rattle.irig_time.specs.Seconds.{IsValid}
@@ -23,8 +25,9 @@ use Rattle.c_numbers.specs.LeapTables.{table_in}
 use Rattle.c_numbers.specs.States.{state_in, IsState}
 use Rattle.c_keeper.specs.declared.announced.IrigAnnounced.{IrigAnnounced}
 use Rattle.c_keeper.specs.declared.timekeeper.IrigTimekeeper.{IrigTimekeeper}
+use Rattle.c_keeper.specs.declared.timekeeper.IrigDelays.{IrigDelays}
 use Rattle.c_keeper.specs.declared.timekeeper.IrigWires.{IrigWires}
-use Rattle.c_keeper.specs.Lines.{lines_in, HaveHeard, KeepNoMore}
+use Rattle.c_keeper.specs.Lines.{bare_lines, lines_in, HaveHeard, KeepNoMore}
 use Rattle.c_keeper.specs.CheckWord.{IsSealed}
 
 -- the second that was announced, if there is one
@@ -41,6 +44,14 @@ announced_in a =
 abbrev pub IsAnnounced : IrigAnnounced → Type 0
 IsAnnounced a = IfSome (announced_in a) (λ announced. IsValid announced.second)
 
+-- if there is one, its bound is no greater than that of a held one may be
+abbrev pub IsSmall : IrigAnnounced → Type 0
+IsSmall a = ForSome (announced_in a) (λ announced. announced.bound_us ≤ most_vote_us + most_held_us)
+
+-- how late its lines are
+abbrev pub delays_in : IrigDelays → Delays
+delays_in x = record { a = x.a; b = x.b; c = x.c; d = x.d; e = x.e }
+
 -- the rules of its clock
 abbrev pub clock_in : IrigTimekeeper → ClockRules
 clock_in t = record {
@@ -48,6 +59,7 @@ clock_in t = record {
   redundancy = redundancy_in t.setup;
   within = within_of t.wires.within_us;
   drift_us = t.wires.drift_us;
+  delays = delays_in t.wires.delays;
 }
 
 -- its last edge, if there was one
@@ -69,14 +81,33 @@ clock_state_in t = record {
   bound_us = t.bound_us;
   interval = interval_in t;
   strays = t.strays;
+  doubt = t.doubt;
   moved = t.moved;
   last = announced_in t.last;
   before = announced_in t.before;
+  ended = announced_in t.ended;
+  ended_before = announced_in t.ended_before;
 }
 
--- lines may be so exact, and a counter so wrong
+-- the same, but for what lines say of themselves: how long to wait does not ask for it
+abbrev pub waiting_in : IrigTimekeeper → ClockState
+waiting_in t = record (clock_state_in t) {
+  lines = bare_lines (lines_in (limits_in t.setup) (rules_in t.setup) t.lines);
+}
+
+-- a line may be so late
+abbrev pub IsDelay : ℤ → Type 0
+IsDelay delay = unsigned_abs delay ≤ 4000
+
+-- so may five
+abbrev pub AreDelays : IrigDelays → Type 0
+AreDelays x = IsDelay x.a × (IsDelay x.b × (IsDelay x.c × (IsDelay x.d × IsDelay x.e)))
+
+-- lines may be so exact and so late, and a counter so wrong
 abbrev pub AreWires : IrigWires → Type 0
-AreWires w = (1 ≤ w.within_us) × ((w.within_us ≤ most_within_us) × (w.drift_us ≤ most_drift_us))
+AreWires w =
+    (1 ≤ w.within_us)
+    × ((w.within_us ≤ most_within_us) × ((w.drift_us ≤ most_drift_us) × AreDelays w.delays))
 
 -- there is no such interval, or it is so short that seconds can be counted by it
 abbrev pub HasShortInterval : IrigTimekeeper → Type 0
@@ -92,6 +123,8 @@ pub record IsAccepted (t : IrigTimekeeper) : Type 0 where
   pub is_state : IsState t.setup.lock_after t.state
   pub last : IsAnnounced t.last
   pub before : IsAnnounced t.before
+  pub ended : IsSmall t.ended
+  pub ended_before : IsSmall t.ended_before
   pub absent : KeepNoMore (ports_in (redundancy_in t.setup)) t.lines
   pub sealed : IsSealed t
 
@@ -126,7 +159,7 @@ pub record HeardTruly (IsTrue : List Pulse → Type 0) (t : IrigTimekeeper) (now
   pub true_lines : (i : ℕ) → i < ports_in (redundancy_in t.setup) → untrue i ≡ false
       → IsTrue (pulses i)
   pub kept : (i : ℕ) → i < ports_in (redundancy_in t.setup)
-      → IfKept (IsInTurnOf now) (rules_in t.setup)
+      → IfKept (IsInTurnOf now) (clock_in t).within.us (clock_in t).drift_us (rules_in t.setup)
       (claim_kept (line_at (lines_in (limits_in t.setup) (rules_in t.setup) t.lines) i).frame)
       (pulses i)
 

@@ -2,12 +2,12 @@
 
 ghost use Rattle.std.specs.Prelude.{◌≡◌, ◌↔◌, ◌+◌, ◌*◌, ◌%◌, ◌^◌, ◌<◌};
 ghost use Rattle.c_numbers.specs.CheckWord.{setup_numbers, table_numbers, weighted};
-ghost use Rattle.c_keeper.specs.CheckWord.{announced_numbers, clock_numbers, line_numbers, lines_numbers, check_of, total, IsSealed};
+ghost use Rattle.c_keeper.specs.CheckWord.{announced_numbers, clock_numbers, delay_number, flags_of, line_numbers, lines_numbers, wires_numbers, check_of, total, IsSealed};
 ghost use Rattle.c_keeper.specs.Lines.{with_numbers};
 
 use crate::announced::IrigAnnounced;
 use crate::line::{IrigLine, IrigLines, line_at, put_line};
-use crate::timekeeper::IrigTimekeeper;
+use crate::timekeeper::{IrigTimekeeper, IrigWires};
 use c_numbers::state_sum;
 
 fn announced_sum(weight: u64, announced: &IrigAnnounced) -> u64
@@ -22,22 +22,55 @@ fn announced_sum(weight: u64, announced: &IrigAnnounced) -> u64
         + (weight + 8) * u64::from(announced.is_told)
 }
 
+// Twice a delay's size, and one more if it is below 0.
+fn delay_number(delay_us: i16) -> u64
+    ensures value { result ≡ delay_number delay_us }
+    ensures few { result < 2 ^ 17 }
+{
+    2 * u64::from(delay_us.unsigned_abs()) + u64::from(delay_us < 0)
+}
+
+fn wires_sum(wires: &IrigWires) -> u64
+    ensures value { result ≡ weighted 291 (wires_numbers wires.now) }
+    ensures few { result < 2 ^ 50 }
+{
+    291 * u64::from(wires.within_us)
+        + 293 * u64::from(wires.drift_us)
+        + 295 * delay_number(wires.delays.a)
+        + 297 * delay_number(wires.delays.b)
+        + 299 * delay_number(wires.delays.c)
+        + 301 * delay_number(wires.delays.d)
+        + 303 * delay_number(wires.delays.e)
+}
+
 fn clock_sum(timekeeper: &IrigTimekeeper) -> u64
     ensures value { result ≡ weighted 291 (clock_numbers timekeeper.now) }
     ensures few { result < 2 ^ 60 }
 {
-    291 * u64::from(timekeeper.wires.within_us)
-        + 293 * u64::from(timekeeper.wires.drift_us)
-        + 295 * u64::from(timekeeper.edge_us)
-        + 297 * u64::from(timekeeper.moved)
-        + 299 * u64::from(timekeeper.has_edge)
-        + 301 * u64::from(timekeeper.bound_us)
-        + 303 * u64::from(timekeeper.begin_us)
-        + 305 * u64::from(timekeeper.long_us)
-        + 307 * u64::from(timekeeper.strays)
-        + 309 * u64::from(timekeeper.has_interval)
-        + announced_sum(311, &timekeeper.last)
-        + announced_sum(321, &timekeeper.before)
+    wires_sum(&timekeeper.wires)
+        + 305 * u64::from(timekeeper.edge_us)
+        + 307 * u64::from(timekeeper.moved)
+        + 309 * u64::from(timekeeper.has_edge)
+        + 311 * u64::from(timekeeper.bound_us)
+        + 313 * u64::from(timekeeper.begin_us)
+        + 315 * u64::from(timekeeper.long_us)
+        + 317 * u64::from(timekeeper.strays)
+        + 319 * u64::from(timekeeper.doubt)
+        + 321 * u64::from(timekeeper.has_interval)
+        + announced_sum(323, &timekeeper.last)
+        + announced_sum(333, &timekeeper.before)
+        + announced_sum(343, &timekeeper.ended)
+        + announced_sum(353, &timekeeper.ended_before)
+}
+
+// Four bytes of a line as one number.
+fn flags_of(line: &IrigLine) -> u32
+    ensures { result ≡ flags_of line.now }
+{
+    u32::from(line.is_uneven)
+        + 256 * u32::from(line.has_frame)
+        + 65_536 * u32::from(line.is_seen)
+        + 16_777_216 * u32::from(line.is_heard)
 }
 
 // The numbers of a line weigh a first weight and 0, 2, 4 .. more: so many times their sum, and what
@@ -54,8 +87,9 @@ fn plain_sum(line: &IrigLine) -> u64
         + u64::from(line.frame.count)
         + u64::from(line.frame.wrong.kind)
         + u64::from(line.frame.wrong.element)
+        + u64::from(line.begin_us)
         + u64::from(line.end_us)
-        + u64::from(line.has_frame);
+        + u64::from(flags_of(line));
     small
         .wrapping_add(line.port.time)
         .wrapping_add(line.port.control)
@@ -74,8 +108,9 @@ fn slope(line: &IrigLine) -> u64
         + 16 * u64::from(line.frame.count)
         + 18 * u64::from(line.frame.wrong.kind)
         + 20 * u64::from(line.frame.wrong.element)
-        + 26 * u64::from(line.end_us)
-        + 28 * u64::from(line.has_frame);
+        + 26 * u64::from(line.begin_us)
+        + 28 * u64::from(line.end_us)
+        + 30 * u64::from(flags_of(line));
     small
         .wrapping_add(line.port.time.wrapping_mul(12))
         .wrapping_add(line.port.control.wrapping_mul(14))
@@ -86,9 +121,9 @@ fn slope(line: &IrigLine) -> u64
 #[inline(never)]
 fn line_sum(port: u8, line: &IrigLine) -> u64
     requires { port < 5 }
-    ensures { result ≡ weighted (331 + 30 * port) (line_numbers line.now) % 2 ^ 64 }
+    ensures { result ≡ weighted (363 + 32 * port) (line_numbers line.now) % 2 ^ 64 }
 {
-    let weight = 331 + 30 * u64::from(port);
+    let weight = 363 + 32 * u64::from(port);
     weight
         .wrapping_mul(plain_sum(line))
         .wrapping_add(slope(line))
@@ -99,17 +134,17 @@ fn line_sum(port: u8, line: &IrigLine) -> u64
 #[inline]
 fn line_change(port: u8, before: &IrigLine, after: &IrigLine) -> u64
     requires { port < 5 }
-    ensures { (weighted (331 + 30 * port) (line_numbers before.now) + result) % 2 ^ 64
-        ≡ weighted (331 + 30 * port) (line_numbers after.now) % 2 ^ 64 }
+    ensures { (weighted (363 + 32 * port) (line_numbers before.now) + result) % 2 ^ 64
+        ≡ weighted (363 + 32 * port) (line_numbers after.now) % 2 ^ 64 }
 {
-    let weight = 331 + 30 * u64::from(port);
+    let weight = 363 + 32 * u64::from(port);
     let all = plain_sum(after).wrapping_sub(plain_sum(before));
     let more = slope(after).wrapping_sub(slope(before));
     weight.wrapping_mul(all).wrapping_add(more)
 }
 
 fn lines_sum(lines: &IrigLines) -> u64
-    ensures { result ≡ weighted 331 (lines_numbers lines.now) % 2 ^ 64 }
+    ensures { result ≡ weighted 363 (lines_numbers lines.now) % 2 ^ 64 }
 {
     line_sum(0, &lines.a)
         .wrapping_add(line_sum(1, &lines.b))

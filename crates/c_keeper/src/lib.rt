@@ -9,17 +9,21 @@ mod announced;
 mod check_word;
 mod laws;
 mod line;
+mod said;
 mod second;
 mod stamp;
+mod states;
 mod timekeeper;
 
 pub use announced::IrigAnnounced;
 pub use check_word::{check_of, set_line};
 pub use laws::another_number_is_told;
 pub use line::{IrigLine, IrigLines, hear, line_at};
+pub use said::{IrigLineSaid, said_of};
 pub use second::{IrigSecond, second_of};
 pub use stamp::{IrigStamp, stamp_for_c};
+pub use states::{IrigMasks, number_of};
 pub use timekeeper::{
-    IrigTimekeeper, IrigWires, are_wires, clock_rules_of, clock_state_of, forget, is_accepted,
-    keep, restart, stamp_at,
+    IrigDelays, IrigTimekeeper, IrigWires, are_wires, clock_rules_of, clock_state_of, delay_of,
+    forget, is_accepted, keep, restart, stamp_at, waiting_state_of,
 };

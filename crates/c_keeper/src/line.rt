@@ -1,6 +1,7 @@
 //! The lines of a timekeeper, in numbers.
 
-ghost use Rattle.std.specs.Prelude.{◌≡◌, ◌↔◌, ◌≤◌, ℕ, IsTrue, List, [], Option};
+ghost use Rattle.std.specs.Prelude.{◌≡◌, ◌↔◌, ◌≤◌, ℕ, IsTrue, List, [], Option, Some};
+ghost use Rattle.irig_timekeeper.specs.Exactness.{most_drift_us};
 ghost use Rattle.irig_frame.specs.declared.symbol.Symbol.{Symbol};
 ghost use Rattle.irig_sync.specs.Sync.{place_of};
 ghost use Rattle.irig_time.specs.declared.rules.Rules.{Rules};
@@ -12,12 +13,14 @@ ghost use Rattle.irig_port.specs.Tallies.{IsTallyOf};
 ghost use Rattle.irig_frame.specs.Symbols.{symbol_of};
 ghost use Rattle.irig_timekeeper.specs.Keeping.{Heard, nothing_heard};
 ghost use Rattle.irig_timekeeper.specs.Steps.{line_heard, IsKeptOfUtc, IsNewLine, AreKeptOfUtc, AreNewLines};
-ghost use Rattle.c_keeper.specs.Lines.{frame_in, frames_in, line_in, lines_in, numbers_at, with_numbers, HaveHeard, IsKeptFrom, AreKeptFrom, KeepNoMore};
+ghost use Rattle.c_keeper.specs.Lines.{bare_line, bare_lines, frame_in, frames_in, line_in, lines_in, numbers_at, with_numbers, HaveHeard, AreKeptFrom, IsEmptyLine, IsLineFrom, KeepNoMore};
+ghost use Rattle.c_keeper.specs.Timekeepers.{clock_in, AreWires};
 
+use crate::timekeeper::{IrigTimekeeper, steady_rules_of};
 use irig_port::{Limits, Tally};
 use irig_sync::Sync;
 use irig_time::Rules;
-use irig_timekeeper::{KeptFrame, Line, Lines};
+use irig_timekeeper::{KeptFrame, Line, Lines, is_even};
 
 /// A line of a timekeeper.
 #[repr(C)]
@@ -29,10 +32,18 @@ pub struct IrigLine {
     pub port: Tally,
     /// Its last whole frame.
     pub frame: Tally,
-    /// Where that ends.
+    /// When the first pulse of the frame rose that it stands in.
+    pub begin_us: u32,
+    /// Where its last whole frame ends.
     pub end_us: u32,
-    /// 0 if there is none; any other, if there is.
+    /// 0 if that is even no more than its pulses may be off; any other, if it is not.
+    pub is_uneven: u8,
+    /// 0 if a tick has taken it, or it is late, or there is none; any other, if it may vote yet.
     pub has_frame: u8,
+    /// 0 if it ended more than 1.5 s ago, or there is none; any other, if it says what the line is.
+    pub is_seen: u8,
+    /// 0 if no pulse came within a second; any other, if one did.
+    pub is_heard: u8,
 }
 
 /// Five lines, one behind another: of one `b` to `e` are not heard, of three `d` and `e`.
@@ -50,14 +61,18 @@ fn line_of_nothing() -> IrigLine
     ensures new { (limits : Option Limits) (rules : Rules)
         → IsNewLine (line_in limits rules result) }
     ensures heard { IsTallyOf result.port [] }
-    ensures empty { result.has_frame ≡ 0 }
+    ensures empty { IsEmptyLine result }
 {
     IrigLine {
         sync: Sync::none(),
         port: Tally::none(),
         frame: Tally::none(),
+        begin_us: 0,
         end_us: 0,
+        is_uneven: 0,
         has_frame: 0,
+        is_seen: 0,
+        is_heard: 0,
     }
 }
 
@@ -103,22 +118,28 @@ pub(crate) fn put_line(lines: &mut IrigLines, port: u8, line: &IrigLine)
 }
 
 /// A pulse on a line: its place. At a frame's last one the line keeps what it heard of it.
-pub fn hear(line: &mut IrigLine, rise_us: u32, width_us: u32) -> u8
+pub fn hear(timekeeper: &IrigTimekeeper, line: &mut IrigLine, rise_us: u32, width_us: u32) -> u8
     ensures place { result ≡ place_of line.old.sync rise_us width_us }
     ensures few { result ≤ 100 }
     ensures line { (limits : Option Limits) (rules : Rules) (s : List Symbol)
-        → IsTallyOf line.old.port s → line_in limits rules line.new
-        ≡ line_heard (line_in limits rules line.old) rise_us width_us
+        → AreWires timekeeper.now.wires → IsTallyOf line.old.port s → line_in limits rules line.new
+        ≡ line_heard (clock_in timekeeper.now) (line_in limits rules line.old) rise_us width_us
         (told_within limits rules (heard_at result s width_us)) }
     ensures heard { (s : List Symbol) → IsTallyOf line.old.port s
         → IsTallyOf line.new.port (heard_at result s width_us) }
 {
     let place = line.sync.pulse(rise_us, width_us);
     line.port = heard(line.port, place, width_us);
+    line.is_heard = 1;
+    if place == 1 {
+        line.begin_us = rise_us;
+    }
     if place == 100 {
         line.frame = line.port;
         line.end_us = rise_us.wrapping_add(10_000);
+        line.is_uneven = u8::from(!is_even(&steady_rules_of(timekeeper), line.begin_us, rise_us));
         line.has_frame = 1;
+        line.is_seen = 1;
     }
     place
 }
@@ -141,26 +162,70 @@ fn with_pulse(mut tally: Tally, width_us: u32) -> Tally
     tally
 }
 
-fn frame_of(limits: Option<Limits>, rules: &Rules, line: &IrigLine) -> Option<KeptFrame>
+// Its last whole frame, whatever became of it.
+fn frame_of(limits: Option<Limits>, rules: &Rules, line: &IrigLine) -> KeptFrame
     ensures value { result ≡ frame_in limits rules.now line.now }
-    ensures valid { IsKeptOfUtc result }
+    ensures valid { IsKeptOfUtc (Some result) }
 {
-    if line.has_frame == 0 {
-        return None;
-    }
-    Some(KeptFrame {
+    KeptFrame {
         told: line.frame.tell_within(rules, limits),
         end_us: line.end_us,
-    })
+        is_even: line.is_uneven == 0,
+    }
 }
 
 fn line_of(limits: Option<Limits>, rules: &Rules, line: &IrigLine) -> Line
     ensures value { result ≡ line_in limits rules.now line.now }
     ensures valid { IsKeptOfUtc result.frame }
 {
+    let mut frame = None;
+    let mut seen = None;
+    if line.has_frame != 0 || line.is_seen != 0 {
+        let last = frame_of(limits, rules, line);
+        if line.has_frame != 0 {
+            frame = Some(last);
+        }
+        if line.is_seen != 0 {
+            seen = Some(last);
+        }
+    }
     Line {
         sync: line.sync,
-        frame: frame_of(limits, rules, line),
+        begin_us: line.begin_us,
+        frame,
+        seen,
+        is_heard: line.is_heard != 0,
+    }
+}
+
+// Without what it says of itself, if that is not read.
+fn bare_line_of(limits: Option<Limits>, rules: &Rules, line: &IrigLine) -> Line
+    ensures value { result ≡ bare_line (line_in limits rules.now line.now) }
+    ensures valid { IsKeptOfUtc result.frame }
+{
+    Line {
+        sync: line.sync,
+        begin_us: line.begin_us,
+        frame: if line.has_frame == 0 {
+            None
+        } else {
+            Some(frame_of(limits, rules, line))
+        },
+        seen: None,
+        is_heard: false,
+    }
+}
+
+/// Where lines stand, as far as a vote asks for it: frames that have none are not read.
+pub(crate) fn bare_lines_of(limits: Option<Limits>, rules: &Rules, lines: &IrigLines) -> Lines
+    ensures { result ≡ bare_lines (lines_in limits rules.now lines.now) }
+{
+    Lines {
+        a: bare_line_of(limits, rules, &lines.a),
+        b: bare_line_of(limits, rules, &lines.b),
+        c: bare_line_of(limits, rules, &lines.c),
+        d: bare_line_of(limits, rules, &lines.d),
+        e: bare_line_of(limits, rules, &lines.e),
     }
 }
 
@@ -178,14 +243,20 @@ pub(crate) fn lines_of(limits: Option<Limits>, rules: &Rules, lines: &IrigLines)
     }
 }
 
+fn is_empty(line: &IrigLine) -> bool
+    ensures { IsTrue result ↔ IsEmptyLine line.now }
+{
+    line.has_frame == 0 && line.is_seen == 0
+}
+
 /// Whether what stands for lines beyond so many keeps no frame.
 pub(crate) fn keep_no_more(ports: u8, lines: &IrigLines) -> bool
     ensures { IsTrue result ↔ KeepNoMore ports lines.now }
 {
-    (ports > 1 || lines.b.has_frame == 0)
-        && (ports > 2 || lines.c.has_frame == 0)
-        && (ports > 3 || lines.d.has_frame == 0)
-        && (ports > 4 || lines.e.has_frame == 0)
+    (ports > 1 || is_empty(&lines.b))
+        && (ports > 2 || is_empty(&lines.c))
+        && (ports > 3 || is_empty(&lines.d))
+        && (ports > 4 || is_empty(&lines.e))
 }
 
 /// The frames that lines keep, and of others what they kept last.
@@ -204,14 +275,18 @@ pub(crate) fn frames_of(lines: &IrigLines) -> [Tally; 5]
 // A line as a tick leaves it, which drops a frame or keeps it.
 fn keep_line(line: &mut IrigLine, kept: &Line)
     ensures line { (limits : Option Limits) (rules : Rules)
-        → IsKeptFrom (frame_in limits rules line.old) kept.now.frame
+        → IsLineFrom (line_in limits rules line.old) kept.now
         → line_in limits rules line.new ≡ kept.now }
     ensures port { line.new.port ≡ line.old.port }
-    ensures empty { line.old.has_frame ≡ 0 → line.new.has_frame ≡ 0 }
+    ensures empty { IsEmptyLine line.old → IsEmptyLine line.new }
 {
     line.sync = kept.sync;
+    line.is_heard = u8::from(kept.is_heard);
     if kept.frame.is_none() {
         line.has_frame = 0;
+    }
+    if kept.seen.is_none() {
+        line.is_seen = 0;
     }
 }
 

@@ -1,20 +1,24 @@
 //! What a timekeeper says at a tick, in numbers.
 
-ghost use Rattle.std.specs.Prelude.{◌≡◌, ◌==◌, if◌then◌else◌, Some};
+ghost use Rattle.std.specs.Prelude.{◌≡◌, ◌≤◌, ◌==◌, if◌then◌else◌, Some};
 ghost use Rattle.c_numbers.specs.Numbers.{sense_in};
 ghost use Rattle.c_numbers.specs.Reports.{report_in, voices_in};
 ghost use Rattle.c_numbers.specs.Setups.{redundancy_in};
 ghost use Rattle.c_numbers.specs.Voices.{voices_to};
 ghost use Rattle.c_keeper.specs.Lines.{frames_in};
+ghost use Rattle.irig_timekeeper.specs.Clock.{AreSmall};
+ghost use Rattle.irig_timekeeper.specs.Exactness.{most_drift_us};
 ghost use Rattle.c_keeper.specs.Seconds.{against_at, IsSecondOf, IsToldOf};
+ghost use Rattle.c_keeper.specs.States.{masks_of};
 
 use crate::line::frames_of;
+use crate::states::{IrigMasks, NO_LINES, masks_of};
 use crate::timekeeper::IrigTimekeeper;
 use c_numbers::{
     IrigReport, Voices, against_hold, redundancy_of, report_for_c, sense_of, voices_of,
 };
 use irig_time::UtcSecond;
-use irig_timekeeper::{Beat, Ticked};
+use irig_timekeeper::{Beat, ClockRules, ClockState, Ticked};
 use irig_vote::Redundancy;
 
 /// What a timekeeper says at a tick.
@@ -34,6 +38,10 @@ pub struct IrigSecond {
     pub moved: u32,
     /// How many votes contradicted those before them since the timekeeper was made or restarted.
     pub strays: u32,
+    /// How many seconds have to be voted yet before one is announced again without a vote.
+    pub doubt: u32,
+    /// What each line is.
+    pub lines: IrigMasks,
     /// What is said of it.
     pub report: IrigReport,
 }
@@ -63,18 +71,26 @@ const NOTHING_TOLD: IrigSecond = IrigSecond {
     missed: 0,
     moved: 0,
     strays: 0,
+    doubt: 0,
+    lines: NO_LINES,
     report: NOTHING_REPORTED,
 };
 
-/// What a tick answers, as C is given it, with what lines told by the frames that they kept, and
-/// which of them were against what was held.
+/// What a tick answers, as C is given it, with what lines told by the frames that they kept, which of
+/// them were against what was held, and where the clock then stands.
 pub fn second_of(
     timekeeper: &IrigTimekeeper,
     ticked: &Ticked,
     held: Option<UtcSecond>,
-    strays: u32,
+    rules: &ClockRules,
+    state: &ClockState,
 ) -> IrigSecond
-    ensures strays { result.strays ≡ (if result.is_told == 0 then 0 else strays) }
+    requires steady { rules.now.drift_us ≤ most_drift_us }
+    requires small { AreSmall state.now }
+    ensures strays { result.strays ≡ (if result.is_told == 0 then 0 else state.now.strays) }
+    ensures doubt { result.doubt ≡ (if result.is_told == 0 then 0 else state.now.doubt) }
+    ensures lines { (beat : Beat) → ticked.now.beat ≡ Some beat
+        → result.lines ≡ masks_of rules.now state.now }
     ensures told { IsSecondOf result ticked.now.beat }
     ensures against { (beat : Beat) → ticked.now.beat ≡ Some beat → result.report.against_hold
         ≡ against_at held beat (redundancy_in timekeeper.now.setup) }
@@ -93,7 +109,7 @@ pub fn second_of(
         &frames_of(&timekeeper.lines),
     );
     let against = against_at(held, &beat, redundancy_of(&timekeeper.setup));
-    second_for_c(&beat, &voices, against, strays)
+    second_for_c(&beat, &voices, against, masks_of(rules, state), state)
 }
 
 // Behind seconds that were missed nothing is said of what was held before them.
@@ -107,8 +123,17 @@ fn against_at(held: Option<UtcSecond>, beat: &Beat, redundancy: Redundancy) -> u
     }
 }
 
-fn second_for_c(beat: &Beat, voices: &Voices, against: u8, strays: u32) -> IrigSecond
-    ensures strays { result.strays ≡ strays }
+fn second_for_c(
+    beat: &Beat,
+    voices: &Voices,
+    against: u8,
+    lines: IrigMasks,
+    state: &ClockState,
+) -> IrigSecond
+    ensures strays { result.strays ≡ state.now.strays }
+    ensures doubt { result.doubt ≡ state.now.doubt }
+    ensures lines { result.lines ≡ lines }
+    ensures is_told { result.is_told ≡ 1 }
     ensures told { IsToldOf result beat.now }
     ensures voices { voices_in result.report ≡ voices.now }
     ensures against { result.report.against_hold ≡ against }
@@ -119,7 +144,9 @@ fn second_for_c(beat: &Beat, voices: &Voices, against: u8, strays: u32) -> IrigS
         bound_us: beat.bound_us,
         missed: beat.missed,
         moved: beat.moved,
-        strays,
+        strays: state.strays,
+        doubt: state.doubt,
+        lines,
         report: report_for_c(&beat.report, voices, against),
     }
 }

@@ -6,7 +6,7 @@ ghost use Rattle.irig_port.specs.declared.limits.Limits.{Limits};
 ghost use Rattle.irig_time.specs.Seconds.{IsValid};
 ghost use Rattle.irig_vote.specs.Vote.{ports_in};
 ghost use Rattle.irig_reader.specs.Rule.{count_of};
-ghost use Rattle.irig_timekeeper.specs.Clock.{AnnouncedOfUtc};
+ghost use Rattle.irig_timekeeper.specs.Clock.{AnnouncedOfUtc, AreSmall};
 ghost use Rattle.irig_timekeeper.specs.Keeping.{Heard, new_state, nothing_heard};
 ghost use Rattle.irig_timekeeper.specs.Stamps.{stamp_of};
 ghost use Rattle.irig_timekeeper.specs.Steps.{AreKeptOfUtc, AreNewLines};
@@ -16,23 +16,24 @@ ghost use Rattle.c_numbers.specs.States.{state_in, IsState};
 ghost use Rattle.c_keeper.specs.Lines.{lines_in, AreKeptFrom, HaveHeard, KeepNoMore};
 ghost use Rattle.c_numbers.specs.declared.state.TheConstants.{IDLE};
 ghost use Rattle.c_keeper.specs.CheckWord.{IsSealed};
-ghost use Rattle.irig_timekeeper.specs.Exactness.{most_vote_us};
+ghost use Rattle.irig_timekeeper.specs.Delays.{delay_at};
+ghost use Rattle.irig_timekeeper.specs.Exactness.{most_drift_us, most_vote_us};
 ghost use Rattle.irig_timekeeper.specs.Intervals.{IsShort};
 ghost use Rattle.irig_timekeeper.specs.Refusals.{clock_fault};
-ghost use Rattle.c_keeper.specs.Timekeepers.{announced_in, clock_in, clock_state_in, edge_in, interval_in, AreWires, HasShortInterval, IsAccepted, IsAnnounced};
+ghost use Rattle.c_keeper.specs.Timekeepers.{announced_in, clock_in, clock_state_in, delays_in, edge_in, interval_in, waiting_in, AreDelays, AreWires, HasShortInterval, IsAccepted, IsAnnounced, IsDelay, IsSmall};
 
 use crate::announced::{
     IrigAnnounced, NOTHING_ANNOUNCED, announced_for_c, announced_of, is_announced,
 };
 use crate::check_word::{changing_sum, check_of};
-use crate::line::{IrigLines, keep_lines, keep_no_more, lines_of, lines_of_nothing};
+use crate::line::{IrigLines, bare_lines_of, keep_lines, keep_no_more, lines_of, lines_of_nothing};
 use c_numbers::{
     IDLE, IrigSetup, IrigState, IrigTable, is_setup, limits_of, reader_rules_of, redundancy_of,
     rules_of, state_for_c, state_of,
 };
 use irig_reader::State;
 use irig_timekeeper::{
-    ClockRules, ClockState, Interval, Stamp, clock_fault, nearest_within, stamp_of,
+    ClockRules, ClockState, Delays, Interval, Lines, Stamp, clock_fault, nearest_within, stamp_of,
 };
 
 /// How exact a timekeeper's lines and its counter are.
@@ -43,6 +44,19 @@ pub struct IrigWires {
     pub within_us: u16,
     /// How many microseconds a second the device's counter may be wrong: 0 to 100.
     pub drift_us: u16,
+    /// How late each line is, in microseconds, -4,000 to 4,000: what is taken off.
+    pub delays: IrigDelays,
+}
+
+/// How late five lines are, one behind another.
+#[repr(C)]
+#[derive(Clone, Copy, Drop)]
+pub struct IrigDelays {
+    pub a: i16,
+    pub b: i16,
+    pub c: i16,
+    pub d: i16,
+    pub e: i16,
 }
 
 /// A timekeeper, all of it plain numbers. It may be copied, kept and taken up again.
@@ -71,12 +85,19 @@ pub struct IrigTimekeeper {
     pub last: IrigAnnounced,
     /// The one counted before it, if it was announced.
     pub before: IrigAnnounced,
+    /// The second that ended at the last edge, if it was voted or announced without a vote.
+    pub ended: IrigAnnounced,
+    /// The one that ended at the edge before, if that was told.
+    pub ended_before: IrigAnnounced,
     /// Where the interval begins in which the true edge lies by all votes.
     pub begin_us: u32,
     /// How long that is, at most 980,000 us.
     pub long_us: u32,
     /// How many votes contradicted those before them.
     pub strays: u32,
+    /// How many seconds have to be voted yet, behind the last of these, before one is announced
+    /// again without a vote.
+    pub doubt: u32,
     /// 0 if there is no such interval; any other, if there is.
     pub has_interval: u8,
     /// What all other numbers add up to, each times a weight of its own: it tells if one of them is
@@ -93,14 +114,77 @@ pub fn clock_rules_of(timekeeper: &IrigTimekeeper) -> ClockRules
         redundancy: redundancy_of(&timekeeper.setup),
         within: nearest_within(u32::from(timekeeper.wires.within_us)),
         drift_us: u32::from(timekeeper.wires.drift_us),
+        delays: delays_of(&timekeeper.wires.delays),
     }
 }
 
-/// Whether lines may be so exact, and a counter so wrong.
+/// The same; of wires that no tick accepts, by a drift that is none too large.
+pub(crate) fn steady_rules_of(timekeeper: &IrigTimekeeper) -> ClockRules
+    ensures steady { result.drift_us ≤ most_drift_us }
+    ensures is { AreWires timekeeper.now.wires → result ≡ clock_in timekeeper.now }
+{
+    let mut rules = clock_rules_of(timekeeper);
+    if rules.drift_us > 100 {
+        rules.drift_us = 100;
+    }
+    rules
+}
+
+fn delays_of(delays: &IrigDelays) -> Delays
+    ensures { result ≡ delays_in delays.now }
+{
+    Delays {
+        a: delays.a,
+        b: delays.b,
+        c: delays.c,
+        d: delays.d,
+        e: delays.e,
+    }
+}
+
+/// How late the line of a port is.
+pub fn delay_of(delays: &IrigDelays, port: u8) -> i16
+    ensures { result ≡ delay_at (delays_in delays.now) port }
+{
+    match port {
+        0 => delays.a,
+        1 => delays.b,
+        2 => delays.c,
+        3 => delays.d,
+        _ => delays.e,
+    }
+}
+
+fn is_delay(delay_us: i16) -> bool
+    ensures { IsTrue result ↔ IsDelay delay_us }
+{
+    delay_us.unsigned_abs() <= 4_000
+}
+
+fn are_delays(delays: &IrigDelays) -> bool
+    ensures { IsTrue result ↔ AreDelays delays.now }
+{
+    is_delay(delays.a)
+        && is_delay(delays.b)
+        && is_delay(delays.c)
+        && is_delay(delays.d)
+        && is_delay(delays.e)
+}
+
+fn is_small(announced: &IrigAnnounced) -> bool
+    ensures { IsTrue result ↔ IsSmall announced.now }
+{
+    announced.is_told == 0 || announced.bound_us <= 490_899
+}
+
+/// Whether lines may be so exact and so late, and a counter so wrong.
 pub fn are_wires(wires: &IrigWires) -> bool
     ensures { IsTrue result ↔ AreWires wires.now }
 {
-    1 <= wires.within_us && wires.within_us <= 450 && wires.drift_us <= 100
+    1 <= wires.within_us
+        && wires.within_us <= 450
+        && wires.drift_us <= 100
+        && are_delays(&wires.delays)
 }
 
 // Whether setup, wires and the seconds that it announced have a meaning, lines that it has not keep
@@ -113,8 +197,9 @@ fn is_sound(fixed: u64, timekeeper: &IrigTimekeeper) -> bool
         ≡ None)
         × ((timekeeper.now.bound_us ≤ most_vote_us) × (HasShortInterval timekeeper.now
         × (IsAnnounced timekeeper.now.last × (IsAnnounced timekeeper.now.before
+        × (IsSmall timekeeper.now.ended × (IsSmall timekeeper.now.ended_before
         × (KeepNoMore (ports_in (redundancy_in timekeeper.now.setup)) timekeeper.now.lines
-        × IsSealed timekeeper.now)))))))) }
+        × IsSealed timekeeper.now)))))))))) }
 {
     is_setup(&timekeeper.setup)
         && are_wires(&timekeeper.wires)
@@ -127,6 +212,8 @@ fn is_sound(fixed: u64, timekeeper: &IrigTimekeeper) -> bool
         && is_short(timekeeper)
         && is_announced(&timekeeper.last)
         && is_announced(&timekeeper.before)
+        && is_small(&timekeeper.ended)
+        && is_small(&timekeeper.ended_before)
         && keep_no_more(redundancy_of(&timekeeper.setup).ports(), &timekeeper.lines)
         && timekeeper.check == check_of(fixed, timekeeper)
 }
@@ -148,23 +235,48 @@ pub fn clock_state_of(timekeeper: &IrigTimekeeper) -> ClockState
     ensures counting { count_of result.reader < timekeeper.now.setup.lock_after }
     ensures small { result.bound_us ≤ most_vote_us }
     ensures known { IsShort result.interval }
+    ensures ended { AreSmall result }
     ensures valid { AreKeptOfUtc result.lines }
     ensures announced { AnnouncedOfUtc result }
 {
+    let limits = limits_of(&timekeeper.setup);
+    let lines = lines_of(limits, &rules_of(&timekeeper.setup), &timekeeper.lines);
+    state_with(timekeeper, lines)
+}
+
+/// The same, but for what lines say of themselves, which is not read: how long to wait does not ask for
+/// it.
+pub fn waiting_state_of(timekeeper: &IrigTimekeeper) -> ClockState
+    requires { IsAccepted timekeeper.now }
+    ensures { result ≡ waiting_in timekeeper.now }
+{
+    let limits = limits_of(&timekeeper.setup);
+    let lines = bare_lines_of(limits, &rules_of(&timekeeper.setup), &timekeeper.lines);
+    state_with(timekeeper, lines)
+}
+
+fn state_with(timekeeper: &IrigTimekeeper, lines: Lines) -> ClockState
+    requires { IsAccepted timekeeper.now }
+    ensures is { result ≡ record (clock_state_in timekeeper.now) { lines = lines } }
+    ensures counting { count_of result.reader < timekeeper.now.setup.lock_after }
+    ensures small { result.bound_us ≤ most_vote_us }
+    ensures known { IsShort result.interval }
+    ensures ended { AreSmall result }
+    ensures announced { AnnouncedOfUtc result }
+{
     ClockState {
-        lines: lines_of(
-            limits_of(&timekeeper.setup),
-            &rules_of(&timekeeper.setup),
-            &timekeeper.lines,
-        ),
+        lines,
         reader: reader_of(timekeeper),
         edge_us: edge_of(timekeeper),
         bound_us: u32::from(timekeeper.bound_us),
         interval: interval_of(timekeeper),
         strays: timekeeper.strays,
+        doubt: timekeeper.doubt,
         moved: timekeeper.moved,
         last: announced_of(&timekeeper.last),
         before: announced_of(&timekeeper.before),
+        ended: announced_of(&timekeeper.ended),
+        ended_before: announced_of(&timekeeper.ended_before),
     }
 }
 
@@ -288,9 +400,12 @@ pub fn keep(timekeeper: &mut IrigTimekeeper, state: &ClockState)
     timekeeper.bound_us = state.bound_us as u16;
     set_interval(timekeeper, state.interval);
     timekeeper.strays = state.strays;
+    timekeeper.doubt = state.doubt;
     timekeeper.moved = state.moved;
     timekeeper.last = announced_for_c(&state.last);
     timekeeper.before = announced_for_c(&state.before);
+    timekeeper.ended = announced_for_c(&state.ended);
+    timekeeper.ended_before = announced_for_c(&state.ended_before);
 }
 
 /// Forgets all that happened to it. The check word stays.
@@ -304,6 +419,8 @@ pub fn forget(timekeeper: &mut IrigTimekeeper)
     ensures is_state { timekeeper.new.state ≡ IDLE }
     ensures last { timekeeper.new.last.is_told ≡ 0 }
     ensures before { timekeeper.new.before.is_told ≡ 0 }
+    ensures ended { timekeeper.new.ended.is_told ≡ 0 }
+    ensures ended_before { timekeeper.new.ended_before.is_told ≡ 0 }
     ensures bound { timekeeper.new.bound_us ≡ 0 }
     ensures interval { timekeeper.new.has_interval ≡ 0 }
     ensures absent { (ports : ℕ) → KeepNoMore ports timekeeper.new.lines }
@@ -318,9 +435,12 @@ pub fn forget(timekeeper: &mut IrigTimekeeper)
     timekeeper.bound_us = 0;
     set_interval(timekeeper, None);
     timekeeper.strays = 0;
+    timekeeper.doubt = 0;
     timekeeper.moved = 0;
     timekeeper.last = NOTHING_ANNOUNCED;
     timekeeper.before = NOTHING_ANNOUNCED;
+    timekeeper.ended = NOTHING_ANNOUNCED;
+    timekeeper.ended_before = NOTHING_ANNOUNCED;
 }
 
 /// Forgets all that happened to it. A check word that is wrong stays so.
@@ -334,6 +454,8 @@ pub fn restart(timekeeper: &mut IrigTimekeeper)
     ensures is_state { timekeeper.new.state ≡ IDLE }
     ensures last { timekeeper.new.last.is_told ≡ 0 }
     ensures before { timekeeper.new.before.is_told ≡ 0 }
+    ensures ended { timekeeper.new.ended.is_told ≡ 0 }
+    ensures ended_before { timekeeper.new.ended_before.is_told ≡ 0 }
     ensures bound { timekeeper.new.bound_us ≡ 0 }
     ensures interval { timekeeper.new.has_interval ≡ 0 }
     ensures absent { (ports : ℕ) → KeepNoMore ports timekeeper.new.lines }

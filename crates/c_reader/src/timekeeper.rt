@@ -1,6 +1,6 @@
 //! A timekeeper that C holds.
 
-ghost use Rattle.std.specs.Prelude.{◌==◌, ◌≡◌, ◌↔◌, ◌%◌, ◌^◌, ◌<◌, ◌≤◌, ◌+◌, ◌*◌, ◌⊎◌, if◌then◌else◌, ℕ, List, [], ◌∷◌, ◌++◌, IfSome, IsTrue, Option, None, Some, is_some};
+ghost use Rattle.std.specs.Prelude.{false, ◌-◌, ◌==◌, ◌≡◌, ◌↔◌, ◌%◌, ◌^◌, ◌<◌, ◌≤◌, ◌+◌, ◌*◌, ◌⊎◌, if◌then◌else◌, ℕ, List, [], ◌∷◌, ◌++◌, IfSome, IsTrue, Option, None, Some, is_some};
 ghost use Rattle.irig_sync.specs.Lines.{Pulse};
 ghost use Rattle.irig_sync.specs.Sync.{place_of};
 ghost use Rattle.irig_time.specs.declared.rules.Rules.{Rules};
@@ -12,14 +12,14 @@ ghost use Rattle.irig_time.specs.Timelines.{TimelineValue, IsSecond};
 ghost use Rattle.irig_time.specs.TimelineFaults.{IsTimeline};
 ghost use Rattle.irig_vote.specs.Vote.{ports_in};
 ghost use Rattle.irig_reader.specs.declared.report.Cause.TheVariants as Cause;
-ghost use Rattle.irig_timekeeper.specs.Exactness.{most_vote_us};
+ghost use Rattle.irig_timekeeper.specs.Exactness.{most_drift_us, most_vote_us, fault_early_us, fault_late_us, vote_us};
 ghost use Rattle.irig_timekeeper.specs.declared.clock.Beat.{Beat};
 ghost use Rattle.irig_timekeeper.specs.declared.stamp.Stamp.{Stamp};
 ghost use Rattle.irig_timekeeper.specs.declared.lines.Vote.{Vote};
 ghost use Rattle.irig_timekeeper.specs.Clock.{lasted};
 ghost use Rattle.irig_timekeeper.specs.Counting.{edges_own};
 ghost use Rattle.irig_timekeeper.specs.Edges.{IsQuartz};
-ghost use Rattle.irig_timekeeper.specs.Life.{AreInOrder};
+ghost use Rattle.irig_timekeeper.specs.Life.{AreInOrder, last_tick, pulses_on};
 ghost use Rattle.irig_timekeeper.specs.Life.Call.{Tick};
 ghost use Rattle.irig_timekeeper.specs.Lived.{MadeOf, LivesWell};
 ghost use Rattle.irig_timekeeper.specs.Lines.{IsTrueLately, IsTrueOrFaulty};
@@ -42,19 +42,22 @@ ghost use Rattle.c_keeper.specs.Lives.{Moment, AreTogether, HasLived, HasHealed,
 ghost use Rattle.c_keeper.specs.Lives.Moment.{Pulsed, Ticked, Waited};
 ghost use Rattle.c_keeper.specs.Rows.{AreGivenLast};
 ghost use Rattle.c_keeper.specs.Seconds.{against_at, stamp_in, IsSecondOf, IsToldOf};
-ghost use Rattle.c_keeper.specs.Timekeepers.{answer_in, clock_in, clock_state_in, edge_in, stamp_for, state_behind, vote_in, wait_in, AreWires, HasShortInterval, HeardTruly, IsAccepted, IsAnnounced, IsTimekeeperOf};
+ghost use Rattle.c_keeper.specs.Timekeepers.{answer_in, clock_in, clock_state_in, edge_in, delays_in, stamp_for, state_behind, vote_in, wait_in, AreWires, HasShortInterval, HeardTruly, IsAccepted, IsAnnounced, IsSmall, IsTimekeeperOf};
+ghost use Rattle.c_keeper.specs.States.{bit_at, is_untrue_number, masks_of};
+ghost use Rattle.c_keeper.specs.Said.{said_of};
+ghost use Rattle.irig_timekeeper.specs.Delays.{corrected, delay_at};
 
 use crate::line::NO_PORT;
 use c_keeper::{
-    IrigSecond, IrigStamp, IrigTimekeeper, IrigWires, are_wires, check_of, clock_rules_of,
-    clock_state_of, forget, hear, is_accepted, keep, line_at, restart, second_of, set_line,
-    stamp_at, stamp_for_c,
+    IrigLineSaid, IrigSecond, IrigStamp, IrigTimekeeper, IrigWires, are_wires, check_of,
+    clock_rules_of, clock_state_of, delay_of, forget, hear, is_accepted, keep, line_at, restart,
+    said_of, second_of, set_line, stamp_at, stamp_for_c, waiting_state_of,
 };
 use c_numbers::{
     IrigSetup, IrigTable, OUT_OF_RANGE, fixed_sum, has_kinds, held_by, is_port, is_setup,
     reader_rules_of, table_fault,
 };
-use irig_timekeeper::{clock_fault, is_pulse, tick, wait_of};
+use irig_timekeeper::{clock_fault, corrected, is_pulse, tick, wait_of};
 
 /// The holdover is longer than the device's counter can count.
 const DRIFT: u32 = 35;
@@ -89,6 +92,7 @@ pub extern "C" fn irig_c_timekeeper_init(
       redundancy = redundancy_in setup.now;
       within = within_of wires.now.within_us;
       drift_us = wires.now.drift_us;
+      delays = delays_in wires.now.delays;
     } }
     ensures exact { result ≡ 0
         → (clock_in timekeeper.new).within.us ≡ wires.now.within_us }
@@ -117,7 +121,9 @@ pub extern "C" fn irig_c_timekeeper_init(
 }
 
 /// A pulse on a line, once it has ended: its place in its frame, 1 to 100, or 0 out of step. One of
-/// half a second or more is none: 0, and nothing changes. 255 if there is no such line.
+/// half a second or more is none: 0, and nothing changes. 255 if there is no such line. What the laws
+/// say of the rise of a pulse is so of the time at which it rose by its clock: the line's delay is
+/// taken off.
 #[unsafe(no_mangle)]
 pub extern "C" fn irig_c_timekeeper_hear(
     timekeeper: &mut IrigTimekeeper,
@@ -130,14 +136,18 @@ pub extern "C" fn irig_c_timekeeper_hear(
     ensures stuck { 500000 ≤ width_us → timekeeper.new ≡ timekeeper.old }
     // whatever lies in its numbers: the place by the line's own
     ensures place { (result ≡ 255 → ⊥) → result ≡ (if is_pulse width_us
-        then place_of (numbers_at timekeeper.old.lines line).sync rise_us width_us else 0) }
+        then place_of (numbers_at timekeeper.old.lines line).sync
+        (corrected rise_us (delay_at (delays_in timekeeper.old.wires.delays) line)) width_us
+        else 0) }
     // of a timekeeper: the place is the one that the value gives, and it goes on as the value does
     ensures told { (result ≡ 255 → ⊥) → (k : Keeping) → IsTimekeeperOf timekeeper.old k
-        → result ≡ place_told k line rise_us width_us }
+        → result ≡ place_told k line (corrected rise_us (delay_at k.clock.delays line)) width_us }
     ensures fed { (result ≡ 255 → ⊥) → (k : Keeping) → IsTimekeeperOf timekeeper.old k
-        → IsTimekeeperOf timekeeper.new (after_pulse k line rise_us width_us) }
+        → IsTimekeeperOf timekeeper.new
+        (after_pulse k line (corrected rise_us (delay_at k.clock.delays line)) width_us) }
     ensures lived { (made : MadeOf) (past : List Moment) (rise : ℕ) → (result ≡ 255 → ⊥)
-        → HasLived timekeeper.old made past → rise_us ≡ rise % 2 ^ 32
+        → HasLived timekeeper.old made past
+        → corrected rise_us (delay_at made.clock.delays line) ≡ rise % 2 ^ 32
         → HasLived timekeeper.new made (Pulsed line rise width_us result ∷ past) }
     // the check word is right exactly if it was
     ensures sealed { IsSealed timekeeper.new ↔ IsSealed timekeeper.old }
@@ -146,6 +156,7 @@ pub extern "C" fn irig_c_timekeeper_hear(
         return NO_PORT;
     }
     if is_pulse(width_us) {
+        let rise_us = corrected(rise_us, delay_of(&timekeeper.wires.delays, line));
         hear_pulse(timekeeper, line, rise_us, width_us)
     } else {
         0
@@ -153,7 +164,7 @@ pub extern "C" fn irig_c_timekeeper_hear(
 }
 
 fn hear_pulse(timekeeper: &mut IrigTimekeeper, port: u8, rise_us: u32, width_us: u32) -> u8
-    requires { IsPort timekeeper.old.setup port }
+    requires port { IsPort timekeeper.old.setup port }
     ensures place { result
         ≡ place_of (numbers_at timekeeper.old.lines port).sync rise_us width_us }
     ensures few { result ≤ 100 }
@@ -162,7 +173,7 @@ fn hear_pulse(timekeeper: &mut IrigTimekeeper, port: u8, rise_us: u32, width_us:
     ensures sealed { IsSealed timekeeper.new ↔ IsSealed timekeeper.old }
 {
     let mut line = line_at(&timekeeper.lines, port);
-    let place = hear(&mut line, rise_us, width_us);
+    let place = hear(timekeeper, &mut line, rise_us, width_us);
     set_line(timekeeper, port, &line);
     place
 }
@@ -213,6 +224,18 @@ pub extern "C" fn irig_c_timekeeper_tick(
         → (report_in second.new.report).announce ≡ Some u
         → (beat : Beat) × IsToldOf second.new beat
         × IsToldTruly t edges second.new.bound_us second.new.bound_us now beat u }
+    // So it is by any counter, whatever the wires say of it: its edge lies no further off than a vote does
+    // by that counter.
+    ensures any_counter { (t : TimelineValue) (d : ℕ) (edges : ℕ → ℕ) (now : ℕ)
+        (pulses : ℕ → List Pulse) (u : UtcSecond) → result ≡ 0 → now_us ≡ now % 2 ^ 32
+        → IsQuartz d edges → IsTimeline t
+        → HeardTruly (IsTrueLately timekeeper.old.wires.within_us (rules_in timekeeper.old.setup)
+        t edges now) timekeeper.old now pulses
+        → second.new.is_told ≡ 1 → (report_in second.new.report).cause ≡ Cause.Voted
+        → (report_in second.new.report).announce ≡ Some u
+        → (beat : Beat) × IsToldOf second.new beat
+        × IsToldTruly t edges (vote_us timekeeper.old.wires.within_us d)
+        (vote_us timekeeper.old.wires.within_us d) now beat u }
     // Its life goes on.
     ensures lived { (made : MadeOf) (past : List Moment) (now : ℕ)
         → HasLived timekeeper.old made past → now_us ≡ now % 2 ^ 32
@@ -243,6 +266,25 @@ pub extern "C" fn irig_c_timekeeper_tick(
     // (irig_lives, the law `votes_do_not_stray`).
     ensures strayed { result ≡ 0 → second.new.strays
         ≡ (if second.new.is_told == 0 then 0 else (clock_state_in timekeeper.new).strays) }
+    // What each line is: by its last whole frame and the seconds that were told last.
+    ensures lines { (beat : Beat) → result ≡ 0 → answer_in timekeeper.old now_us ≡ Some beat
+        → second.new.lines ≡ masks_of (clock_in timekeeper.old) (clock_state_in timekeeper.new) }
+    // In a life in which all lines but f were true at each tick: a line that was true for the last 2.7 s
+    // is neither apart nor does it differ (the law `what_is_said_of_lines_is_so`).
+    ensures none_apart { (t : TimelineValue) (edges : ℕ → ℕ) (made : MadeOf)
+        (start now line : ℕ) (past : List Moment) → result ≡ 0 → HasLived timekeeper.old made past
+        → now_us ≡ now % 2 ^ 32
+        → LivesWell (IsTrueLately made.clock.within.us) t edges made start
+        (Tick now ∷ calls_of past) → line < 5
+        → IsTrueLately made.clock.within.us made.rules t edges (now - 1500000)
+        (pulses_on line (calls_of past))
+        → (bit_at second.new.lines.apart line ≡ 0) × (bit_at second.new.lines.differed line ≡ 0) }
+    // How many seconds have to be voted yet before one is announced again without a vote.
+    ensures doubt { result ≡ 0 → second.new.doubt
+        ≡ (if second.new.is_told == 0 then 0 else (clock_state_in timekeeper.new).doubt) }
+    // While it was above 0 nothing is announced without a vote, whatever lies in the numbers.
+    ensures doubted { result ≡ 0 → 0 < timekeeper.old.doubt
+        → vote_in timekeeper.old now_us ≡ None → (report_in second.new.report).announce ≡ None }
     ensures strays { (t : TimelineValue) (edges : ℕ → ℕ) (made : MadeOf) (start now : ℕ)
         (past : List Moment) → HasLived timekeeper.old made past → now_us ≡ now % 2 ^ 32
         → LivesWell (IsTrueLately made.clock.within.us) t edges made start
@@ -252,15 +294,16 @@ pub extern "C" fn irig_c_timekeeper_tick(
         (past : List Moment) → HasLived timekeeper.old made past → now_us ≡ now % 2 ^ 32
         → GoesOnTruly (IsTrueLately made.clock.within.us) t edges made start now [] past
         → ¬ ((report_in second.new.report).cause ≡ Cause.Jump) }
-    // All this holds too, but for 2.002 ms before the edge and 1 ms behind it, if a line counts as true that
-    // lost any pulses, or had one fault of any kind in each hundred of them, in the last 1.2 s (the law
-    // `lines_with_faults_tell_truly`).
+    // All this holds too, but for `fault_early_us` before the edge and `fault_late_us` behind it, if a line
+    // counts as true that lost any pulses, or had one fault of any kind in each hundred of them, in the
+    // last 1.2 s (the law `lines_with_faults_tell_truly`).
     ensures faulty { (t : TimelineValue) (edges : ℕ → ℕ) (made : MadeOf) (start now : ℕ)
         (past : List Moment) (u : UtcSecond) → HasLived timekeeper.old made past
         → now_us ≡ now % 2 ^ 32 → GoesOnTruly (IsTrueOrFaulty made.clock.within.us) t edges made start now [] past
         → (report_in second.new.report).announce ≡ Some u
-        → IsToldInHoldover t edges 2002 1000 made.clock.within.us made.clock.drift_us
-        made.clock.reader_rules.holdover now (beat_in second.new) u }
+        → IsToldInHoldover t edges (fault_early_us made.clock.within.us made.clock.drift_us)
+        (fault_late_us made.clock.within.us made.clock.drift_us) made.clock.within.us
+        made.clock.drift_us made.clock.reader_rules.holdover now (beat_in second.new) u }
     ensures faulty_order { (t : TimelineValue) (edges : ℕ → ℕ) (made : MadeOf)
         (start before now : ℕ) (earlier later : List Moment) (first : IrigSecond)
         (u v : UtcSecond)
@@ -273,25 +316,25 @@ pub extern "C" fn irig_c_timekeeper_tick(
         (past : List Moment) → HasLived timekeeper.old made past → now_us ≡ now % 2 ^ 32
         → GoesOnTruly (IsTrueOrFaulty made.clock.within.us) t edges made start now [] past
         → ¬ ((report_in second.new.report).cause ≡ Cause.Jump) }
-    // Ticked at least each 96 ms it has announced by a vote, once as many seconds as it locks after, and
+    // Ticked at least each 95 ms it has announced by a vote, once as many seconds as it locks after, and
     // two more, came whole on more than f lines (the law `a_polling_device_announces`).
     ensures announces { (t : TimelineValue) (edges : ℕ → ℕ) (made : MadeOf)
         (start m most now : ℕ) (moments before : List Moment) (u : UtcSecond)
         → HasLived timekeeper.old made (moments ++ before) → now_us ≡ now % 2 ^ 32
         → ComeInARow t edges made start m (Ticked now second.new ∷ moments) before
-        → most ≤ 96000 → TicksEach most start (Tick now ∷ calls_of moments) (calls_of before)
+        → most ≤ 95000 → TicksEach most start (Tick now ∷ calls_of moments) (calls_of before)
         → AreToldInTime start (Tick now ∷ calls_of moments) (calls_of before)
         → IsSecond t (m + 1 + made.clock.reader_rules.lock_after) u
         → HasAnnounced edges (m + 1 + made.clock.reader_rules.lock_after) u
         (Ticked now second.new ∷ (moments ++ before)) }
     // So it has if `irig_c_timekeeper_wait` was asked behind each tick, from its time, and behind each
-    // pulse of place 100, from its end, and each tick came 96 ms at most behind each time that was
+    // pulse of place 100, from its end, and each tick came 95 ms at most behind each time that was
     // named since the tick before (the law `a_waiting_device_announces`).
     ensures announces_by_wait { (t : TimelineValue) (edges : ℕ → ℕ) (made : MadeOf)
         (start m late now : ℕ) (moments before : List Moment) (u : UtcSecond)
         → HasLived timekeeper.old made (moments ++ before) → now_us ≡ now % 2 ^ 32
         → ComeInARow t edges made start m (Ticked now second.new ∷ moments) before
-        → late ≤ 96000 → AreAsked None moments → GoesByWait late (Ticked now second.new ∷ moments)
+        → late ≤ 95000 → AreAsked None moments → GoesByWait late (Ticked now second.new ∷ moments)
         → AreMadeInTurn start (Tick now ∷ calls_of moments) (calls_of before)
         → IsSecond t (m + 1 + made.clock.reader_rules.lock_after) u
         → HasAnnounced edges (m + 1 + made.clock.reader_rules.lock_after) u
@@ -339,13 +382,18 @@ fn tick_accepted(timekeeper: &mut IrigTimekeeper, now_us: u32) -> IrigSecond
     ensures wires { timekeeper.new.wires ≡ timekeeper.old.wires }
     ensures bound { timekeeper.new.bound_us ≤ most_vote_us }
     ensures known { HasShortInterval timekeeper.new }
+    ensures ended { IsSmall timekeeper.new.ended }
+    ensures ended_before { IsSmall timekeeper.new.ended_before }
     ensures strays { result.strays ≡ (if result.is_told == 0 then 0 else timekeeper.new.strays) }
+    ensures doubt { result.doubt ≡ (if result.is_told == 0 then 0 else timekeeper.new.doubt) }
+    ensures lines { (beat : Beat) → answer_in timekeeper.old now_us ≡ Some beat
+        → result.lines ≡ masks_of (clock_in timekeeper.old) (clock_state_in timekeeper.new) }
 {
     let rules = clock_rules_of(timekeeper);
     let mut state = clock_state_of(timekeeper);
     let held = held_by(&state.reader);
     let ticked = tick(&rules, &timekeeper.table, &mut state, now_us);
-    let second = second_of(timekeeper, &ticked, held, state.strays);
+    let second = second_of(timekeeper, &ticked, held, &rules, &state);
     keep(timekeeper, &state);
     second
 }
@@ -378,7 +426,7 @@ pub extern "C" fn irig_c_timekeeper_wait(timekeeper: &IrigTimekeeper, now_us: u3
         → AreInOrder start made.clock.redundancy (Tick now ∷ calls_of past)
         → AreInOrder start made.clock.redundancy (Tick tick ∷ calls_of past)
         → agreed_in timekeeper.now now_us ≡ Some vote → vote.edge_us ≡ edge % 2 ^ 32
-        → edge ≤ now + 11000 → now ≤ edge + 98000 → now + result ≤ tick → tick ≤ edge + 98000
+        → edge ≤ now + 15000 → now ≤ edge + 98000 → now + result ≤ tick → tick ≤ edge + 98000
         → vote_in timekeeper.now (tick % 2 ^ 32) ≡ Some vote.claim }
     // else the own counter then counts a second
     ensures counts { (made : MadeOf) (start now tick e : ℕ) (past : List Moment)
@@ -392,7 +440,7 @@ pub extern "C" fn irig_c_timekeeper_wait(timekeeper: &IrigTimekeeper, now_us: u3
     if !is_accepted(fixed, timekeeper) {
         return 0;
     }
-    let state = clock_state_of(timekeeper);
+    let state = waiting_state_of(timekeeper);
     wait_of(&clock_rules_of(timekeeper), &state, now_us)
 }
 
@@ -434,13 +482,13 @@ pub extern "C" fn irig_c_timekeeper_stamp(
         → time ≤ now → now ≤ time + 1800000000 → stamp_in result stamp.new ≡ Some found
         → IsStampedTruly t edges 0 time found }
     // Of either life: if a line counts as true that lost any pulses, or had one fault of any kind in
-    // each hundred of them, in the last 1.2 s, they name it but for the bound and 2.002 ms (the law
-    // `lines_with_faults_tell_truly`).
+    // each hundred of them, in the last 1.2 s, they name it but for the bound and `fault_early_us` (the
+    // law `lines_with_faults_tell_truly`).
     ensures faulty { (t : TimelineValue) (edges : ℕ → ℕ) (made : MadeOf) (start time now : ℕ)
         (past : List Moment) (found : Stamp) → HasLived timekeeper.now made past
         → time_us ≡ time % 2 ^ 32
         → StampsTruly (IsTrueOrFaulty made.clock.within.us) t edges made start time now past
-        → stamp_in result stamp.new ≡ Some found → IsStampedTruly t edges 2002 time found }
+        → stamp_in result stamp.new ≡ Some found → IsStampedTruly t edges (fault_early_us made.clock.within.us made.clock.drift_us) time found }
     // Of either life: another device's stamp of the same instant, of which its own clause `truth` or
     // `healed` holds, names one no further off than the sum of both bounds and the drift of two seconds
     // of each device (the law `stamps_are_true`, clause `together`).
@@ -493,6 +541,44 @@ pub extern "C" fn irig_c_timekeeper_stamp(
         }
         None => OUT_OF_RANGE,
     }
+}
+
+/// What a line is, as of the last tick, and what its last whole frame tells. 26 if there is no such
+/// line, or a tick would be refused.
+#[unsafe(no_mangle)]
+pub extern "C" fn irig_c_timekeeper_line(
+    timekeeper: &IrigTimekeeper,
+    line: u8,
+    said: &mut IrigLineSaid,
+) -> u32
+    ensures answer { (result ≡ 0) ↔ (IsPort timekeeper.now.setup line × IsAccepted timekeeper.now) }
+    ensures refused { (result ≡ 0 → ⊥) → said.new ≡ said.old }
+    ensures range { (result ≡ 0 → ⊥) → result ≡ 26 }
+    ensures said { result ≡ 0
+        → said.new ≡ said_of (clock_in timekeeper.now) (clock_state_in timekeeper.now) line }
+    ensures of { (k : Keeping) → result ≡ 0 → IsTimekeeperOf timekeeper.now k
+        → said.new ≡ said_of k.clock k.state line }
+    // In a life in which all lines but f were true at each tick: a line that was true since 2.7 s before
+    // the last tick is not said to be uneven, apart or to differ (irig_lives, the law
+    // `what_is_said_of_lines_is_so`).
+    ensures truth { (t : TimelineValue) (edges : ℕ → ℕ) (made : MadeOf) (start now : ℕ)
+        (past : List Moment) → result ≡ 0 → HasLived timekeeper.now made past
+        → LivesWell (IsTrueLately made.clock.within.us) t edges made start (calls_of past)
+        → AreInOrder start made.clock.redundancy (Tick now ∷ calls_of past)
+        → IsTrueLately made.clock.within.us made.rules t edges
+        (last_tick start (calls_of past) - 1500000) (pulses_on line (calls_of past))
+        → is_untrue_number said.new.state ≡ false }
+{
+    if !is_port(&timekeeper.setup, line) {
+        return OUT_OF_RANGE;
+    }
+    let fixed = fixed_sum(&timekeeper.setup, &timekeeper.table);
+    if !is_accepted(fixed, timekeeper) {
+        return OUT_OF_RANGE;
+    }
+    let state = clock_state_of(timekeeper);
+    *said = said_of(&clock_rules_of(timekeeper), &state, line);
+    0
 }
 
 /// Forgets all that happened to it. A timekeeper whose check word is wrong stays so.

@@ -6,4 +6,4 @@ use Rattle.c_keeper.proofs.check_word.line_change.Goals as goal
 pub returns : goal.returns
 returns c =
     rw (c.from.ensures, c.plain_sum.ensures, c.plain_sum-2.ensures, c.slope.ensures, c.slope-2.ensures)
-    (change_is (331 + 30 * c.args.port) (line_numbers c.args.before.now) (line_numbers c.args.after.now))
+    (change_is (363 + 32 * c.args.port) (line_numbers c.args.before.now) (line_numbers c.args.after.now))

@@ -10,8 +10,8 @@ pub returns-clause-sealed : goal.returns-clause-sealed
 returns-clause-sealed c =
     let t = c.args.timekeeper.now in
     let fits : t.check < 18446744073709551616 = search rules in
-    let adds = subst (λ (l : IrigLine). (weighted (331 + 30 * c.args.port) (line_numbers l) + c.line_change-change.result) % 18446744073709551616
-    ≡ weighted (331 + 30 * c.args.port) (line_numbers c.args.line.now) % 18446744073709551616) c.line_at.ensures c.line_change-change.ensures in
+    let adds = subst (λ (l : IrigLine). (weighted (363 + 32 * c.args.port) (line_numbers l) + c.line_change-change.result) % 18446744073709551616
+    ≡ weighted (363 + 32 * c.args.port) (line_numbers c.args.line.now) % 18446744073709551616) c.line_at.ensures c.line_change-change.ensures in
     subst (λ (ls : IrigLines). IsSealed (record t { lines = ls; check = (t.check + c.line_change-change.result) % 18446744073709551616 }) ↔ IsSealed t)
     (sym c.put_line.ensures)
     (renewed_line t c.args.port c.args.line.now c.line_change-change.result c.requires fits adds)

@@ -1,10 +1,12 @@
-use Rattle.std.proofs.Common.{◌∙◌, sym, ap, subst}
+use Rattle.std.proofs.Common.{◌≡◌, ◌∙◌, sym, ap, subst, arith}
 use Rattle.c_numbers.specs.declared.state.IrigState.{IrigState}
 use Rattle.c_numbers.specs.declared.setup.IrigSetup.{IrigSetup}
-use Rattle.c_numbers.specs.States.{IsState}
+use Rattle.c_numbers.specs.States.{state_in, IsState}
+use Rattle.c_numbers.specs.Setups.{limits_in, rules_in}
 use Rattle.c_keeper.specs.declared.line.IrigLines.{IrigLines}
 use Rattle.c_keeper.specs.declared.timekeeper.IrigTimekeeper.{IrigTimekeeper}
-use Rattle.c_keeper.specs.Lines.{KeepNoMore}
+use Rattle.c_keeper.specs.Lines.{lines_in, KeepNoMore}
+use Rattle.c_keeper.specs.Timekeepers.{edge_in}
 use Rattle.c_keeper.proofs.timekeeper.keep.Goals as goal
 
 pub returns-clause-is_state : goal.returns-clause-is_state
@@ -19,3 +21,32 @@ pub returns-clause-absent : goal.returns-clause-absent
 returns-clause-absent c ports h =
     subst (λ (ls : IrigLines). KeepNoMore ports ls) (sym (ap (λ (t : IrigTimekeeper). t.lines) c.set_interval.ensures.others ∙ ap (λ (t : IrigTimekeeper). t.lines) c.set_edge.ensures.others))
     (c.keep_lines.ensures.absent ports h)
+
+pub returns-clause-state : goal.returns-clause-state
+returns-clause-state c =
+    let others = c.set_edge.ensures.others in
+    let others_then = c.set_interval.ensures.others in
+    let q = c.set_interval.new.timekeeper in
+    let setup = c.args.timekeeper.now.setup in
+    let same_setup : q.setup ≡ setup = ap (λ (t : IrigTimekeeper). t.setup) others_then ∙ ap (λ (t : IrigTimekeeper). t.setup) others in
+    let same_lines : q.lines ≡ c.keep_lines.new.lines = ap (λ (t : IrigTimekeeper). t.lines) others_then ∙ ap (λ (t : IrigTimekeeper). t.lines) others in
+    let lines = ap (λ (s : IrigSetup). lines_in (limits_in s) (rules_in s) q.lines) same_setup
+    ∙ (ap (λ (ls : IrigLines). lines_in (limits_in setup) (rules_in setup) ls) same_lines ∙ c.keep_lines.ensures.lines (limits_in setup) (rules_in setup) c.requires.kept) in
+    let same_state : q.state ≡ c.state_for_c-timekeeper.result = ap (λ (t : IrigTimekeeper). t.state) others_then ∙ ap (λ (t : IrigTimekeeper). t.state) others in
+    let reader = ap state_in same_state ∙ c.state_for_c-timekeeper.ensures.is in
+    let edge = ap edge_in others_then ∙ c.set_edge.ensures.edge in
+    let bound : q.bound_us ≡ c.args.state.now.bound_us = omega (arith, ap (λ (t : IrigTimekeeper). t.bound_us) others_then, c.requires.small) in
+    λ i. record {
+      lines = lines i;
+      reader = reader i;
+      edge_us = edge i;
+      bound_us = bound i;
+      interval = c.set_interval.ensures.interval i;
+      strays = c.args.state.now.strays;
+      doubt = c.args.state.now.doubt;
+      moved = c.args.state.now.moved;
+      last = c.announced_for_c-timekeeper.ensures i;
+      before = c.announced_for_c-timekeeper-2.ensures i;
+      ended = c.announced_for_c-timekeeper-3.ensures i;
+      ended_before = c.announced_for_c-timekeeper-4.ensures i;
+    }

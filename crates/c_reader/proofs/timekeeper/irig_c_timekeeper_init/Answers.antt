@@ -1,4 +1,6 @@
-use Rattle.std.proofs.Common.{rules, ◌≡◌, ◌∙◌, ℕ, ◌+◌, None, sym, ap, subst, refl, arith, inl}
+use Rattle.std.proofs.Common.{rules, ◌≡◌, ◌∙◌, false, is_some, Option, Some, None, sym, ap, subst, refl, arith, inl}
+use Rattle.irig_reader.specs.declared.rules.ReaderRules.{ReaderRules}
+use Rattle.irig_timekeeper.specs.declared.setup.ClockFault.{ClockFault}
 use Rattle.irig_timekeeper.specs.Keeping.{new_state}
 use Rattle.irig_timekeeper.specs.Refusals.{clock_fault}
 use Rattle.c_numbers.specs.declared.setup.IrigSetup.{IrigSetup}
@@ -12,8 +14,12 @@ use Rattle.c_keeper.specs.Lives.{made_in}
 use Rattle.c_keeper.specs.declared.timekeeper.IrigWires.{IrigWires}
 use Rattle.c_keeper.specs.Timekeepers.{clock_in, AreWires}
 use Rattle.c_keeper.proofs.LivedLaws.{lived_new}
-use Rattle.c_keeper.proofs.ValueLaws.{none_announced}
+use Rattle.c_keeper.proofs.ValueLaws.{none_announced, none_small}
 use Rattle.c_reader.proofs.timekeeper.irig_c_timekeeper_init.Goals as goal
+
+none_of : (o : Option ClockFault) → is_some o ≡ false → o ≡ None
+none_of None e = refl
+none_of (Some x) e = absurd cc
 
 pub returns-clause-fresh : goal.returns-clause-fresh
 unfolding check_of
@@ -22,7 +28,7 @@ returns-clause-fresh c done =
     let new = c.forget.ensures in
     let is_setup : IsSetup c.args.setup.now = search rules in
     let wires : AreWires c.args.wires.now = search rules in
-    let steady : clock_fault (reader_rules_in c.args.setup.now) c.args.wires.now.drift_us ≡ None = search rules in
+    let steady : clock_fault (reader_rules_in c.args.setup.now) c.args.wires.now.drift_us ≡ None = sym (c.clock_fault.ensures ∙ (ap (λ (r : ReaderRules). clock_fault r c.from.result) c.reader_rules_of.ensures ∙ ap (clock_fault (reader_rules_in c.args.setup.now)) c.from.ensures)) ∙ none_of c.clock_fault.result (sym c.is_some.ensures ∙ c.if-is_some.false) in
     record {
       rules = ap (λ (s : IrigSetup). rules_in s) new.setup;
       limits = ap (λ (s : IrigSetup). limits_in s) new.setup;
@@ -40,6 +46,8 @@ returns-clause-fresh c done =
         is_state = inl (ap (λ (s : IrigState). s.kind) new.is_state);
         last = none_announced q.last new.last;
         before = none_announced q.before new.before;
+        ended = none_small q.ended new.ended;
+        ended_before = none_small q.ended_before new.ended_before;
         absent = new.absent _;
         sealed = c.check_of-timekeeper.ensures;
       };

@@ -1,26 +1,37 @@
 use Rattle.std.specs.Prelude.{◌==◌}
-use Rattle.std.proofs.Common.{cond, ◌≡◌, ◌∙◌, ◌∷◌, ◌++◌, ℕ, Bool, true, false, List, Option, sym, ap, subst, refl, arith, ◌+◌}
+use Rattle.std.proofs.Common.{cond, ◌≡◌, ◌∙◌, ◌∷◌, ◌++◌, ℕ, Bool, true, false, List, Option, Some, None, sym, ap, subst, refl, arith, ◌+◌}
 use Rattle.irig_sync.specs.Lines.{Pulse}
 use Rattle.irig_reader.specs.declared.report.Report.{Report}
+use Rattle.irig_timekeeper.specs.Exactness.{fault_early_us, fault_late_us, vote_us}
+use Rattle.irig_timekeeper.specs.Clock.{claim_voted, vote_of_lines}
+use Rattle.irig_timekeeper.specs.declared.lines.Vote.{Vote}
 use Rattle.irig_timekeeper.specs.declared.clock.Beat.{Beat}
 use Rattle.irig_timekeeper.specs.Keeping.{Keeping, nothing_heard}
 use Rattle.irig_timekeeper.specs.Lines.{IsTrueLately, IsTrueOrFaulty}
 use Rattle.irig_timekeeper.specs.declared.clock.ClockState.{ClockState}
+use Rattle.irig_timekeeper.specs.Life.{device_of, life_of}
 use Rattle.irig_timekeeper.specs.Life.Call.{Tick}
+use Rattle.irig_timekeeper.specs.declared.setup.ClockRules.{ClockRules}
 use Rattle.irig_timekeeper.specs.Lived.{made_with}
-use Rattle.irig_timekeeper.proofs.LineLaws.{true_lately}
+use Rattle.irig_timekeeper.proofs.DoubtLaws.{says_nothing}
+use Rattle.irig_timekeeper.proofs.LineLaws.{true_lately, true_by_any}
+use Rattle.irig_timekeeper.proofs.LivedLaws.{as_made}
+use Rattle.irig_timekeeper.proofs.StateLaws.{true_at_tick}
 use Rattle.irig_timekeeper.proofs.StrayLaws.{never_strays}
-use Rattle.irig_timekeeper.proofs.VotedLaws.{tick_voted}
+use Rattle.irig_timekeeper.proofs.VotedLaws.{nearer, tick_voted, tick_voted_by}
 use Rattle.c_numbers.specs.declared.setup.IrigSetup.{IrigSetup}
 use Rattle.c_numbers.specs.declared.table.IrigTable.{IrigTable}
 use Rattle.c_numbers.specs.LeapTables.{table_in}
 use Rattle.c_numbers.specs.Numbers.{sense_in}
+use Rattle.c_numbers.specs.Reports.{report_in}
 use Rattle.c_numbers.specs.Setups.{limits_in, redundancy_in, rules_in, IsSetup}
+use Rattle.c_keeper.specs.declared.second.IrigSecond.{IrigSecond}
 use Rattle.c_keeper.specs.CheckWord.{check_of}
 use Rattle.c_keeper.specs.Lines.{frames_in}
 use Rattle.c_keeper.specs.Lives.{calls_of}
 use Rattle.c_keeper.specs.Lives.Moment.{Ticked}
 use Rattle.c_keeper.specs.Seconds.{IsSecondOf}
+use Rattle.c_keeper.specs.States.{masks_of}
 use Rattle.c_keeper.specs.Timekeepers.{answer_in, clock_in, clock_state_in, AreWires}
 use Rattle.c_keeper.proofs.AbsentLaws.{all_heard, pulses_there}
 use Rattle.c_keeper.proofs.AnnouncedLaws.{has_announced, has_announced_by_wait}
@@ -28,6 +39,7 @@ use Rattle.c_keeper.proofs.LivedLaws.{lived_tick}
 use Rattle.c_keeper.proofs.LivesLaws.{faulty_lines, tells_truly, tells_in_order, tells_calmly, tells_apart, whole_lines}
 use Rattle.c_keeper.proofs.StampedLaws.{lasts_as}
 use Rattle.c_keeper.proofs.ValueLaws.{answers_as, beat_of, clock_as, stands_as, steady_as}
+use Rattle.c_reader.proofs.MaskLaws.{in_no_mask}
 use Rattle.c_reader.proofs.timekeeper.irig_c_timekeeper_tick.Goals as goal
 
 never : ◌≡◌ {A = Bool} false true → ⊥
@@ -74,10 +86,28 @@ returns-clause-after c k h =
         is_state = new.is_state;
         last = new.last;
         before = new.before;
+        ended = new.ended;
+        ended_before = new.ended_before;
         absent = new.absent;
         sealed = c.check_of-timekeeper.ensures;
       };
     }
+
+-- without a vote of lines there is none of a claim
+none_voted : (vote : Option Vote) → claim_voted vote ≡ None → vote ≡ None
+none_voted None alone = refl
+none_voted (Some vote) alone = absurd cc
+
+-- a second is given that announces what the clock does
+silent : (s : IrigSecond) (answer : Option Beat) → IsSecondOf s answer → ((b : Beat) → answer ≡ Some b → b.report.announce ≡ None) → (report_in s.report).announce ≡ None
+silent s None nothing none = ap (λ (x : IrigSecond). (report_in x.report).announce) nothing
+silent s (Some beat) told none = ap (λ (r : Report). r.announce) told.report ∙ none beat refl
+
+pub returns-clause-doubted : goal.returns-clause-doubted
+returns-clause-doubted c done some alone =
+    let numbers = c.args.timekeeper.now in
+    let k : Keeping = record { rules = rules_in numbers.setup; limits = limits_in numbers.setup; clock = clock_in numbers; table = table_in numbers.table; heard = nothing_heard; state = clock_state_in numbers } in
+    silent c.tick_accepted.result (answer_in numbers c.args.now_us) c.tick_accepted.ensures.said (λ b is. says_nothing k c.args.now_us b (omega (arith, some)) (none_voted (vote_of_lines (clock_in numbers) (clock_state_in numbers) c.args.now_us) alone) is)
 
 pub returns-clause-truth : goal.returns-clause-truth
 returns-clause-truth c t edges now pulses u done clock steady sound some told voted says =
@@ -107,6 +137,27 @@ returns-clause-truth c t edges now pulses u done clock steady sound some told vo
       },
     )
 
+pub returns-clause-any_counter : goal.returns-clause-any_counter
+returns-clause-any_counter c t d edges now pulses u done clock steady sound some told voted says =
+    let numbers = c.args.timekeeper.now in
+    let accepted = c.is_accepted.ensures.0 c.if-not-is_accepted.false in
+    let exact : numbers.wires.within_us ≡ (clock_in numbers).within.us = omega (arith, accepted.wires.0, accepted.wires.1.0) in
+    let IsTrue : List Pulse → Type 0 = IsTrueLately numbers.wires.within_us (rules_in numbers.setup) t edges now in
+    let heard = all_heard IsTrue numbers now pulses (λ ps is. record { line = is.line; next = is.next; is_line = is.is_line; are = tt }) accepted.absent some in
+    let k : Keeping = record { rules = rules_in numbers.setup; limits = limits_in numbers.setup; clock = clock_in numbers; table = table_in numbers.table; heard = nothing_heard; state = clock_state_in numbers } in
+    let found = beat_of c.tick_accepted.result (answer_in numbers c.args.now_us) c.tick_accepted.ensures.said told in
+    let beat = found.0 in
+    let far = vote_us numbers.wires.within_us d in
+    let is_told = tick_voted_by IsTrue t edges k d 0 0 (omega arith) now (pulses_there (redundancy_in numbers.setup) pulses) beat u steady
+    (λ end ps claim is frame soon. true_by_any k.clock.within k.rules t d k.clock.drift_us edges now end ps claim steady (subst (λ (w : ℕ). IsTrueLately w (rules_in numbers.setup) t edges now ps) exact is) frame soon) sound heard
+    (ap (λ (x : ℕ). answer_in numbers x) (sym clock) ∙ found.1.is)
+    (ap (λ (r : Report). r.cause) (sym found.1.told.report) ∙ voted)
+    (ap (λ (r : Report). r.announce) (sym found.1.told.report) ∙ says) in (
+      beat,
+      found.1.told,
+      nearer t edges (0 + is_told.far) (0 + is_told.far) far far now beat u (omega (arith, is_told.few, exact)) (omega (arith, is_told.few, exact)) is_told.told,
+    )
+
 pub returns-then-not-is_accepted-clause-lived : goal.returns-then-not-is_accepted-clause-lived
 returns-then-not-is_accepted-clause-lived c made past now h clock = absurd (never (sym c.if-not-is_accepted.true ∙ c.is_accepted.ensures.1 h.is.accepted))
 
@@ -128,15 +179,26 @@ returns-clause-lived c made past now h clock =
     lived_tick t _ made past c.args.now_us now c.tick_accepted.result (redundancy_in t.setup) (sense_in t.setup.sense) (frames_in t.lines)
     c.tick_accepted.ensures.said c.tick_accepted.ensures.voices (returns-clause-second c) (returns-clause-after c) h clock
 
+pub returns-clause-none_apart : goal.returns-clause-none_apart
+returns-clause-none_apart c t edges made start now line past done h clock well low truly =
+    let numbers = c.args.timekeeper.now in
+    let lived = returns-clause-lived c made past now h clock in
+    let after : ClockState = (life_of (made_with made lived.lines lived.fresh) (Tick now ∷ calls_of past)).state in
+    let rules_are = h.is.clock ∙ (as_made (device_of (made_with made h.lines h.fresh)) (calls_of past)).clock in
+    in_no_mask c.tick_accepted.result (answer_in numbers c.args.now_us) made.clock after line low c.tick_accepted.ensures.said
+    (λ beat is. c.tick_accepted.ensures.lines beat is ∙ (ap (λ (r : ClockRules). masks_of r (clock_state_in c.tick_accepted.new.timekeeper)) rules_are ∙ ap (λ (s : ClockState). masks_of made.clock s) lived.is.state))
+    (true_at_tick (IsTrueLately made.clock.within.us) t edges (made_with made lived.lines lived.fresh) start now (calls_of past) (record { is = well.is; order = well.order; truth = well.truth })
+    (λ now end pulses claim is frame soon. true_lately made.clock.within made.rules t made.clock.drift_us edges now end pulses claim well.is.steady is frame soon) line low truly)
+
 pub returns-clause-life : goal.returns-clause-life
-returns-clause-life c t edges made start now past u h clock = tells_truly (IsTrueLately made.clock.within.us) 0 0 _ t edges made (whole_lines made.clock.within) start now past c.tick_accepted.result u (returns-clause-lived c made past now h clock)
+returns-clause-life c t edges made start now past u h clock = tells_truly (IsTrueLately made.clock.within.us) 0 0 _ t edges made (whole_lines made.clock.within made.clock.drift_us) start now past c.tick_accepted.result u (returns-clause-lived c made past now h clock)
 
 pub returns-clause-order : goal.returns-clause-order
 returns-clause-order c t edges made start before now earlier later first u v h clock =
-    tells_in_order (IsTrueLately made.clock.within.us) 0 0 _ t edges made (whole_lines made.clock.within) start before now earlier later first c.tick_accepted.result u v (returns-clause-lived c made (later ++ (Ticked before first ∷ earlier)) now h clock)
+    tells_in_order (IsTrueLately made.clock.within.us) 0 0 _ t edges made (whole_lines made.clock.within made.clock.drift_us) start before now earlier later first c.tick_accepted.result u v (returns-clause-lived c made (later ++ (Ticked before first ∷ earlier)) now h clock)
 
 pub returns-clause-calm : goal.returns-clause-calm
-returns-clause-calm c t edges made start now past h clock = tells_calmly (IsTrueLately made.clock.within.us) 0 0 _ t edges made (whole_lines made.clock.within) start now past c.tick_accepted.result (returns-clause-lived c made past now h clock)
+returns-clause-calm c t edges made start now past h clock = tells_calmly (IsTrueLately made.clock.within.us) 0 0 _ t edges made (whole_lines made.clock.within made.clock.drift_us) start now past c.tick_accepted.result (returns-clause-lived c made past now h clock)
 
 pub returns-clause-apart : goal.returns-clause-apart
 returns-clause-apart c made start before now earlier later first h clock =
@@ -169,15 +231,15 @@ returns-then-not-is_accepted-clause-announces_by_wait c t edges made start m lat
 
 pub returns-clause-faulty : goal.returns-clause-faulty
 returns-clause-faulty c t edges made start now past u h clock =
-    tells_truly (IsTrueOrFaulty made.clock.within.us) 2002 1000 _ t edges made (faulty_lines made.clock.within) start now past c.tick_accepted.result u (returns-clause-lived c made past now h clock)
+    tells_truly (IsTrueOrFaulty made.clock.within.us) (fault_early_us made.clock.within.us made.clock.drift_us) (fault_late_us made.clock.within.us made.clock.drift_us) _ t edges made (faulty_lines made.clock.within made.clock.drift_us) start now past c.tick_accepted.result u (returns-clause-lived c made past now h clock)
 
 pub returns-clause-faulty_order : goal.returns-clause-faulty_order
 returns-clause-faulty_order c t edges made start before now earlier later first u v h clock =
-    tells_in_order (IsTrueOrFaulty made.clock.within.us) 2002 1000 _ t edges made (faulty_lines made.clock.within) start before now earlier later first c.tick_accepted.result u v (returns-clause-lived c made (later ++ (Ticked before first ∷ earlier)) now h clock)
+    tells_in_order (IsTrueOrFaulty made.clock.within.us) (fault_early_us made.clock.within.us made.clock.drift_us) (fault_late_us made.clock.within.us made.clock.drift_us) _ t edges made (faulty_lines made.clock.within made.clock.drift_us) start before now earlier later first c.tick_accepted.result u v (returns-clause-lived c made (later ++ (Ticked before first ∷ earlier)) now h clock)
 
 pub returns-clause-faulty_calm : goal.returns-clause-faulty_calm
 returns-clause-faulty_calm c t edges made start now past h clock =
-    tells_calmly (IsTrueOrFaulty made.clock.within.us) 2002 1000 _ t edges made (faulty_lines made.clock.within) start now past c.tick_accepted.result (returns-clause-lived c made past now h clock)
+    tells_calmly (IsTrueOrFaulty made.clock.within.us) (fault_early_us made.clock.within.us made.clock.drift_us) (fault_late_us made.clock.within.us made.clock.drift_us) _ t edges made (faulty_lines made.clock.within made.clock.drift_us) start now past c.tick_accepted.result (returns-clause-lived c made past now h clock)
 
 pub returns-clause-announces_by_wait : goal.returns-clause-announces_by_wait
 returns-clause-announces_by_wait c t edges made start m late now moments before u h clock =
@@ -191,8 +253,7 @@ returns-clause-strays c t edges made start now past h clock well =
     let lived = returns-clause-lived c made past now h clock in
     c.tick_accepted.ensures.strays ∙ of (c.tick_accepted.result.is_told == 0)
     (ap (λ (s : ClockState). s.strays) lived.is.state
-    ∙ never_strays (IsTrueLately made.clock.within.us) t edges (made_with made lived.lines lived.fresh) start (Tick now ∷ calls_of past) (record { is = well.is; order = well.order; truth = well.truth })
-    (λ now end pulses claim is frame soon. true_lately made.clock.within made.rules t made.clock.drift_us edges now end pulses claim well.is.steady is frame soon))
+    ∙ never_strays t edges (made_with made lived.lines lived.fresh) start (Tick now ∷ calls_of past) (record { is = well.is; order = well.order; truth = well.truth }))
   where
     of : {n : ℕ} (b : Bool) → n ≡ 0 → cond b 0 n ≡ 0
     of true same = refl

@@ -10,6 +10,7 @@ use Rattle.c_numbers.specs.Numbers.{sense_in}
 use Rattle.c_numbers.specs.Setups.{redundancy_in}
 use Rattle.c_numbers.specs.Voices.{voices_to}
 use Rattle.c_keeper.specs.Lines.{frames_in, AreKeptFrom, KeepNoMore}
+use Rattle.c_keeper.specs.States.{masks_of}
 use Rattle.c_keeper.specs.Timekeepers.{clock_in, clock_state_in}
 use Rattle.c_keeper.proofs.KeptLaws.{kept_by_tick}
 use Rattle.c_keeper.proofs.ValueLaws.{valid_told}
@@ -38,6 +39,16 @@ returns-clause-voices c beat is =
     ∙ ap (λ (s : ClockState). clock_vote (clock_in t) s c.args.now_us) c.clock_state_of-state.ensures.is) in
     c.second_of-second.ensures.voices beat (answer ∙ is)
     ∙ ap (λ (v : Option Claim). voices_to v beat.told (redundancy_in t.setup) (sense_in t.setup.sense) (frames_in t.lines)) vote
+
+pub returns-clause-lines : goal.returns-clause-lines
+returns-clause-lines c beat is =
+    let t = c.args.timekeeper.now in
+    let before = c.clock_state_of-state.result in
+    let answer = c.tick-ticked.ensures.answer
+    ∙ (ap (λ (r : ClockRules). clock_answer r (table_in t.table) before c.args.now_us) c.clock_rules_of-rules.ensures
+    ∙ ap (λ (s : ClockState). clock_answer (clock_in t) (table_in t.table) s c.args.now_us) c.clock_state_of-state.ensures.is) in
+    c.second_of-second.ensures.lines beat (answer ∙ is)
+    ∙ (ap (λ (r : ClockRules). masks_of r c.tick-ticked.new.state) c.clock_rules_of-rules.ensures ∙ ap (λ (s : ClockState). masks_of (clock_in t) s) (sym c.keep.ensures.state))
 
 pub returns-clause-absent : goal.returns-clause-absent
 returns-clause-absent c = subst (λ (s : IrigSetup). KeepNoMore (ports_in (redundancy_in s)) c.keep.new.timekeeper.lines) (sym c.keep.ensures.setup) (c.keep.ensures.absent _ c.requires.absent)
