@@ -4,7 +4,7 @@ from __future__ import annotations
 
 import ctypes
 import subprocess
-from ctypes import Structure, c_bool, c_char_p, c_int8, c_size_t
+from ctypes import Structure, c_bool, c_char_p, c_int8, c_int16, c_int32, c_size_t
 from ctypes import c_uint8, c_uint16, c_uint32, c_uint64
 from functools import lru_cache
 from pathlib import Path
@@ -87,13 +87,17 @@ class Told(Structure):
     _fields_ = [*_of(c_uint8, "kind quality"), ("fault", c_uint32), ("claim", Claim)]
 
 
+Delays = c_int16 * 5
+
+
 class Wires(Structure):
-    _fields_ = _of(c_uint16, "within_us drift_us")
+    _fields_ = [*_of(c_uint16, "within_us drift_us"), ("delay_us", Delays)]
 
 
 class Line(Structure):
     _fields_ = [
-        ("sync", Sync), *_of(Tally, "port frame"), ("end_us", c_uint32), ("has_frame", c_uint8),
+        ("sync", Sync), *_of(Tally, "port frame"), *_of(c_uint32, "begin_us end_us"),
+        *_of(c_uint8, "is_uneven has_frame is_seen is_heard"),
     ]
 
 
@@ -105,15 +109,24 @@ class Timekeeper(Structure):
     _fields_ = [
         ("setup", Setup), ("table", Table), ("state", State), ("lines", Line * 5), ("wires", Wires),
         *_of(c_uint32, "edge_us moved"), ("has_edge", c_uint8), ("bound_us", c_uint16),
-        *_of(Announced, "last before"), *_of(c_uint32, "begin_us long_us strays"),
-        ("has_interval", c_uint8), ("check", c_uint64),
+        *_of(Announced, "last before ended ended_before"),
+        *_of(c_uint32, "begin_us long_us strays doubt"), ("has_interval", c_uint8), ("check", c_uint64),
     ]
+
+
+class Masks(Structure):
+    _fields_ = _of(c_uint8, "agreed apart differed faulty poor broken silent unjudged")
 
 
 class Second(Structure):
     _fields_ = [
-        ("is_told", c_uint8), *_of(c_uint32, "edge_us bound_us missed moved strays"), ("report", Report),
+        ("is_told", c_uint8), *_of(c_uint32, "edge_us bound_us missed moved strays doubt"),
+        ("lines", Masks), ("report", Report),
     ]
+
+
+class LineSaid(Structure):
+    _fields_ = [("state", c_uint8), ("told", Told), ("end_us", c_uint32), ("off_us", c_int32)]
 
 
 class Stamp(Structure):
@@ -164,7 +177,7 @@ def _to(structure: Any) -> Any:
 
 # A call of the first library holds Python's lock: it is short, and no other thread comes between. A
 # run of the second may be long: other threads go on meanwhile.
-LAYOUT = 4  # as in c/irig.h: of the structures above, and the calls below
+LAYOUT = 5  # as in c/irig.h: of the structures above, and the calls below
 IRIG, SCENE = f"libirig.so.{LAYOUT}", f"libirig_scene.so.{LAYOUT}"
 KINDS = {IRIG: ctypes.PyDLL, SCENE: ctypes.CDLL}
 
@@ -199,6 +212,7 @@ CALLS: Dict[str, Tuple[Any, ...]] = {
     "timekeeper_tick": (IRIG, c_uint32, _to(Timekeeper), c_uint32, _to(Second)),
     "timekeeper_wait": (IRIG, c_uint32, _to(Timekeeper), c_uint32),
     "timekeeper_stamp": (IRIG, c_uint32, _to(Timekeeper), c_uint32, _to(Stamp)),
+    "timekeeper_line": (IRIG, c_uint32, _to(Timekeeper), c_uint8, _to(LineSaid)),
     "timekeeper_restart": (IRIG, None, _to(Timekeeper)),
     "quality_of": (IRIG, c_uint8, c_uint32),
     "run_entries": (

@@ -140,7 +140,7 @@ def _tick(held: c.Reader) -> c.Report:
     return report
 
 
-def _told_held(held: c.Told) -> Told:
+def told_held(held: c.Told) -> Told:
     if held.kind == 0:
         return Silence()
     if held.kind == 1:
@@ -332,7 +332,7 @@ class Reader(Ruled):
         """What a port would tell if the edge came now."""
         held = c.Told()
         check(c.reader_port(self._held.reader, self._port(port), held))
-        return _told_held(held)
+        return told_held(held)
 
     def _port(self, port: int) -> int:
         return within("port", port, 0, self.ports - 1)

@@ -2,14 +2,14 @@
 from __future__ import annotations
 
 from dataclasses import dataclass
-from typing import Iterable, Literal, Optional
+from typing import Iterable, Literal, Optional, Sequence, Tuple
 
 from . import _library as c
 from .faults import check, whole, within
 from .frames import MOST
-from .readers import Report, Ruled, changed, report_held, setup_of, table_of
+from .readers import Report, Ruled, Told, changed, report_held, setup_of, table_of, told_held
 from .seconds import Day, Leap, Second
-from .words import Parity, Sbs, Sense
+from .words import LINE_STATES, LineState, Parity, Sbs, Sense
 
 
 @dataclass(frozen=True)
@@ -22,6 +22,8 @@ class Beat:
     missed: the seconds that passed untold before it, as no tick came
     moved: how often lines set the edge right since the second that was told before
     strays: how many votes contradicted those before them since the timekeeper was made or restarted
+    doubt: how many seconds have to be voted yet before one is announced again without a vote
+    lines: what each line is. An "uneven" line is "faulty" here
     """
 
     report: Report
@@ -30,9 +32,32 @@ class Beat:
     missed: int
     moved: int
     strays: int
+    doubt: int
+    lines: Tuple[LineState, ...]
 
     def __str__(self) -> str:
         return str(self.report)
+
+
+@dataclass(frozen=True)
+class Line:
+    """What a line is, as of the last tick.
+
+    state: "silent", no pulse came within a second; "broken", pulses come, but no whole frame came within
+        1.5 s; by its last whole frame "faulty", "uneven", if its first and last pulse did not rise 990 ms
+        apart, or "poor"; "unjudged", it claims a second, and none is told yet to compare it with;
+        "agreed", it claims the second that ended at the told edge, and ends there; "apart", it ends
+        further from that edge than a true line's frame; "differed", it claims another second
+    told: what its last whole frame tells
+    end_us: where that frame ends, or 0
+    off_us: how far that lies behind the told edge at which its second ended; of a line that is
+        unjudged, behind the end of the first other line's frame of that second; 0 if there is none
+    """
+
+    state: LineState
+    told: Told
+    end_us: int
+    off_us: int
 
 
 @dataclass(frozen=True)
@@ -62,6 +87,14 @@ def _time(what: str, time_us: int) -> int:
     return whole(what, time_us) & MOST
 
 
+def _states_in(masks: c.Masks, count: int) -> Tuple[LineState, ...]:
+    """What lines are, of which each stands in one mask."""
+    names = [state for state in LINE_STATES if state != "uneven"]
+    return tuple(
+        next(name for name in names if getattr(masks, name) >> line & 1) for line in range(count)
+    )
+
+
 def _tick(held: c.Timekeeper, now_us: int) -> c.Second:
     """What a timekeeper says of a second, if one has begun."""
     second = c.Second()
@@ -89,19 +122,21 @@ class Timekeeper(Ruled):
     bounds and the drift of the seconds between. `strays` counts those that contradict the ones before
     them, and stays 0 if at each tick no two of its three lines were untrue and the counter is as
     steady as `drift_us` says. A device whose `strays` rise should be looked at: its lines, their
-    delays, or its counter are not what it was told, and what it holds may lie further off than
-    `bound_us`.
+    delays, or its counter are not what it was told. Then no second is announced without a vote, until
+    as many were voted as `holdover` says, 1,000 at most.
 
     within_us: how exact lines are that are true: each of their pulses rises less than so many
         microseconds from its place, by the counter, 1 to 450. Enough lines have to end within
         2 * (within_us - 1) for a vote
     drift_us: the most by which its counter is wrong, in microseconds a second, 0 to 100; then
         (holdover + 2) * drift_us may be 490,000 at most
+    delay_us: how many microseconds later than at its clock each line's pulses rise here, -4,000 to
+        4,000, below 0 if it is early: this is taken off
 
     What else it takes is what a `Reader` takes, and a port is a line.
     """
 
-    _what, _form, _kind = "timekeeper", "irig timekeeper 3", c.Timekeeper
+    _what, _form, _kind = "timekeeper", "irig timekeeper 5", c.Timekeeper
 
     def __init__(
         self,
@@ -110,6 +145,7 @@ class Timekeeper(Ruled):
         *,
         drift_us: int,
         within_us: int = 450,
+        delay_us: Sequence[int] = (),
         ports: Literal[1, 3, 5] = 3,
         parity: Parity = "even",
         sense: Sense = "add",
@@ -123,7 +159,9 @@ class Timekeeper(Ruled):
             lock_after, holdover, ports, parity, sense, sbs, not_before, poor_from
         )
         exact, drift = within("within_us", within_us, 1, 450), within("drift_us", drift_us, 0, 100)
-        self._held, wires = c.Timekeeper(), c.Wires(exact, drift)
+        delays = [within("delay_us", delay, -4000, 4000) for delay in delay_us]
+        within("how many of delay_us", len(delays), 0, ports)
+        self._held, wires = c.Timekeeper(), c.Wires(exact, drift, c.Delays(*delays))
         check(c.timekeeper_init(self._held, setup, table_of(until, leaps), wires))
 
     def hear(self, line: int, rise_us: int, width_us: int) -> int:
@@ -145,9 +183,19 @@ class Timekeeper(Ruled):
         if not held.is_told:
             return None
         report = report_held(held.report)
+        states = _states_in(held.lines, self.ports)
         return Beat(
-            report, held.edge_us, held.bound_us, held.missed, held.moved, held.strays
+            report, held.edge_us, held.bound_us, held.missed, held.moved, held.strays, held.doubt,
+            states,
         )
+
+    def line(self, line: int) -> Line:
+        """What a line is, as of the last tick, from the first pulse on and whether seconds are told or
+        not. What a tick would refuse is refused."""
+        held, number = c.LineSaid(), within("line", line, 0, self.ports - 1)
+        if c.timekeeper_line(self._held, number, held):
+            self._refuse(c.Timekeeper.from_buffer_copy(self._held))
+        return Line(LINE_STATES[held.state], told_held(held.told), held.end_us, held.off_us)
 
     def wait(self, now_us: int) -> int:
         """How long until a tick has something to do, in microseconds, if no call comes before it.
@@ -177,6 +225,11 @@ class Timekeeper(Ruled):
     def within_us(self) -> int:
         """How exact its lines are: pulses rise less than so many microseconds from their places."""
         return int(self._held.wires.within_us)
+
+    @property
+    def delay_us(self) -> Tuple[int, ...]:
+        """How late each line is."""
+        return tuple(self._held.wires.delay_us[: self.ports])
 
     @property
     def strays(self) -> int:

@@ -14,11 +14,15 @@ Lock = Literal["unlocked", "acquiring", "locked", "holdover"]
 Cause = Literal[
     "voted", "held", "acquiring", "no-vote", "expired", "leap-guard", "jump", "range-end"
 ]
+LineState = Literal[
+    "silent", "broken", "faulty", "uneven", "poor", "unjudged", "agreed", "apart", "differed"
+]
 PortKind = Literal["agreed", "silent", "faulty", "poor", "another second", "another mark"]
 
 MARKS: Tuple[Mark, ...] = get_args(Mark)
 LOCKS: Tuple[Lock, ...] = get_args(Lock)
 CAUSES: Tuple[Cause, ...] = get_args(Cause)
+LINE_STATES: Tuple[LineState, ...] = get_args(LineState)
 
 
 def listed(words: Sequence[str]) -> str:

@@ -14,7 +14,7 @@ from irig.words import CAUSES, LOCKS
 from program import ROOT
 
 STRUCTURES = {
-    f"irig_{name.lower()}": kind for name, kind in vars(_library).items()
+    "irig" + re.sub("([A-Z])", r"_\1", name).lower(): kind for name, kind in vars(_library).items()
     if isinstance(kind, type) and issubclass(kind, ctypes.Structure) and kind is not ctypes.Structure
 }
 UNUSED = {"irig_frame_options"}
@@ -41,7 +41,7 @@ class Layout(unittest.TestCase):
         self.assertEqual(here, {name: wanted[name] for name in wanted.keys() - UNUSED})
 
     def test_a_library_of_another_layout(self) -> None:
-        wrong = "libirig.so.4 has no irig_width_us_layout_1: take it and this package of one version"
+        wrong = "libirig.so.5 has no irig_width_us_layout_1: take it and this package of one version"
         with mock.patch.object(_library, "LAYOUT", 1), self.assertRaisesRegex(ImportError, wrong):
             _library.__getattr__("width_us")
 

@@ -58,7 +58,7 @@ class Package(unittest.TestCase):
             names = set(opened.namelist())
             about = f"irig-{version}.dist-info"
             sources = {path.name for path in (ROOT / "python/irig").glob("*.py")}
-            others = {"libirig.so.4", "libirig_scene.so.4", "py.typed"}
+            others = {"libirig.so.5", "libirig_scene.so.5", "py.typed"}
             self.assertLessEqual({f"irig/{name}" for name in sources | others}, names)
             self.assertIn(f"Version: {version}\n", opened.read(f"{about}/METADATA").decode())
             licences = {path.name for path in ROOT.glob("LICENSE-*")}

@@ -189,7 +189,7 @@ class Alone(unittest.TestCase):
         self.assertEqual(ran.stderr, "")
         self.assertEqual(ran.stdout.splitlines(), [
             "8 1 relay - unlocked no-vote",
-            "there is no libirig.so.4: in a folder of irig's sources that one may write, `make -C c` makes it",
+            "there is no libirig.so.5: in a folder of irig's sources that one may write, `make -C c` makes it",
         ])
 
 

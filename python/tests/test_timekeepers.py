@@ -179,6 +179,63 @@ class Ticks(unittest.TestCase):
             keeper.restart()
             self.assertEqual(keeper.strays, 0)
 
+    def test_what_strayed_is_not_held(self) -> None:
+        """Behind a stray as many seconds have to be voted as the holdover says, and none is held."""
+        keeper = Timekeeper(1, 2, drift_us=50)
+        hear_frame(keeper, FRAME, -1_000_000, 0, 1, 2)
+        told(keeper, 0)
+        wanted = []
+        for second in range(4):
+            hear_frame(keeper, irig.frame(f"2017-01-01T00:00:0{second}Z"), second * 1_000_000 + 2_000, 0, 1, 2)
+            beat = told(keeper, (second + 1) * 1_000_000 + 2_000)
+            wanted.append((beat.strays, beat.doubt, str(beat.report.second)))
+        self.assertEqual(wanted, [(1, max(0, 2 - second), f"2017-01-01T00:00:0{second + 1}Z") for second in range(4)])
+        self.assertEqual(str(told(keeper, 5_007_000)), "2017-01-01T00:00:05Z holdover:1 held")
+
+    def test_doubt(self) -> None:
+        keeper = self.voted()
+        hear_frame(keeper, irig.frame("2017-01-01T00:00:00Z"), 951, 0, 1, 2)
+        self.assertEqual(told(keeper, 1_000_951).doubt, 20)
+        beat = told(keeper, 2_006_000)
+        self.assertEqual((beat.report.second, beat.report.cause, beat.doubt), (None, "held", 20))
+        self.assertIsNone(keeper.stamp(2_100_000))
+
+    def test_delays(self) -> None:
+        """A line that is late by a constant time is as exact as others."""
+        late_us = (4_000, -4_000, 37)
+        keeper = Timekeeper(1, drift_us=0, within_us=1, delay_us=late_us)
+        for line, delay_us in enumerate(late_us):
+            hear_frame(keeper, FRAME, delay_us, line)
+        beat = told(keeper, 1_000_000)
+        self.assertEqual((beat.edge_us, beat.bound_us, keeper.delay_us), (1_000_000, 0, late_us))
+        self.assertEqual(beat.lines, ("agreed",) * 3)
+        for wrong in ((4_001,), (0, -4_001), (0, 0, 0, 0)):
+            self.assertRaisesRegex(irig.Fault, "delay_us", Timekeeper, drift_us=0, delay_us=wrong)
+
+    def test_lines(self) -> None:
+        """What lines are before a second is told, and when one is."""
+        keeper = Timekeeper(1, drift_us=0, ports=5, within_us=10)
+        self.assertEqual([keeper.line(line).state for line in range(5)], ["silent"] * 5)
+        hear_frame(keeper, FRAME, 0, 0, 1)
+        hear_frame(keeper, FRAME, 18, 2)
+        hear_frame(keeper, FRAME, 60, 3)
+        keeper.hear(4, 900_000, 8_000)
+        states = [(line.state, line.off_us) for line in map(keeper.line, range(5))]
+        self.assertEqual(states, [("unjudged", 0), ("unjudged", 0), ("unjudged", 18), ("unjudged", 60), ("broken", 0)])
+        beat = told(keeper, 1_000_060)
+        self.assertEqual(beat.lines, ("agreed", "agreed", "agreed", "apart", "broken"))
+        self.assertEqual((beat.edge_us, beat.bound_us, keeper.line(3).off_us), (1_000_009, 18, 51))
+        self.assertRaisesRegex(irig.Fault, "line is 5; 0 to 4", keeper.line, 5)
+
+    def test_uneven_frames(self) -> None:
+        """A frame whose last pulse comes early has no vote."""
+        keeper = Timekeeper(1, drift_us=0, ports=1, within_us=10)
+        widths = irig.widths(FRAME)
+        for element, width in enumerate(widths[:-1]):
+            keeper.hear(0, 10_000 * element, width)
+        self.assertEqual(keeper.hear(0, 989_981, widths[-1]), 100)
+        self.assertEqual((keeper.line(0).state, keeper.tick(1_000_000)), ("uneven", None))
+
     def test_qualities(self) -> None:
         for bound_us, quality in (
             (0, 4), (1, 4), (2, 5), (10, 5), (11, 6), (449, 7), (899, 7), (1_000, 7), (1_001, 8),

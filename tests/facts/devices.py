@@ -13,11 +13,12 @@ from model.times import Mark, Second, Table, Timeline
 from random_scenarios import random_fault
 
 from . import values as v
-from .antt import Antt, Fact, antt, equal, question, record, some
+from .antt import Antt, Fact, antt, equal, integer, question, record, some
 from .times import LATE
 
 WIDTHS = {"0": 2_000, "1": 5_000, "P": 8_000}
 STUCK, HALF_HOUR = 500_000, 1_800 * SECOND
+EARLY = 4_000  # so long before it rose by its clock a pulse may be told, of a line that is early
 
 
 # ---- what lines send
@@ -158,7 +159,8 @@ def random_life(random: Random) -> tuple[World, Device, list[Call]]:
     table = random.choice((None, Table(world.timeline.start.day, world.timeline.leaps)))
     rules = ReaderRules(random.choice((1, 1, 2)), random.choice((0, 1, 100)))
     drift = random.choice((100, abs(world.second - SECOND)))
-    device = Device(world.rules, rules, table, redundancy, world.within, drift)
+    delays = tuple(random.choice((0, 0, 4_000, -4_000, random.randint(-4_000, 4_000))) for _ in range(5))
+    device = Device(world.rules, rules, table, redundancy, world.within, drift, delays)
     ticks = random_ticks(random, world, seconds + random.choice((0, 2, 4)))
     calls = in_turn([pulse for line in lines for pulse in line], ticks)
     return world, device, pause(random, world, calls, random.choice((0, 0, 0, 0, 0, SECOND, WRAP)))
@@ -180,24 +182,31 @@ def stamp(value: Stamp | None) -> Antt:
 
 
 def made(device: Device) -> Antt:
-    exact = {"within": Antt(f"within_of {device.within}"), "drift_us": device.drift}
+    delays = record(**dict(zip("abcde", map(integer, device.delays))))
+    exact = {"within": Antt(f"within_of {device.within}"), "drift_us": device.drift, "delays": delays}
     clock = record(reader_rules=device.reader_rules, redundancy=v.ports(device.redundancy), **exact)
     lines = {"lines": Antt("new_lines"), "fresh": Antt("are_new")}
     return record(limits=Antt("None"), rules=device.rules, clock=clock, table=device.table or Table(0, ()), **lines)
 
 
 # A life in parts, each of calls, the newest first, with a tick behind them and an event: what the tick answers, how
-# long a device would have waited then, and behind the tick the stamp of the event, and how many votes strayed. Each
-# step is a function of its own, so that the checker computes once what becomes of the device.
+# long a device would have waited then, and behind the tick the stamp of the event, how many votes strayed, how many
+# seconds are in doubt, and what the lines are. Each step is a function of its own, so that the checker computes once
+# what becomes of the device.
 WALK = """use Rattle.irig_lives.proofs.LifeFacts.{new_lines, are_new}
 use Rattle.irig_timekeeper.specs.Refusals.{within_of}
 use Rattle.irig_timekeeper.specs.Life.{after_calls}
 use Rattle.irig_timekeeper.specs.Life.Call.{Hear, Tick}
 use Rattle.irig_timekeeper.specs.Keeping.{after_tick}
+use Rattle.irig_timekeeper.specs.States.{state_of}
+use Rattle.irig_vote.specs.Vote.{ports_in}
 """, """abbrev Said : Type 0
-Said = Option Beat × ℕ × Option Stamp × ℕ
+Said = Option Beat × ℕ × Option Stamp × ℕ × ℕ × List LineState
+""", """abbrev lines_of : Keeping → List LineState
+lines_of k = map (state_of k.clock k.state) (range_with_len 0 (ports_in k.clock.redundancy))
 """, """abbrev behind : Option Beat → ℕ → Keeping → ℕ → (Keeping → List Said) → List Said
-behind beat wait k event rest = (beat, wait, stamp_at k event, k.state.strays) ∷ rest k
+behind beat wait k event rest =
+    (beat, wait, stamp_at k event, k.state.strays, k.state.doubt, lines_of k) ∷ rest k
 """, """abbrev ticked : Keeping → ℕ → ℕ → (Keeping → List Said) → List Said
 ticked k now event rest = behind (answer_at k now) (wait_at k now) (after_tick k now) event rest
 """, """abbrev asked : List (List Call × ℕ × ℕ) → Keeping → List Said
@@ -208,7 +217,8 @@ asked ((calls, now, event) ∷ parts) k = ticked (after_calls k calls) now event
 
 def parts_of(random: Random, device: Device, calls: list[Call]) -> Iterator[tuple[tuple, tuple]]:
     """The pulses between ticks, each tick, and an event behind it or before; and what the model answers: at the tick,
-    for how long to wait before it, of the event, and how many votes strayed."""
+    for how long to wait before it, of the event, how many votes strayed, how many seconds are in doubt, and what the
+    lines are."""
     heard = []
     for one in calls:
         if isinstance(one, int):
@@ -216,11 +226,12 @@ def parts_of(random: Random, device: Device, calls: list[Call]) -> Iterator[tupl
             ends = (last.edge + SECOND + last.bound, last.edge + SECOND + last.bound + 1, last.edge - 1) if last else ()
             event = random.choice((one, one - SECOND, one + random.randint(-1_200_000, 1_200_000), *ends)) % WRAP
             asked = [call(pulse) for pulse in reversed(heard)], one % WRAP, event
-            yield asked, (beat(said), wait, stamp(device.stamp(event)), device.strays)
+            states = [Antt(f"LineState.{device.state(line)}") for line in range(device.redundancy)]
+            yield asked, (beat(said), wait, stamp(device.stamp(event)), device.strays, device.doubt, states)
             heard = []
         else:
             device.hear(one.line, one.rise % WRAP, one.width)
-            heard.append(one)
+            heard.append(replace(one, rise=device.corrected(one.line, one.rise)))
 
 
 @question("model", "irig_timekeeper.life_of irig_timekeeper.answer_at irig_timekeeper.wait_at irig_timekeeper.stamp_at")
@@ -231,6 +242,21 @@ def lives(random: Random) -> Iterator[Fact]:
         parts = list(parts_of(random, device, calls))
         asked = antt([part for part, _ in parts])
         yield equal(f"asked {asked} (life_of $_made [])", [antt(said) for _, said in parts], above=above)
+
+
+@question("model", "irig_timekeeper.corrected")
+def corrected_rises(random: Random) -> Iterator[tuple]:
+    for _ in range(40):
+        delay = random.choice((0, 1, -1, 4_000, -4_000, random.randint(-4_000, 4_000)))
+        rise = random.choice((0, 3_999, WRAP - 1, random.randrange(WRAP)))
+        yield (rise, integer(delay)), (rise - delay) % WRAP
+
+
+@question("model", "irig_timekeeper.delay_at")
+def delays_of_lines(random: Random) -> Iterator[tuple]:
+    for line in (*range(5), 5, 255):
+        delays = [random.randint(-4_000, 4_000) for _ in range(5)]
+        yield (record(**dict(zip("abcde", map(integer, delays)))), line), integer(delays[min(line, 4)])
 
 
 @question("model", "irig_timekeeper.clock_fault")
@@ -274,7 +300,7 @@ def is_next(call: Call, start: int, redundancy: int, before: list[Call]) -> bool
     ticked = max([start, *(one for one in before if isinstance(one, int))])
     risen = [pulses_on(line, before)[-1].rise for line in range(redundancy) if pulses_on(line, before)]
     if isinstance(call, int):
-        return ticked <= call < ticked + HALF_HOUR - STUCK and all(rise <= call for rise in risen)
+        return ticked <= call < ticked + HALF_HOUR - STUCK - EARLY and all(rise <= call + EARLY for rise in risen)
     told = pulses_on(call.line, before)[-1:]
     return call.line < redundancy and (call.width >= STUCK or (
         ticked <= call.rise + STUCK and all(pulse.rise <= call.rise for pulse in told)))  # fmt: skip
@@ -285,7 +311,7 @@ def random_calls(random: Random, redundancy: int) -> list[Call]:
     now, calls = 5 * SECOND, []
     for _ in range(random.randint(1, 12)):
         now += random.choice((0, 10_000, 10_000, 300_000, 600_000, 1_700 * SECOND, 1_801 * SECOND))
-        early = random.choice((0, 0, 0, 0, 0, 0, 5_000, 400_000, 600_000))
+        early = random.choice((0, 0, 0, 0, 0, -4_000, -4_001, 5_000, 400_000, 600_000))
         line, width = random.randrange(redundancy + (random.random() < 0.1)), random.choice((2_000, 8_000, STUCK))
         pulse = Pulse(line, now - early, width)
         calls.append(random.choice((pulse, pulse, now - early)))

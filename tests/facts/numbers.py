@@ -53,9 +53,11 @@ def random_setup(random: Random) -> tuple[Antt, Antt]:
         holdover=reader_rules.holdover, not_before=not_before, poor_from=poor_from,
     )  # fmt: skip
     numbers = [record(day=day, kind=number_of("LEAP", kind.value)) for day, kind in leaps]
-    table, wires = record(until=until, len=count, leaps=numbers), record(within_us=within, drift_us=drift)
+    late = record(**{line: integer(random.randint(-4_000, 4_000)) for line in "abcde"})
+    table = record(until=until, len=count, leaps=numbers)
+    wires = record(within_us=within, drift_us=drift, delays=late)
     limits = record(not_before=not_before, poor_from=poor_from or 10) if not_before or poor_from else None
-    exact = {"within": Antt(f"within_of {within}"), "drift_us": drift}
+    exact = {"within": Antt(f"within_of {within}"), "drift_us": drift, "delays": late}
     clock = record(reader_rules=reader_rules, redundancy=v.ports(ports), **exact)
     made = record(limits=some(limits), rules=rules, clock=clock, table=Table(until, tuple(leaps[:count])))
     return Antt(f"(made_in {setup} {table} {wires})"), made
@@ -69,8 +71,8 @@ def random_report(random: Random) -> Report:
 
 
 def second_of(random: Random, report: Report, beside: dict[str, int], told: int = 1) -> Antt:
-    """A second of C, with these numbers beside its report. What it says of its ports has no meaning here, and none have
-    its strays."""
+    """A second of C, with these numbers beside its report. What it says of its ports and lines has no meaning here, and
+    none have its strays and its doubt."""
     second = report.second or Second(0, 0)
     ports = {name: random.randrange(16) for name in ("agreed", "differed", "faulty", "poor", "quality", "against_hold")}
     numbers = record(
@@ -78,7 +80,10 @@ def second_of(random: Random, report: Report, beside: dict[str, int], told: int 
         cause=number_of("CAUSE", report.cause.value), lock_count=report.count or 0, day=second.day, sod=second.of_day,
         has_local=1, local_half_hours=integer(random.randint(-31, 31)), dst=1, **ports,
     )  # fmt: skip
-    return record(is_told=told, **beside, strays=random.choice((0, 1, random.randrange(2**32))), report=numbers)
+    masks = "agreed apart differed faulty poor broken silent unjudged".split()
+    lines = record(**{name: random.randrange(32) for name in masks})
+    strays, doubt = (random.choice((0, 1, random.randrange(2**32))) for _ in range(2))
+    return record(is_told=told, **beside, strays=strays, doubt=doubt, lines=lines, report=numbers)
 
 
 @question("header", "c_keeper.beat_in")

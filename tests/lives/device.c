@@ -130,16 +130,22 @@ static void tick_and_go_on(life *l) {
     set_next_tick(l);
 }
 
+/* When the end of a line's next pulse reaches the device. */
+static uint64_t reaches(const life *l, const line *from) {
+    return from->next.end_us + (uint64_t)(int64_t)l->world.delay_us[from->number];
+}
+
 static void tell(life *l, line *from) {
     device *d = &l->device;
     const pulse *p = &from->next;
+    uint64_t told_us = reaches(l, from);
     if (d->pace == BEFORE_PULSES) {
-        tick(l, p->end_us);
-        d->tick_us = p->end_us + SECOND_US;
+        tick(l, told_us);
+        d->tick_us = told_us + SECOND_US;
     }
-    d->now_us = p->end_us;
-    judge_pulse(&l->judge, from->number, p);
-    uint8_t place = l->judge.subject->hear(from->number, (uint32_t)p->rise_us,
+    d->now_us = told_us;
+    judge_pulse(&l->judge, from->number, p, told_us);
+    uint8_t place = l->judge.subject->hear(from->number, (uint32_t)(told_us - (p->end_us - p->rise_us)),
                                            (uint32_t)(p->end_us - p->rise_us));
     if (place > 100) fail(&l->judge, "a pulse of line %u answers %u", from->number, place);
     if (place == 100) d->is_asked = false;
@@ -154,15 +160,15 @@ static void empty_queues(life *l) {
     uint32_t first = below(&l->device.luck, s->lines);
     for (uint32_t i = 0; i < s->lines; i++) {
         line *from = &s->line[(first + i) % s->lines];
-        while (!from->is_over && from->next.end_us <= l->device.tick_us) tell(l, from);
+        while (!from->is_over && reaches(l, from) <= l->device.tick_us) tell(l, from);
     }
 }
 
-/* The line whose pulse ends next, or none. */
-static line *earliest(sky *s) {
+/* The line whose pulse ends next for the device, or none. */
+static line *earliest(life *l) {
     line *best = NULL;
-    for (line *l = s->line; l < s->line + s->lines; l++)
-        if (!l->is_over && (!best || l->next.end_us < best->next.end_us)) best = l;
+    for (line *one = l->sky.line; one < l->sky.line + l->sky.lines; one++)
+        if (!one->is_over && (!best || reaches(l, one) < reaches(l, best))) best = one;
     return best;
 }
 
@@ -205,9 +211,9 @@ void play(life *l, const subject *s) {
     begin(l, s);
     uint64_t end_us = l->world.edge_us[l->world.seconds] + 120000;
     while (!l->judge.is_failed) {
-        line *next = earliest(&l->sky);
+        line *next = earliest(l);
         bool is_by_queues = l->device.pace == BY_QUEUES;
-        uint64_t pulse_us = next && !is_by_queues ? next->next.end_us : NEVER;
+        uint64_t pulse_us = next && !is_by_queues ? reaches(l, next) : NEVER;
         uint64_t tick_us = l->device.tick_us;
         uint64_t now_us = pulse_us < tick_us ? pulse_us : tick_us;
         if (now_us > end_us) break;

@@ -8,7 +8,8 @@
 enum {
     WAIT_MOST_US = 1005000,
     IN_TIME_US = 98000,
-    OWN_EARLY_US = 4000
+    TRUE_US = 2700000,
+    OWN_LATE_US = 4800 /* behind its edge a second is counted 5 ms, of ends that are told a little sooner */
 };
 
 #define SAID_OF(name, said) said,
@@ -78,12 +79,12 @@ static void follow_run(sent *s, const pulse *p) {
     if (s->run == ELEMENTS && p->is_claim) s->whole = p->frame;
 }
 
-void judge_pulse(judge *j, uint8_t line, const pulse *p) {
+void judge_pulse(judge *j, uint8_t line, const pulse *p, uint64_t told_us) {
     sent *s = &j->sent[line];
     if (p->rise_us <= s->last.rise_us || p->rise_us < s->last.end_us)
         fail(j, "world: a pulse of line %u out of order", line);
-    if (p->end_us < j->tick_us) fail(j, "world: a pulse of line %u behind a later tick", line);
-    if (p->end_us > j->now_us) j->now_us = p->end_us;
+    if (told_us < j->tick_us) fail(j, "world: a pulse of line %u behind a later tick", line);
+    if (told_us > j->now_us) j->now_us = told_us;
     if (p->is_true) {
         uint64_t at_us = element_us(j->world, p->frame, p->element);
         uint64_t most_us = (uint64_t)jitter_us(j->world);
@@ -188,6 +189,26 @@ static void judge_silence(judge *j, const irig_second *s) {
         fail(j, "it is silent, cause %u, %u s behind a vote", s->report.cause, (unsigned)alone);
 }
 
+/* Each line is in one mask, and one that was true for longer than a frame of the edge before last is
+ * old is agreed, or not judged yet, or sent no whole frame that claims a second. */
+static void judge_lines(judge *j, const irig_masks *m) {
+    int all = (1 << j->lines) - 1;
+    int sum = m->agreed + m->apart + m->differed + m->faulty + m->poor + m->broken + m->silent + m->unjudged;
+    int any = m->agreed | m->apart | m->differed | m->faulty | m->poor | m->broken | m->silent | m->unjudged;
+    if (sum != all || any != all) fail(j, "a line is in no mask, or in two");
+    for (int i = 0; i < j->lines; i++) {
+        const sent *s = &j->sent[i];
+        bool is_true = s->false_us == 0 || s->false_us + TRUE_US < j->now_us;
+        bool is_over = second_at(j->world, j->come).day >= LAST_DAY; /* its frames are of no second */
+        int wrong = m->apart | m->differed | (is_over ? 0 : m->faulty);
+        if (is_true && (wrong >> i & 1))
+            fail(j, "line %d was true: apart %u, differed %u, faulty %u", i, m->apart, m->differed,
+                 m->faulty);
+        j->counts[AGREED] += m->agreed >> i & 1;
+        j->counts[APART] += m->apart >> i & 1;
+    }
+}
+
 static void judge_report(judge *j, const irig_second *s, uint64_t edge_us) {
     const irig_report *r = &s->report;
     judge_world(j);
@@ -198,6 +219,8 @@ static void judge_report(judge *j, const irig_second *s, uint64_t edge_us) {
     if (!j->has_told && r->agreed == 0) fail(j, "it begins with no vote");
     if (s->moved < j->moves) fail(j, "its edge was moved, and it tells of none");
     if (s->strays > 0) fail(j, "it counts %u strays", s->strays);
+    if (s->doubt > 0) fail(j, "it doubts for %u s", s->doubt);
+    judge_lines(j, &s->lines);
     if (r->agreed != 0) judge_vote(j, s, edge_us);
     else j->row = 0;
     if (r->announces) judge_announced(j, s, edge_us);
@@ -240,7 +263,7 @@ static int whole_lines(const judge *j, int64_t frame) {
 static void judge_moved(judge *j, uint32_t m) {
     uint32_t wait_us = j->subject->wait((uint32_t)j->now_us);
     int64_t off_us = off(j, j->now_us + wait_us - WAIT_MOST_US, m);
-    bool was_early = j->has_told && off(j, j->edge_us, m) < -OWN_EARLY_US;
+    bool was_early = j->has_told && off(j, j->edge_us, m) < MOST_DELAY_US - OWN_LATE_US;
     if (!was_early || llabs(off_us) > vote_us(j))
         fail(j, "%d lines sent frame %u whole, and edge %u has no vote", whole_lines(j, m - 1),
              m - 1, m);

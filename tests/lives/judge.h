@@ -29,7 +29,9 @@ typedef struct sent {
     X(STAMPS, "stamps")                                                                            \
     X(EXPIRED, "ends of a holdover")                                                               \
     X(GUARDED, "leap guards")                                                                      \
-    X(ENDED, "ends of the range")
+    X(ENDED, "ends of the range")                                                                  \
+    X(AGREED, "of lines, agreed")                                                                  \
+    X(APART, "apart")
 
 #define COUNTER_OF(name, said) name,
 enum { EACH_COUNTED(COUNTER_OF) COUNTED };
@@ -70,8 +72,9 @@ typedef struct judge {
 void judge_begins(judge *j, uint64_t now_us);
 void judge_restart(judge *j);
 
-/* A pulse that is told once it has ended, in order on its line, and before any later tick. */
-void judge_pulse(judge *j, uint8_t line, const pulse *p);
+/* A pulse that is told once its end has reached the device, in order on its line, and before any later
+ * tick. */
+void judge_pulse(judge *j, uint8_t line, const pulse *p, uint64_t told_us);
 
 /* What a tick answered. `is_due`: `wait` asked for it, and no frame has ended since. */
 void judge_tick(judge *j, uint64_t now_us, uint32_t answer, const irig_second *s, bool is_due);

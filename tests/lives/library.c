@@ -15,9 +15,20 @@ static uint8_t hear(uint8_t line, uint32_t rise_us, uint32_t width_us) {
     return irig_timekeeper_hear(&keeper, line, rise_us, width_us);
 }
 
+/* Each line is what the masks say. */
+static bool are_masked(const irig_masks *m) {
+    const uint8_t masks[] = {m->silent,   m->broken, m->faulty, m->faulty,  m->poor,
+                             m->unjudged, m->agreed, m->apart,  m->differed};
+    irig_line_said said;
+    for (uint8_t i = 0; irig_timekeeper_line(&keeper, i, &said) == IRIG_DONE; i++)
+        if ((masks[said.state] >> i & 1) == 0) return false;
+    return true;
+}
+
 static uint32_t tick(uint32_t now_us, irig_second *s) {
     memset(s, 0, sizeof *s);
-    return irig_timekeeper_tick(&keeper, now_us, s);
+    uint32_t answer = irig_timekeeper_tick(&keeper, now_us, s);
+    return s->is_told && !are_masked(&s->lines) ? DIFFERS : answer;
 }
 
 static uint32_t wait(uint32_t now_us) { return irig_timekeeper_wait(&keeper, now_us); }
@@ -49,7 +60,8 @@ static uint8_t hear_both(uint8_t line, uint32_t rise_us, uint32_t width_us) {
 bool are_alike(const irig_second *a, const irig_second *b) {
     if (!a->is_told || !b->is_told) return a->is_told == b->is_told;
     return a->edge_us == b->edge_us && a->bound_us == b->bound_us && a->missed == b->missed &&
-           a->moved == b->moved && a->strays == b->strays &&
+           a->moved == b->moved && a->strays == b->strays && a->doubt == b->doubt &&
+           memcmp(&a->lines, &b->lines, sizeof a->lines) == 0 &&
            memcmp(&a->report, &b->report, offsetof(irig_report, dst) + 1) == 0;
 }
 

@@ -9,7 +9,7 @@
 const char *const WRONG_NAMES[WRONGS] = {EACH_WRONG(NAME_OF)};
 wrong model_wrong;
 
-static const uint32_t AHEAD_US = 10000;
+static const uint32_t AHEAD_US = 14000;
 static const int32_t BEFORE_US = 1000; /* what ends longer before the first on which lines agree */
 static const int32_t LONGEST_US = 980000; /* what is longer is not known */
 static const uint32_t HALF_TURN = UINT32_C(1) << 31;
@@ -17,12 +17,21 @@ enum { NO_VOTE = MOST_LINES + 1 }; /* more than there are */
 
 typedef struct heard_line {
     irig_sync sync;
-    heard heard; /* of a frame */
-    /* its last whole frame */
-    bool has_end;
+    heard heard; /* of a frame, that begins then */
+    uint32_t begin_us;
+    bool is_heard; /* a pulse within a second */
+    /* its last whole frame: whether it may vote, whether it is young, and whether it lasts as long as
+     * a frame does */
+    bool has_end, is_seen, is_even;
     uint32_t end_us;
     voice kept;
 } heard_line;
+
+/* The second that ended at a told edge. */
+typedef struct ended_second {
+    bool is_known;
+    uint32_t day, sod, edge_us, bound_us;
+} ended_second;
 
 static struct {
     plain_reader reader;
@@ -33,7 +42,8 @@ static struct {
     /* By all votes the true edge lies so far behind that one, or before it. */
     bool is_known;
     int32_t least_us, most_us;
-    uint32_t strays;
+    uint32_t strays, doubt;
+    ended_second ended, ended_before;
     irig_wires wires;
     irig_second last, before; /* what was told last, as far as it announces */
 } k;
@@ -42,18 +52,30 @@ static bool is(wrong one) { return model_wrong == one; }
 
 /* ---- lines */
 
+/* Whether the first and the last pulse of a frame rise 990 ms apart, but for what they may be off. */
+static bool is_even(uint32_t begin_us, uint32_t rise_us) {
+    int32_t more_us = (int32_t)(rise_us - begin_us - 990000);
+    int32_t most_us = 2 * (k.wires.within_us - 1) + k.wires.drift_us - is(LETS_FEWER);
+    return is(LETS_UNEVEN) || (more_us <= most_us && more_us >= -most_us);
+}
+
 static uint8_t hear(uint8_t number, uint32_t rise_us, uint32_t width_us) {
     if (number >= k.lines) return IRIG_NO_PORT;
     if (width_us >= 500000) return 0;
+    int32_t delay_us = is(KEEPS_DELAYS) ? 0 : k.wires.delay_us[number];
+    rise_us -= (uint32_t)delay_us;
     for (int i = 0; i < k.lines && is(IDLES_BY_OTHERS); i++) idle(&k.line[i].sync, rise_us);
     heard_line *l = &k.line[number];
     uint8_t place = place_of(&l->sync, rise_us, width_us);
+    l->is_heard = true;
     if (place == 0) return 0;
     if (place == 1) l->heard.count = 0;
+    if (place == 1) l->begin_us = rise_us;
     if (place == 1 && is(FORGETS_CAUGHT)) l->has_end = false;
     hear_pulse(&l->heard, width_us);
     if (place == ELEMENTS && l->heard.count == ELEMENTS) {
-        l->has_end = true;
+        l->has_end = l->is_seen = true;
+        l->is_even = is_even(l->begin_us, rise_us);
         l->end_us = rise_us + ELEMENT_US;
         l->kept = voice_of(&k.reader.setup, &l->heard);
     }
@@ -64,6 +86,10 @@ static uint32_t late_us(void) { return is(FORGETS_FAST) ? 8000 : 100000; }
 
 static bool is_kept(const heard_line *l, uint32_t now_us) {
     return l->has_end && now_us + AHEAD_US - l->end_us <= late_us() + AHEAD_US;
+}
+
+static bool may_vote(const heard_line *l, uint32_t now_us) {
+    return is_kept(l, now_us) && l->is_even;
 }
 
 /* What each line tells by a frame that is kept. */
@@ -98,7 +124,7 @@ static int ends_behind(const heard_line *one, uint32_t now_us, int32_t before_us
     voices_at(now_us, voices);
     for (int i = 0; i < k.lines; i++) {
         int32_t behind_us = (int32_t)(k.line[i].end_us - one->end_us);
-        bool is_one = is_kept(&k.line[i], now_us) && behind_us >= -before_us &&
+        bool is_one = may_vote(&k.line[i], now_us) && behind_us >= -before_us &&
                       (are_one(&voices[one - k.line], &voices[i]) || is(ANY_CLAIM));
         if (!is_one) continue;
         int at = count++;
@@ -111,7 +137,7 @@ static int ends_behind(const heard_line *one, uint32_t now_us, int32_t before_us
 /* Whether enough end with this one, or no further behind it than agrees. */
 static bool is_first_of_enough(const heard_line *one, uint32_t now_us) {
     int32_t behind[MOST_LINES];
-    bool is_claim = is_kept(one, now_us) && (one->kept.kind == IRIG_TOLD_CLAIM || is(ANY_CLAIM));
+    bool is_claim = may_vote(one, now_us) && (one->kept.kind == IRIG_TOLD_CLAIM || is(ANY_CLAIM));
     int count = is_claim ? ends_behind(one, now_us, 0, behind) : 0;
     return count >= majority() && behind[majority() - 1] <= apart_us();
 }
@@ -170,17 +196,68 @@ static void carry(uint32_t seconds, int32_t more_us) {
     if (k.most_us - k.least_us > LONGEST_US) k.is_known = false;
 }
 
-/* A vote on the own edge, to which so much is known. */
-static void know_vote(void) {
+static void doubt(void) {
+    uint32_t wanted_s = k.reader.setup.holdover < 1000 ? k.reader.setup.holdover : 1000;
+    k.doubt = wanted_s > 0 ? wanted_s : 1;
+    k.strays++;
+}
+
+/* A vote on the own edge, to which so much is known and so many seconds were counted. */
+static void know_vote(uint32_t seconds) {
     int32_t bound_us = (int32_t)k.bound_us;
     bool strays = k.is_known && (k.least_us > bound_us || k.most_us < -bound_us);
-    k.strays += strays;
+    if (strays) doubt();
+    else k.doubt -= k.doubt < seconds ? k.doubt : seconds;
     if (k.is_known && (is(CUTS_NEVER) ? !strays : strays && is(STRAYS_FOREVER))) return;
     bool is_new = !k.is_known || strays || is(KNOWS_THE_LAST);
     k.least_us = is_new || k.least_us < -bound_us ? -bound_us : k.least_us;
     k.most_us = is_new || k.most_us > bound_us ? bound_us : k.most_us;
     k.is_known = true;
 }
+
+/* ---- what lines are */
+
+/* How a frame's end lies to a told edge. */
+static uint8_t beside(const heard_line *l, const ended_second *told) {
+    int32_t off_us = (int32_t)(l->end_us - told->edge_us);
+    int32_t own_us = is(JUDGES_CLOSELY) ? 0 : k.wires.within_us - 1 + (k.wires.drift_us > 0);
+    int32_t most_us = own_us + (int32_t)told->bound_us;
+    return off_us <= most_us && off_us >= -most_us ? IRIG_LINE_AGREED : IRIG_LINE_APART;
+}
+
+static bool claims(const heard_line *l, const ended_second *told) {
+    return told->is_known && l->kept.claim.day == told->day && l->kept.claim.sod == told->sod;
+}
+
+static uint8_t judged(const heard_line *l) {
+    if (!k.ended.is_known) return IRIG_LINE_UNJUDGED;
+    int32_t behind_us = (int32_t)(l->end_us - k.ended.edge_us);
+    if (behind_us >= SECOND_US / 2) return IRIG_LINE_UNJUDGED;
+    if (claims(l, &k.ended)) return beside(l, &k.ended);
+    if (claims(l, &k.ended_before) && !is(JUDGES_BY_THE_LAST)) return beside(l, &k.ended_before);
+    bool is_of_one_before = behind_us <= -SECOND_US / 2;
+    return is_of_one_before && !k.ended_before.is_known && !is(JUDGES_UNKNOWN) ? IRIG_LINE_UNJUDGED
+                                                                        : IRIG_LINE_DIFFERED;
+}
+
+static uint8_t state_of(const heard_line *l) {
+    if (!l->is_seen) return l->is_heard ? IRIG_LINE_BROKEN : IRIG_LINE_SILENT;
+    if (l->kept.kind == IRIG_TOLD_FAULT) return IRIG_LINE_FAULTY;
+    if (l->kept.kind == IRIG_TOLD_POOR) return IRIG_LINE_POOR;
+    return l->is_even ? judged(l) : IRIG_LINE_UNEVEN;
+}
+
+static void add_state(irig_masks *m, int line) {
+    uint8_t bit = (uint8_t)(1u << line);
+    uint8_t *const masks[] = {&m->silent, &m->broken,   &m->faulty, &m->faulty,  &m->poor,
+                              &m->unjudged, &m->agreed, &m->apart,  &m->differed};
+    uint8_t *mask = masks[state_of(&k.line[line])];
+    *mask = (uint8_t)(*mask | bit);
+}
+
+/* ---- seconds */
+
+static void say_nothing(irig_report *r) { r->announces = 0, r->day = 0, r->sod = 0; }
 
 /* A second that begins at an edge, behind so many that were missed, by a vote of enough lines. */
 static void tell(irig_second *s, uint32_t now_us, uint32_t edge_us, uint32_t missed, int enough) {
@@ -189,7 +266,9 @@ static void tell(irig_second *s, uint32_t now_us, uint32_t edge_us, uint32_t mis
     for (uint32_t i = 0; i < missed && !is(MISSES_NONE); i++) step(&k.reader, NULL, &lost);
     voices_at(now_us, voices);
     int voted = vote(voices, k.lines, enough, k.reader.setup.sense, &s->report);
+    irig_state held = k.reader.state;
     step(&k.reader, voted < 0 ? NULL : &k.line[voted].kept.claim, &s->report);
+    if (voted < 0 && k.doubt > 0 && !is(HOLDS_IN_DOUBT)) say_nothing(&s->report);
     s->is_told = 1;
     s->edge_us = k.edge_us = edge_us;
     uint32_t age = s->report.lock == IRIG_LOCK_HOLDOVER ? s->report.lock_count : 0;
@@ -197,6 +276,13 @@ static void tell(irig_second *s, uint32_t now_us, uint32_t edge_us, uint32_t mis
     s->missed = missed;
     s->moved = k.moved;
     s->strays = k.strays;
+    s->doubt = k.doubt;
+    k.ended_before = missed == 0 ? k.ended : (ended_second){0};
+    k.ended = (ended_second){voted >= 0 || (s->report.announces && missed == 0),
+                             voted >= 0 ? k.line[voted].kept.claim.day : held.day,
+                             voted >= 0 ? k.line[voted].kept.claim.sod : held.sod, edge_us,
+                             s->bound_us};
+    for (int i = 0; i < k.lines; i++) add_state(&s->lines, i);
     k.has_edge = true;
     k.moved = 0;
     bool is_over = voted >= 0 && !s->report.announces && !is(SERVES_ON);
@@ -213,7 +299,7 @@ static void tell_by_lines(irig_second *s, uint32_t now_us, const agreed_edge *by
     uint32_t count = k.has_edge ? (to_us + half_us - k.edge_us) / SECOND_US : 1;
     uint32_t edge_us = is(CALL_IS_EDGE) ? now_us : end_us;
     carry(count, (int32_t)(edge_us - k.edge_us - count * SECOND_US));
-    know_vote();
+    know_vote(count);
     if (count == 0 && is(MOVES_NEVER)) count = 1;
     if (count == 0) {
         k.edge_us = edge_us;
@@ -224,6 +310,13 @@ static void tell_by_lines(irig_second *s, uint32_t now_us, const agreed_edge *by
     if (!is(KEEPS_ENDS)) forget_ends();
 }
 
+/* Frames of more lines than may be untrue that last too long or too short: the counter is off. */
+static bool is_unsteady(uint32_t now_us) {
+    int uneven = 0;
+    for (int i = 0; i < k.lines; i++) uneven += is_kept(&k.line[i], now_us) && !k.line[i].is_even;
+    return uneven > k.lines / 2 && !is(TRUSTS_COUNTER);
+}
+
 static void tell_alone(irig_second *s, uint32_t now_us) {
     uint32_t patience_us = is(HAS_NO_PATIENCE) ? 0 : 5000;
     uint32_t gap_us = now_us - k.edge_us;
@@ -231,6 +324,7 @@ static void tell_alone(irig_second *s, uint32_t now_us) {
     if (!k.has_edge || gap_us < SECOND_US + patience_us) return;
     if (gap_us >= HALF_TURN && !is(GUARDS_NOT)) return;
     uint32_t count = (gap_us - patience_us) / SECOND_US;
+    if (is_unsteady(now_us)) doubt();
     carry(count, 0);
     tell(s, now_us, k.edge_us + count * SECOND_US, count - 1, NO_VOTE);
 }
@@ -238,8 +332,12 @@ static void tell_alone(irig_second *s, uint32_t now_us) {
 static uint32_t tick(uint32_t now_us, irig_second *s) {
     memset(s, 0, sizeof *s);
     for (int i = 0; i < k.lines; i++) {
+        uint32_t quiet_us = now_us - k.line[i].sync.rise_us;
+        if (quiet_us >= SECOND_US && quiet_us < HALF_TURN) k.line[i].is_heard = false;
         if (!is(IDLES_NOT)) idle(&k.line[i].sync, now_us);
         if (!is_kept(&k.line[i], now_us) && !is(TAKES_STALE)) k.line[i].has_end = false;
+        uint32_t age_us = now_us + AHEAD_US - k.line[i].end_us;
+        if (age_us > 3 * (SECOND_US / 2) + AHEAD_US) k.line[i].is_seen = false;
     }
     agreed_edge by = agreed(now_us);
     uint32_t ahead_us = is(TAKES_AHEAD) ? AHEAD_US : 0;
@@ -288,7 +386,8 @@ static void restart(void) {
     memset(&k.reader.state, 0, sizeof k.reader.state);
     for (int i = 0; i < 5; i++) k.line[i].sync.was_marker = 1;
     k.has_edge = k.has_edge && is(KEEPS_ITS_EDGE);
-    k.moved = k.bound_us = k.strays = 0;
+    k.moved = k.bound_us = k.strays = k.doubt = 0;
+    k.ended = k.ended_before = (ended_second){0};
     k.is_known = false;
     memset(&k.last, 0, sizeof k.last);
     memset(&k.before, 0, sizeof k.before);

@@ -43,6 +43,16 @@ static void plan_setup(life *l, chance *luck) {
     l->world.is_subtracted = l->setup.sense == IRIG_SENSE_SUBTRACT;
 }
 
+/* Half of the lives have no delays, else each line may be as late or as early as may be. */
+static void plan_delays(world *w, chance *luck) {
+    bool is_any = is_once_in(luck, 2);
+    for (int i = 0; i < MOST_LINES; i++) {
+        int32_t by_us = is_once_in(luck, 2) ? between(luck, -MOST_DELAY_US, MOST_DELAY_US)
+                                            : ONE_OF(luck, -MOST_DELAY_US, 0, MOST_DELAY_US);
+        w->delay_us[i] = is_any ? by_us : 0;
+    }
+}
+
 /* The month's end at or before a day. */
 static int64_t month_end_before(int64_t day) {
     while (day > 1 && !is_month_end(day)) day--;
@@ -328,6 +338,7 @@ void plan(life *l, uint64_t seed, uint64_t number) {
     draw(&luck);
     uint32_t kind = below(&luck, 40);
     plan_setup(l, &luck);
+    plan_delays(&l->world, &luck);
     bool is_turn = kind == 0 && l->sky.lines > 1, is_long = kind >= 1 && kind < 6;
     l->world.seconds = plan_length(l, &luck, is_turn, is_long);
     plan_time(l, &luck);

@@ -29,6 +29,7 @@ static void begin_drifting(life *l, uint32_t seconds, uint32_t drift_us) {
     l->world.first = (utc){9826, 45290};
     l->world.leap_day = -1;
     l->world.leap = 0;
+    memset(l->world.delay_us, 0, sizeof l->world.delay_us);
     l->judge.is_beyond = false;
     l->judge.earliest = 0;
     begin_lines(l, (UINT64_C(3) << 32) + (uint64_t)(int64_t)BEGIN_US, FAST, &luck);
@@ -221,20 +222,20 @@ static bool holdover_is_bounded(life *l, const subject *s) {
         uint32_t holdover;
         irig_wires wires;
         uint32_t answer;
-    } TRIED[] = {{4898, {450, 100}, IRIG_DONE},
-                 {4899, {450, 100}, IRIG_FAULT_DRIFT},
-                 {48998, {1, 10}, IRIG_DONE},
-                 {48999, {1, 10}, IRIG_FAULT_DRIFT},
-                 {489998, {450, 1}, IRIG_DONE},
-                 {489999, {450, 1}, IRIG_FAULT_DRIFT},
-                 {1000000, {450, 0}, IRIG_DONE},
-                 {1000000, {450, 1}, IRIG_FAULT_DRIFT},
-                 {0, {450, 101}, IRIG_FAULT_VALUE},
-                 {0, {450, UINT16_MAX}, IRIG_FAULT_VALUE},
-                 {0, {0, 0}, IRIG_FAULT_VALUE},
-                 {0, {451, 0}, IRIG_FAULT_VALUE},
-                 {1000000, {UINT16_MAX, 100}, IRIG_FAULT_VALUE},
-                 {1000000, {450, 100}, IRIG_FAULT_DRIFT}};
+    } TRIED[] = {{4898, {450, 100, {0}}, IRIG_DONE},
+                 {4899, {450, 100, {0}}, IRIG_FAULT_DRIFT},
+                 {48998, {1, 10, {0}}, IRIG_DONE},
+                 {48999, {1, 10, {0}}, IRIG_FAULT_DRIFT},
+                 {489998, {450, 1, {0}}, IRIG_DONE},
+                 {489999, {450, 1, {0}}, IRIG_FAULT_DRIFT},
+                 {1000000, {450, 0, {0}}, IRIG_DONE},
+                 {1000000, {450, 1, {0}}, IRIG_FAULT_DRIFT},
+                 {0, {450, 101, {0}}, IRIG_FAULT_VALUE},
+                 {0, {450, UINT16_MAX, {0}}, IRIG_FAULT_VALUE},
+                 {0, {0, 0, {0}}, IRIG_FAULT_VALUE},
+                 {0, {451, 0, {0}}, IRIG_FAULT_VALUE},
+                 {1000000, {UINT16_MAX, 100, {0}}, IRIG_FAULT_VALUE},
+                 {1000000, {450, 100, {0}}, IRIG_FAULT_DRIFT}};
     begin_row(l, 1);
     for (size_t i = 0; i < sizeof TRIED / sizeof *TRIED; i++) {
         l->setup.holdover = TRIED[i].holdover;
@@ -475,10 +476,12 @@ static bool strays_within(life *l, const subject *s, uint32_t seconds) {
 static uint32_t together_us(void) { return (uint32_t)jitter + 1; }
 
 /* The counter runs so much faster than it may, from an edge on: two votes lie that much apart in each
- * second between. */
+ * second between; or all frames last so much longer that there is no vote. */
 static bool drifts_too_fast(life *l, const subject *s, uint32_t drift_us, uint32_t more_us) {
-    uint32_t seconds = 2 * together_us() / more_us + 1, rate_us = drift_us + more_us;
+    uint32_t rate_us = drift_us + more_us;
     for (int32_t sign = -1; sign <= 1; sign += 2) {
+        uint32_t longer_us = (rate_us * 99 + (sign < 0 ? 99 : 0)) / 100; /* 990 ms are, or shorter */
+        uint32_t seconds = longer_us > 2 * (uint32_t)jitter + drift_us ? 1 : 2 * together_us() / more_us + 1;
         begin_straying(l, seconds + 1, drift_us);
         for (uint32_t n = 0; n <= l->world.seconds + 2; n++)
             set_edge(&l->world, n, n > CHANGES ? sign * (int64_t)((n - CHANGES) * rate_us) : 0);
@@ -549,6 +552,129 @@ static bool counter_loses_a_turn(life *l, const subject *s) {
     return goes_right(l, s) && has_vote(l, CHANGES) && strays_at(l, CHANGES) == 0 &&
            has_vote(l, CHANGES + 2) && strays_at(l, CHANGES + 2) == 1 &&
            strays_at(l, CHANGES + 9) == 1;
+}
+
+
+/* ---- what is wrong in substations, and what the device says of it */
+
+/* What each line is at the last second that was told. */
+static const irig_masks *last_lines(const life *l) { return &l->told[l->tolds - 1].second.lines; }
+
+static bool are_masks(const irig_masks *m, uint8_t agreed, uint8_t apart, uint8_t differed) {
+    return m->agreed == agreed && m->apart == apart && m->differed == differed &&
+           (m->faulty | m->poor | m->broken | m->silent | m->unjudged) == 0;
+}
+
+/* All lines are said to agree up to a change, and no vote contradicts another. */
+static bool was_calm(const life *l) {
+    for (int i = 3; i < CHANGES && i < l->tolds; i++)
+        if (!are_masks(&l->told[i].second.lines, 7, 0, 0) || l->told[i].second.strays > 0)
+            return false;
+    return true;
+}
+
+/* A line's pulses come so much later than its clock's, or earlier, from an edge on. */
+static void shift_line(life *l, uint8_t line, int32_t by_us) {
+    lie *told = add_lie(l, line, CHANGES, l->world.seconds, 0);
+    told->aim = SHIFTED;
+    told->shift_us = by_us;
+    told->from_us = l->world.edge_us[CHANGES] + 13000;
+    told->to_us += 400000;
+}
+
+/* A converter or a cable on one line of three: the line is apart within two seconds, and is said to be
+ * that far off, if ticks come when `wait` says. */
+static bool one_line_is_late(life *l, const subject *s) {
+    static const int32_t LATE_US[] = {3000, -3000, 8000, -8000, 99000, -99000, 200000};
+    for (size_t i = 0; i < sizeof LATE_US / sizeof *LATE_US; i++) {
+        begin_straying(l, 6, 100);
+        shift_line(l, 0, LATE_US[i]);
+        if (!goes_right(l, s) || !was_calm(l) || !are_masks(last_lines(l), 6, 1, 0)) return false;
+        if (!entry_at(l, CHANGES + 3)->second.lines.apart) return false;
+    }
+    return true;
+}
+
+/* Two lines so: the edge goes with them, as it must, the third is apart, and the votes contradict those
+ * before them. */
+static bool two_lines_are_late(life *l, const subject *s) {
+    static const int32_t LATE_US[] = {3000, -3000, 8000, -8000};
+    for (size_t i = 0; i < sizeof LATE_US / sizeof *LATE_US; i++) {
+        begin_straying(l, 6, 100);
+        shift_line(l, 1, LATE_US[i]);
+        shift_line(l, 2, LATE_US[i]);
+        if (!goes_right(l, s) || !was_calm(l) || !are_masks(last_lines(l), 6, 1, 0)) return false;
+        const irig_second *last = &l->told[l->tolds - 1].second;
+        if (last->strays == 0 || last->doubt == 0) return false;
+    }
+    return true;
+}
+
+/* The same delays, but that the device knows them from power-up on: nothing is said. */
+static bool delays_are_known(life *l, const subject *s) {
+    static const int32_t DELAYS_US[] = {4000, -4000, 3000};
+    begin_row(l, 20);
+    for (int i = 0; i < 3; i++) l->world.delay_us[i] = DELAYS_US[i];
+    return goes_right(l, s) && have_votes(l, 2, 20) && are_masks(last_lines(l), 7, 0, 0);
+}
+
+/* One clock, and then two, are another second ahead. */
+static bool clocks_differ(life *l, const subject *s) {
+    for (uint8_t first = 1; first <= 2; first++) {
+        begin_straying(l, 6, 100);
+        for (uint8_t line = first; line <= 2; line++)
+            add_lie(l, line, CHANGES, CHANGES + 6, 60)->to_us += 40000;
+        if (!goes_right(l, s) || !was_calm(l)) return false;
+        if (!are_masks(last_lines(l), first == 2 ? 3 : 6, 0, first == 2 ? 4 : 1)) return false;
+    }
+    return true;
+}
+
+/* Cables are pulled: one line is silent, and what is left agrees. */
+static bool cable_is_pulled(life *l, const subject *s) {
+    begin_straying(l, 6, 100);
+    darken(l, CHANGES, CHANGES + 7, 1);
+    return goes_right(l, s) && was_calm(l) && last_lines(l)->agreed == 6 &&
+           last_lines(l)->silent == 1;
+}
+
+/* The counter is off in the dark, as the votes before had shown: no second is held. */
+static bool dark_on_a_bad_counter(life *l, const subject *s) {
+    begin_straying(l, 200, 10);
+    l->setup.holdover = 300;
+    for (uint32_t n = CHANGES + 1; n <= l->world.seconds + 2; n++)
+        set_edge(&l->world, n, (n - CHANGES) * 110);
+    darken(l, 220, 243, ALL);
+    if (!goes_right(l, s)) return false;
+    for (int i = 0; i < l->tolds; i++) {
+        const irig_report *r = &l->told[i].second.report;
+        if (r->announces && r->cause == IRIG_CAUSE_HELD && l->told[i].second.strays > 0) return false;
+    }
+    return l->told[l->tolds - 1].second.strays > 0;
+}
+
+/* Behind a contradiction as many seconds have to be voted as the holdover says, before one is held. */
+static bool doubt_passes(life *l, const subject *s) {
+    begin_straying(l, 40, 100);
+    l->setup.holdover = 20;
+    two_go_astray(l, SHIFTED, 300000);
+    l->sky.lie[0].to_us = l->sky.lie[1].to_us = l->world.edge_us[CHANGES + 30] + 200000;
+    darken(l, CHANGES + 12, CHANGES + 13, ALL);
+    return goes_right(l, s);
+}
+
+/* The last pulse of a line's frames comes early or late. So short or long a frame has no vote, and its
+ * line says so; of others the edge is as it was. */
+static bool frame_is_uneven(life *l, const subject *s) {
+    begin_straying(l, 6, 0);
+    lie *told = add_lie(l, 1, CHANGES, CHANGES + 6, 0);
+    told->harm = LAST_MOVED;
+    told->from_us = l->world.edge_us[CHANGES] + 13000;
+    told->to_us += 400000;
+    if (!goes_right(l, s) || !was_calm(l)) return false;
+    for (int i = 0; i < l->tolds; i++)
+        if (l->told[i].second.report.agreed == 0) return false;
+    return jitter > 0 || last_lines(l)->faulty == 2;
 }
 
 /* All lines go to another second at once: where seconds begin, they agree with all votes before. That is
@@ -823,6 +949,14 @@ static const struct {
     {"lines walk", lines_walk, 0, OF_ALL},
     {"a counter loses a turn", counter_loses_a_turn, 0, OF_ALL},
     {"lines step by a second", lines_step_by_a_second, 0, OF_ALL},
+    {"one line is late", one_line_is_late, 0, OF_ALL},
+    {"two lines are late", two_lines_are_late, 0, OF_ALL},
+    {"delays are known", delays_are_known, 0, OF_ALL},
+    {"clocks differ", clocks_differ, 0, OF_ALL},
+    {"a cable is pulled", cable_is_pulled, 0, OF_ALL},
+    {"dark on a bad counter", dark_on_a_bad_counter, 0, OF_ALL},
+    {"doubt passes", doubt_passes, 0, OF_ALL},
+    {"a frame is uneven", frame_is_uneven, 0, OF_ALL},
     {"the quality of a bound", quality_of_a_bound, 0, OF_ALL},
     {"switched on in a frame", switched_on_in_a_frame, 0, OF_ALL},
     {"a frame of a turn ago", frame_of_a_turn_ago, 0, OF_ALL},

@@ -56,7 +56,15 @@ enum { DIFFERS = 200 }; /* what a subject answers where two have to answer alike
     X(CUTS_NEVER)      /* what it knows by all votes is not cut by the next one, */                \
     X(KNOWS_THE_LAST)  /* or is forgotten at the next one, */                                      \
     X(KNOWS_STEADILY)  /* or does not grow by the drift */                                         \
-    X(STRAYS_FOREVER)  /* or does not begin anew with a vote that contradicts it */
+    X(STRAYS_FOREVER)  /* or does not begin anew with a vote that contradicts it */                \
+    X(HOLDS_IN_DOUBT)  /* it holds over behind votes that contradict one another */                \
+    X(TRUSTS_COUNTER)  /* however long frames last, it trusts its counter */                       \
+    X(LETS_UNEVEN)     /* a frame votes however long it lasts, */                                  \
+    X(LETS_FEWER)      /* or one that is as short or long as it may be does not */                 \
+    X(KEEPS_DELAYS)    /* the delays of lines are not taken off */                                 \
+    X(JUDGES_CLOSELY)  /* a line is apart from an edge by what the edge alone may be off, */       \
+    X(JUDGES_BY_THE_LAST) /* or differs if its frame is of the edge before, */                     \
+    X(JUDGES_UNKNOWN)  /* or of one that was not told */
 
 #define NUMBER_OF(wrong) wrong,
 typedef enum wrong { EACH_WRONG(NUMBER_OF) WRONGS } wrong;

@@ -41,6 +41,7 @@ enum {
     ELEMENT_US = 10000,
     MOST_LINES = 5,
     MOST_SECONDS = 500500,
+    MOST_DELAY_US = 4000,
     HANDED_ON_US = 1200000 /* between the lies of one line and those of another */
 };
 
@@ -78,7 +79,8 @@ typedef struct world {
         edge_us[MOST_SECONDS + 3]; /* edge n, where T(n) begins, by a counter that does not wrap */
     uint32_t seconds;              /* the edges 0 to `seconds` + 2 are there */
     uint32_t drift_us;
-    uint32_t within_us; /* true pulses rise less than so many us from their time */
+    uint32_t within_us; /* true pulses rise less than so many us from their time, */
+    int32_t delay_us[MOST_LINES]; /* and reach the device so much later, on each line */
     utc first;                  /* T(0) */
     int64_t leap_day;           /* at whose end a leap comes, or none */
     int leap;                   /* 1 inserted, -1 deleted, 0 none */
@@ -110,7 +112,9 @@ content true_content(const world *w, utc at, int32_t zone);
 
 /* What a device is told of it. */
 static inline irig_wires wires_of(const world *w) {
-    return (irig_wires){.within_us = (uint16_t)w->within_us, .drift_us = (uint16_t)w->drift_us};
+    irig_wires wires = {.within_us = (uint16_t)w->within_us, .drift_us = (uint16_t)w->drift_us};
+    for (int i = 0; i < MOST_LINES; i++) wires.delay_us[i] = (int16_t)w->delay_us[i];
+    return wires;
 }
 
 #endif

@@ -1,8 +1,9 @@
 """A device that keeps time by its lines: docs/WIRES.md, A device that keeps time."""
 
-from dataclasses import dataclass, field
+from dataclasses import dataclass, field, replace
 
-from .frames import Rules, Told, symbol_of, told
+from .faults import Fault
+from .frames import Poor, Rules, Told, symbol_of, told
 from .reader import IDLE, Lock, ReaderRules, Report, after_tick
 from .times import Claim, Second, Table
 from .voting import majority
@@ -15,6 +16,10 @@ BEFORE = 1_000  # what ends longer before the first of those that agree has no p
 KEPT = 100_000  # how long a line keeps a frame behind its end
 COUNTED = 5_000  # how long behind its edge the counter alone counts a second
 LONGEST = 980_000  # what is known of an edge is forgotten if it is longer
+AHEAD = 14_000  # how far ahead of a tick a frame may end
+SEEN = 1_500_000  # how long behind its end a frame says what its line is
+BETWEEN = 990_000  # from the first pulse of a frame to its last one
+MOST_DOUBT = 1_000  # as many seconds at most have to be voted behind a stray
 
 
 def since(earlier: int, later: int) -> int:
@@ -34,10 +39,11 @@ def lies_ahead(time: int, now: int) -> bool:
 
 @dataclass(frozen=True)
 class Frame:
-    """A whole frame: what it says, and when it ends."""
+    """A whole frame: what it says, when it ends, and whether it lasts as long as a frame does."""
 
     word: Told
     end: int
+    is_even: bool
 
 
 @dataclass(frozen=True)
@@ -58,7 +64,10 @@ class Line:
     place: int = 0
     may_begin: bool = True  # whether a marker that comes next begins a frame, also if it is on time
     symbols: str = ""
+    begin: int = 0
     frame: Frame | None = None
+    seen: Frame | None = None  # the same frame, for longer
+    is_heard: bool = False  # a pulse came within a second
 
     def place_of(self, rise: int, symbol: str) -> int:
         """The table of places, row by row."""
@@ -69,16 +78,18 @@ class Line:
             return self.place % 100 + 1
         return 0
 
-    def hear(self, rules: Rules, rise: int, width: int) -> int:
+    def hear(self, rules: Rules, rise: int, width: int, uneven: int) -> int:
+        """A frame is even whose first and last pulse are no more than so far from 990 ms apart."""
         symbol = symbol_of(width)
         self.place = self.place_of(rise, symbol)
-        self.rise, self.may_begin = rise, symbol == "P"
+        self.rise, self.may_begin, self.is_heard = rise, symbol == "P", True
         if self.place == 1:
-            self.symbols = ""
+            self.symbols, self.begin = "", rise
         if self.place > 0:
             self.symbols += symbol
         if self.place == 100:
-            self.frame = Frame(told(rules, self.symbols), (rise + ELEMENT) % WRAP)
+            is_even = abs(since(self.begin, rise) - BETWEEN) <= uneven
+            self.frame = self.seen = Frame(told(rules, self.symbols), (rise + ELEMENT) % WRAP, is_even)
         return self.place
 
     def kept(self, now: int) -> Frame | None:
@@ -89,8 +100,10 @@ class Line:
     def settle(self, now: int) -> None:
         """What a tick does first: the line may be idle, and it keeps no late frame."""
         self.frame = self.kept(now)
+        if self.seen and (since(self.seen.end, now) + AHEAD) % WRAP > SEEN + AHEAD:
+            self.seen = None
         if not lies_ahead(self.rise, now) and since(self.rise, now) >= SECOND:
-            self.place, self.may_begin = 0, True
+            self.place, self.may_begin, self.is_heard = 0, True, False
 
 
 @dataclass(frozen=True)
@@ -134,6 +147,7 @@ class Device:
     redundancy: int
     within: int
     drift: int
+    delays: tuple[int, ...]
     lines: list[Line] = field(init=False)
 
     def __post_init__(self) -> None:
@@ -144,21 +158,29 @@ class Device:
         self.reader, self.edge, self.voted, self.moved = IDLE, None, 0, 0  # `voted` is the bound of the last vote
         self.last, self.before = None, None  # what was announced at the last told edge, and at the one before
         self.known, self.strays = None, 0  # how far behind `edge` the true one lies by all votes: at least, at most
+        self.doubt = 0  # the seconds that have to be voted yet before one is held again
+        self.ended, self.ended_before = None, None  # the second that ended at the last told edge, and at the one before
+
+    def corrected(self, line: int, rise: int) -> int:
+        """When a pulse rose at its clock."""
+        return (rise - self.delays[line]) % WRAP
 
     def hear(self, line: int, rise: int, width: int) -> int:
         """The place of a pulse in its frame."""
-        return self.lines[line].hear(self.rules, rise, width) if width < STUCK else 0
+        uneven = 2 * (self.within - 1) + self.drift
+        return self.lines[line].hear(self.rules, self.corrected(line, rise), width, uneven) if width < STUCK else 0
 
     def ends(self, frame: Frame, now: int, before: int) -> list[int]:
         """How far behind a frame's end those end that claim the same, in order, and no longer before it than so."""
-        kept = [one for line in self.lines if (one := line.kept(now)) and one.word == frame.word]
+        kept = [one for line in self.lines if (one := line.kept(now)) and one.is_even and one.word == frame.word]
         return sorted(behind for one in kept if (behind := off(one.end, frame.end)) >= -before)
 
     def agreed(self, now: int) -> Vote | None:
         """The edge on which lines agree: f + 1 of one claim end as near one another as the ends of two true lines.
         It is the middle between the end by which f + 1 of that claim end and the one from which on f + 1 do."""
         enough, apart = majority(self.redundancy), 2 * (self.within - 1)
-        claims = [frame for line in self.lines if (frame := line.kept(now)) and isinstance(frame.word, Claim)]
+        claims = [frame for line in self.lines
+                  if (frame := line.kept(now)) and frame.is_even and isinstance(frame.word, Claim)]  # fmt: skip
         firsts = [one for one in claims if self.ends(one, now, 0)[enough - 1 : enough] and
                   self.ends(one, now, 0)[enough - 1] <= apart]  # fmt: skip
         if not firsts:
@@ -176,7 +198,11 @@ class Device:
         told = [line.frame and line.frame.word for line in self.lines]
         agreed = self.agreed(now)
         if agreed is None or not 0 <= off(now, agreed.edge) <= KEPT:
-            return self.count(self.seconds_alone(now), None, told)
+            seconds = self.seconds_alone(now)
+            uneven = sum(1 for line in self.lines if line.frame and not line.frame.is_even)
+            if seconds and uneven >= majority(self.redundancy):
+                self.stray()
+            return self.count(seconds, None, told)
         for line in self.lines:
             line.frame = None
         self.voted = agreed.bound
@@ -206,7 +232,14 @@ class Device:
         least, most = self.known or (-vote.bound, vote.bound)
         self.known = max(least, -vote.bound), min(most, vote.bound)
         if self.known[0] > self.known[1]:
-            self.known, self.strays = (-vote.bound, vote.bound), self.strays + 1
+            self.known = -vote.bound, vote.bound
+            self.stray()
+        else:
+            self.doubt = max(0, self.doubt - self.seconds_to(vote))
+
+    def stray(self) -> None:
+        self.strays = (self.strays + 1) % WRAP
+        self.doubt = max(1, min(self.reader_rules.holdover, MOST_DOUBT))
 
     def seconds_alone(self, now: int) -> int:
         """How many seconds have come by the counter alone."""
@@ -222,10 +255,15 @@ class Device:
             self.carry(seconds, 0)
         for _ in range(seconds - 1):
             self.reader, _ = after_tick(self.reader_rules, self.table, self.reader, None)
-        vote = agreed and agreed.claim
+        vote, held = agreed and agreed.claim, self.reader.hold and self.reader.hold.second
         self.reader, report = after_tick(self.reader_rules, self.table, self.reader, vote)
+        if vote is None and self.doubt:
+            report = replace(report, second=None)
         edge = agreed.edge if agreed else (self.edge + SECOND * seconds) % WRAP
         beat = Beat(report, told, edge, self.bound_of(report), seconds - 1, self.moved)
+        self.ended_before = self.ended if seconds == 1 else None
+        ended = vote.second if vote else held if report.second and seconds == 1 else None
+        self.ended = ended and Announced(ended, edge, beat.bound)
         self.before = None if vote and report.second is None else self.last
         self.last = report.second and Announced(report.second, edge, beat.bound)
         self.edge, self.moved = edge, 0
@@ -235,6 +273,28 @@ class Device:
         """How far the edge of a second may lie off: as far as the last voted one, and by the drift of each second since
         then."""
         return self.voted + self.drift * (report.count if report.lock == Lock.HOLDOVER else 0)
+
+    def state(self, line: int) -> str:
+        """What a line is (docs/EXACTNESS.md)."""
+        one = self.lines[line]
+        if one.seen is None:
+            return "Broken" if one.is_heard else "Silent"
+        if isinstance(one.seen.word, Fault):
+            return "Faulty"
+        if isinstance(one.seen.word, Poor):
+            return "Poor"
+        return self.judged(one.seen) if one.seen.is_even else "Uneven"
+
+    def judged(self, frame: Frame) -> str:
+        """How a claim stands to the told edge at which its second ended."""
+        if self.ended is None or off(frame.end, self.ended.edge) >= SECOND // 2:
+            return "Unjudged"
+        for told in (self.ended, self.ended_before):
+            if told and told.second == frame.word.second:
+                most = self.within - 1 + (self.drift > 0) + told.bound
+                return "Agreed" if abs(off(frame.end, told.edge)) <= most else "Apart"
+        is_earlier = off(frame.end, self.ended.edge) <= -SECOND // 2
+        return "Unjudged" if is_earlier and self.ended_before is None else "Differed"
 
     def wait(self, now: int) -> int:
         """How long until a tick has something to do, if no call comes before."""

@@ -202,11 +202,11 @@ class Recorder:
 
 
 def recorders(seed: int, name: str) -> dict[str, Recorder]:
-    """Two of them. Where lines are dark for a minute a clock that is farther off ticks before a frame
-    has ended."""
+    """Two of them. By a clock that is more than 100 parts in a million off frames are uneven, and where
+    lines are dark for a minute one that is farther off ticks before a frame has ended."""
     by = random.Random(seed)
     is_dark = name.startswith(("month_end", "misled_by_table"))
-    parts = by.choice((-1, 1)) * (40 if is_dark else by.randint(100, 500))
+    parts = by.choice((-1, 1)) * (40 if is_dark else by.randint(40, 100))
     return {
         "jitter, glitches and its clock": Recorder(by, 450, parts, glitches=30),
         "jitter, its clock and samples at 2 kHz": Recorder(by, 200, parts, every_us=500),
