@@ -15,3 +15,6 @@ pub mod FiveFacts
 pub mod StampFacts
 pub mod FaultLifeFacts
 pub mod ExactFacts
+pub mod SaidLines
+pub mod DoubtedLife
+pub mod DelayedLines

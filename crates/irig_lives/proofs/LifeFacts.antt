@@ -1,5 +1,5 @@
 -- A short life for which all premises of a device's laws hold: three lines, of which one lies, by a
--- counter that is 100 us a second slow and wraps; four ticks.
+-- counter that is 100 us a second fast and wraps; four ticks.
 use Rattle.std.proofs.Common.{◌≡◌, ℕ, zero, suc, ◌+◌, ◌-◌, ◌*◌, ◌/◌, ◌%◌, ◌^◌, ◌<◌, ◌≤◌, ◌⊎◌, Bool, true, false, cond, not, ◌&&◌, List, [], ◌∷◌, ◌++◌, length, Some, None, refl, sym, subst, ap, ◌∙◌, arith, inl, inr}
 use Rattle.std.specs.Prelude.{pos, slice_get, ◌==◌, nat_lt, nat_le, get_or}
 use Rattle.std.proofs.lemmas.Bool.{cases_Bool, lt-ltb}
@@ -123,13 +123,13 @@ frame_2 = Marker ∷ Zero ∷ One ∷ Zero ∷ Zero ∷ Zero ∷ Zero ∷ Zero �
 abbrev nothing : List Symbol
 nothing = Marker ∷ One ∷ One ∷ One ∷ One ∷ One ∷ One ∷ One ∷ One ∷ Marker ∷ One ∷ One ∷ One ∷ One ∷ One ∷ One ∷ One ∷ One ∷ One ∷ Marker ∷ One ∷ One ∷ One ∷ One ∷ One ∷ One ∷ One ∷ One ∷ One ∷ Marker ∷ One ∷ One ∷ One ∷ One ∷ One ∷ One ∷ One ∷ One ∷ One ∷ Marker ∷ One ∷ One ∷ One ∷ One ∷ One ∷ One ∷ One ∷ One ∷ One ∷ Marker ∷ One ∷ One ∷ One ∷ One ∷ One ∷ One ∷ One ∷ One ∷ One ∷ Marker ∷ One ∷ One ∷ One ∷ One ∷ One ∷ One ∷ One ∷ One ∷ One ∷ Marker ∷ One ∷ One ∷ One ∷ One ∷ One ∷ One ∷ One ∷ One ∷ One ∷ Marker ∷ One ∷ One ∷ One ∷ One ∷ One ∷ One ∷ One ∷ One ∷ One ∷ Marker ∷ One ∷ One ∷ One ∷ One ∷ One ∷ One ∷ One ∷ One ∷ One ∷ Marker ∷ []
 
-frame : ℕ → List Symbol
+unfoldable pub frame : ℕ → List Symbol
 frame zero = frame_0
 frame (suc zero) = frame_1
 frame (suc (suc zero)) = frame_2
 frame (suc (suc (suc n))) = nothing
 
-line : ℕ → Symbol
+unfoldable pub line : ℕ → Symbol
 line k = get_or (frame (k / 100)) (k % 100) Zero
 
 -- ---- what is checked
@@ -240,7 +240,7 @@ carried (suc zero) c e = subst (λ (d : Claim). IsTrueClaim noon 2 d) (same_clai
 carried (suc (suc zero)) c e = subst (λ (d : Claim). IsTrueClaim noon 3 d) (same_claim (claim_of 43202) c (sym told_2 ∙ e)) (true_claim 2 43202 refl (omega arith))
 carried (suc (suc (suc n))) c e = absurd (subst IsNoClaim e told_none)
 
-is_line : IsLineOf rules noon line
+pub is_line : IsLineOf rules noon line
 is_line = record {
   right = is_true_line;
   truth = λ f s c at carries.
@@ -257,42 +257,42 @@ width_of Marker = 8000
 width_of Bad = 0
 
 -- the liar sends the frame of another of these seconds
-lie : ℕ → Symbol
+unfoldable pub lie : ℕ → Symbol
 lie k = get_or (frame ((k / 100 + 1) % 3)) (k % 100) Zero
 
-pulse_told : ℕ → ℕ → Call
+unfoldable pub pulse_told : ℕ → ℕ → Call
 pulse_told zero k = Hear 0 (element_at edges k + 400) (width_of (line k))
 pulse_told (suc zero) k = Hear 1 (element_at edges k - 400) (width_of (line k))
 pulse_told (suc (suc i)) k = Hear 2 (element_at edges k + 999) (width_of (lie k))
 
-with_element : ℕ → List Call → List Call
+unfoldable pub with_element : ℕ → List Call → List Call
 with_element k calls = pulse_told 2 k ∷ pulse_told 1 k ∷ pulse_told 0 k ∷ calls
 
 -- a tick 2 ms behind each edge
-with_tick : ℕ → List Call → List Call
+unfoldable pub with_tick : ℕ → List Call → List Call
 with_tick k calls = cond ((k % 100 == 0) && nat_le 100 k) (Tick (edges (k / 100) + 2000) ∷ calls) calls
 
-elements_before : ℕ → List Call
+unfoldable pub elements_before : ℕ → List Call
 elements_before zero = []
 elements_before (suc k) = with_element k (with_tick k (elements_before k))
 
-unfoldable calls_3 : List Call
+unfoldable pub calls_3 : List Call
 calls_3 = elements_before 300
 
-abbrev now_3 : ℕ
+abbrev pub now_3 : ℕ
 now_3 = 4296502300
 
-abbrev now_4 : ℕ
+abbrev pub now_4 : ℕ
 now_4 = 4297510400
 
-abbrev life_4 : List Call
+abbrev pub life_4 : List Call
 life_4 = Tick now_4 ∷ ([] ++ (Tick now_3 ∷ calls_3))
 
-order_4 : AreInOrder 4293400000 of.Three life_4
+pub order_4 : AreInOrder 4293400000 of.Three life_4
 unfolding calls_3 elements_before with_element pulse_told with_tick width_of lie line frame in_order have_risen is_after
 order_4 = order_is 4293400000 of.Three life_4 refl
 
-truth_4 : AreTrueAtTicks (IsTrueLately 450 rules noon edges) 1 life_4
+pub truth_4 : AreTrueAtTicks (IsTrueLately 450 rules noon edges) 1 life_4
 unfolding calls_3 elements_before with_element pulse_told with_tick width_of lie are_true_at_ticks are_true_lately are_lately last_before is_pulse_of is_same line frame
 truth_4 = truly_is 450 rules noon edges line is_line 400 1 life_4 refl
 
@@ -316,7 +316,7 @@ beat_3 = record {
 }
 
 -- a second later by the own counter, which drifts 100 us more
-abbrev beat_4 : Beat
+abbrev pub beat_4 : Beat
 beat_4 = record {
   report = record { announce = Some (at 43204); lock = lock.Holdover 1; cause = cause.Held };
   told = silence;
@@ -330,12 +330,12 @@ answer_3 : answer_at (after_calls device calls_3) (now_3 % 2 ^ 32) ≡ Some beat
 unfolding calls_3 elements_before with_element pulse_told with_tick width_of lie line frame step_of told_of frame_told coded_told ones values_of field_at control_of offset_in utc_minute is_month_end four_years
 answer_3 = refl
 
-answer_4 : answer_at (after_calls device (Tick now_3 ∷ calls_3)) (now_4 % 2 ^ 32) ≡ Some beat_4
+pub answer_4 : answer_at (after_calls device (Tick now_3 ∷ calls_3)) (now_4 % 2 ^ 32) ≡ Some beat_4
 unfolding calls_3 elements_before with_element pulse_told with_tick width_of lie line frame step_of told_of frame_told coded_told ones values_of field_at control_of offset_in utc_minute is_month_end four_years
 answer_4 = refl
 
 -- so the laws speak of it
-truly_told : TellAlwaysTruly (IsTrueLately 450 rules noon edges) 450 100 rules noon edges 0 0
+pub truly_told : TellAlwaysTruly (IsTrueLately 450 rules noon edges) 450 100 rules noon edges 0 0
 truly_told now end pulses claim is frame soon = true_lately (within_of 450) rules noon 100 edges now end pulses claim steady is frame soon
 
 told_4 : IsToldInHoldover noon edges 0 0 450 100 100 now_4 beat_4 (at 43204)

@@ -1,0 +1,133 @@
+-- A device takes off the delays of its lines: of three lines less than 450 us off, by a counter that is
+-- 100 us a second fast and wraps, the pulses of one come 3,000 us late, and those of another one 2,500 us
+-- early. Its life is that of the pulses as they rose at their clocks.
+use Rattle.std.proofs.Common.{◌≡◌, ◌∙◌, ℕ, zero, suc, ◌+◌, ◌-◌, ◌%◌, ◌^◌, ◌≤◌, List, [], ◌∷◌, map, Some, None, pos, negsuc, refl, sym, ap, arith}
+use Rattle.irig_frame.specs.Faults.{values_of, field_at}
+use Rattle.irig_control.specs.Parity.{ones}
+use Rattle.irig_control.specs.Control.{control_of, offset_in}
+use Rattle.irig_sync.specs.Edges.{element_at}
+use Rattle.irig_time.specs.Claims.{utc_minute}
+use Rattle.irig_time.specs.Days.{is_month_end, four_years}
+use Rattle.irig_port.specs.declared.told.Told.TheVariants as tells
+use Rattle.irig_port.specs.Told.{told_of, frame_told, coded_told}
+use Rattle.irig_vote.specs.declared.redundancy.Redundancy.TheVariants as of
+use Rattle.irig_reader.specs.declared.report.Lock.TheVariants as lock
+use Rattle.irig_reader.specs.declared.report.Cause.TheVariants as cause
+use Rattle.irig_reader.specs.Rule.{step_of}
+use Rattle.irig_timekeeper.specs.declared.clock.Beat.{Beat}
+use Rattle.irig_timekeeper.specs.declared.delay.Delays.{Delays}
+use Rattle.irig_timekeeper.specs.declared.states.LineState.TheVariants as is
+use Rattle.irig_timekeeper.specs.Delays.{corrected, delay_at}
+use Rattle.irig_timekeeper.specs.Refusals.{within_of}
+use Rattle.irig_timekeeper.specs.Lines.{IsTrueLately}
+use Rattle.irig_timekeeper.specs.Keeping.{Keeping, after_pulse, after_tick, vote_at, answer_at}
+use Rattle.irig_timekeeper.specs.Truth.{IsToldInHoldover}
+use Rattle.irig_timekeeper.specs.Life.{Call, Made, device_of, life_of, AreInOrder, AreTrueAtTicks}
+use Rattle.irig_timekeeper.specs.Life.Call.{Hear, Tick}
+use Rattle.irig_timekeeper.specs.States.{state_of}
+use Rattle.irig_timekeeper.proofs.LifeLaws.{device_true}
+use Rattle.irig_lives.specs.Decided.{is_after, have_risen, in_order, is_same, is_pulse_of, last_before, are_lately, are_true_lately, are_true_at_ticks}
+use Rattle.irig_lives.proofs.DecidedLaws.{order_is, truly_is}
+use Rattle.irig_lives.proofs.LifeFacts.{edges, steady, at, noon, no_delays, no_table, is_device, rules, claim_of, new_lines, are_new, silence, frame, line, is_line, width_of, truly_told}
+
+-- ---- each time by a counter of 32 bits, from which a delay is taken
+
+late_is : (rise : ℕ) → corrected ((rise + 3000) % 2 ^ 32) (pos 3000) ≡ rise % 2 ^ 32
+late_is rise = omega arith
+
+early_is : (rise : ℕ) → 2500 ≤ rise → corrected ((rise - 2500) % 2 ^ 32) (negsuc 2499) ≡ rise % 2 ^ 32
+early_is rise later = omega (arith, later)
+
+-- ---- a device that knows these delays, or none
+
+abbrev delays : Delays
+delays = record no_delays { a = pos 3000; b = negsuc 2499 }
+
+abbrev made_with : Delays → Made
+made_with late = record {
+  limits = None;
+  rules = rules;
+  clock = record { reader_rules = record { lock_after = 1; holdover = 100 }; redundancy = of.Three; within = within_of 450; drift_us = 100; delays = late };
+  table = no_table;
+  lines = new_lines;
+  fresh = are_new;
+}
+
+-- behind the calls that it is told, the newest first: it takes the delay of its line off each rise
+told : Keeping → List Call → Keeping
+told k [] = k
+told k (Hear port rise width ∷ calls) = (let before = told k calls in after_pulse before port (corrected (rise % 2 ^ 32) (delay_at before.clock.delays port)) width)
+told k (Tick now ∷ calls) = after_tick (told k calls) (now % 2 ^ 32)
+
+-- ---- the pulses of a second as they rose at their clocks, and as they come
+
+sent : ℕ → List Call
+sent zero = []
+sent (suc k) =
+    Hear 2 (element_at edges (100 + k)) (width_of (line (100 + k)))
+    ∷ Hear 1 (element_at edges (100 + k) - 400) (width_of (line (100 + k)))
+    ∷ Hear 0 (element_at edges (100 + k) + 400) (width_of (line (100 + k)))
+    ∷ sent k
+
+unfoldable calls : List Call
+calls = sent 100
+
+come : Call → Call
+come (Hear zero rise width) = Hear 0 (rise + 3000) width
+come (Hear (suc zero) rise width) = Hear 1 (rise - 2500) width
+come (Hear (suc (suc port)) rise width) = Hear (suc (suc port)) rise width
+come (Tick now) = Tick now
+
+abbrev now : ℕ
+now = 4295502200
+
+-- what it is told of them makes the life of those pulses
+same_life : told (device_of (made_with delays)) (map come calls) ≡ life_of (made_with delays) calls
+unfolding calls sent told come width_of line frame step_of told_of frame_told coded_told ones values_of field_at control_of offset_in utc_minute is_month_end four_years
+same_life = refl
+
+-- ---- so the laws speak of it: by their clocks the lines are true
+
+order : AreInOrder 4294400000 of.Three (Tick now ∷ calls)
+unfolding calls sent width_of line frame in_order have_risen is_after
+order = order_is 4294400000 of.Three (Tick now ∷ calls) refl
+
+truth : AreTrueAtTicks (IsTrueLately 450 rules noon edges) 1 (Tick now ∷ calls)
+unfolding calls sent width_of line frame are_true_at_ticks are_true_lately are_lately last_before is_pulse_of is_same
+truth = truly_is 450 rules noon edges line is_line 200 1 (Tick now ∷ calls) refl
+
+-- the three frames end 399 us behind the edge, 401 us before it and 1 us before it. The lines agree on the
+-- last of these ends
+abbrev beat : Beat
+beat = record {
+  report = record { announce = Some (at 43202); lock = lock.Locked; cause = cause.Voted };
+  told = record silence { a = tells.Claim (claim_of 43201); b = tells.Claim (claim_of 43201); c = tells.Claim (claim_of 43201) };
+  edge_us = 532903;
+  bound_us = 450;
+  missed = 0;
+  moved = 0;
+}
+
+answer : answer_at (told (device_of (made_with delays)) (map come calls)) (now % 2 ^ 32) ≡ Some beat
+unfolding calls sent told come width_of line frame step_of told_of frame_told coded_told ones values_of field_at control_of offset_in utc_minute is_month_end four_years
+answer = refl
+
+states : (state_of (made_with delays).clock (told (device_of (made_with delays)) (Tick now ∷ map come calls)).state 0 ≡ is.Agreed)
+    × (state_of (made_with delays).clock (told (device_of (made_with delays)) (Tick now ∷ map come calls)).state 1 ≡ is.Agreed)
+    × (state_of (made_with delays).clock (told (device_of (made_with delays)) (Tick now ∷ map come calls)).state 2 ≡ is.Agreed)
+unfolding calls sent told come width_of line frame step_of told_of frame_told coded_told ones values_of field_at control_of offset_in utc_minute is_month_end four_years
+states = (refl, refl, refl)
+
+by_clocks : answer_at (life_of (made_with delays) calls) (now % 2 ^ 32) ≡ Some beat
+by_clocks = ap (λ (k : Keeping). answer_at k (now % 2 ^ 32)) (sym same_life) ∙ answer
+
+told_truly : IsToldInHoldover noon edges 0 0 450 100 100 now beat (at 43202)
+told_truly =
+    device_true None rules (made_with delays).clock no_table new_lines 4294400000 are_new (IsTrueLately 450 rules noon edges) noon edges 0 0 (record { steady = steady; sound = is_device.sound; knows = is_device.knows; short = is_device.short }) (omega arith)
+    truly_told calls now beat (at 43202) order truth by_clocks refl
+
+-- ---- a device that does not know the delays has no vote of the same pulses
+
+no_vote : vote_at (told (device_of (made_with no_delays)) (map come calls)) (now % 2 ^ 32) ≡ None
+unfolding calls sent told come width_of line frame step_of told_of frame_told coded_told ones values_of field_at control_of offset_in utc_minute is_month_end four_years
+no_vote = refl
