@@ -1,4 +1,5 @@
 pub mod SumLaws
+pub mod UnreadLaws
 pub mod LineSums
 pub mod ApartLaws
 pub mod KeptLaws

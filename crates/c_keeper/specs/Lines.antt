@@ -1,8 +1,9 @@
 -- Where the lines of a timekeeper stand, by their numbers.
-use Rattle.std.specs.Prelude.{◌≡◌, ℕ, ◌≤◌, ◌⊎◌, ◌==◌, not, false, if◌then◌else◌, List, [], ◌∷◌, Option, Some, None}
+use Rattle.std.specs.Prelude.{◌≡◌, ℕ, ◌≤◌, ◌⊎◌, ◌==◌, not, if◌then◌else◌, List, [], ◌∷◌, Option, Some, None}
 use Rattle.irig_time.specs.declared.rules.Rules.{Rules}
 use Rattle.irig_port.specs.declared.tally.Tally.{Tally}
 use Rattle.irig_port.specs.declared.limits.Limits.{Limits}
+use Rattle.irig_port.specs.declared.told.Told.TheVariants.{Silence}
 use Rattle.irig_port.specs.Limits.{tally_told_within}
 use Rattle.irig_port.specs.Tallies.{IsTallyOf}
 use Rattle.irig_timekeeper.specs.declared.lines.KeptFrame.{KeptFrame}
@@ -41,18 +42,23 @@ lines_in limits rules ls = record {
   e = line_in limits rules ls.e;
 }
 
--- a line of which only that is looked at which it keeps
-abbrev pub bare_line : Line → Line
-bare_line l = record l { seen = None; is_heard = false }
+-- a frame of which is not read what it tells
+abbrev pub unread_frame : Option KeptFrame → Option KeptFrame
+unread_frame None = None
+unread_frame (Some f) = Some (record f { told = Silence })
+
+-- a line of whose last frame, if it has no vote any more, only is read when it ended
+abbrev pub unread_line : Line → Line
+unread_line l = record l { seen = unread_frame l.seen }
 
 -- five such lines
-abbrev pub bare_lines : Lines → Lines
-bare_lines ls = record {
-  a = bare_line ls.a;
-  b = bare_line ls.b;
-  c = bare_line ls.c;
-  d = bare_line ls.d;
-  e = bare_line ls.e;
+abbrev pub unread_lines : Lines → Lines
+unread_lines ls = record {
+  a = unread_line ls.a;
+  b = unread_line ls.b;
+  c = unread_line ls.c;
+  d = unread_line ls.d;
+  e = unread_line ls.e;
 }
 
 -- the frames that they keep, and of others what they kept last

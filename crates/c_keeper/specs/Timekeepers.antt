@@ -27,7 +27,7 @@ use Rattle.c_keeper.specs.declared.announced.IrigAnnounced.{IrigAnnounced}
 use Rattle.c_keeper.specs.declared.timekeeper.IrigTimekeeper.{IrigTimekeeper}
 use Rattle.c_keeper.specs.declared.timekeeper.IrigDelays.{IrigDelays}
 use Rattle.c_keeper.specs.declared.timekeeper.IrigWires.{IrigWires}
-use Rattle.c_keeper.specs.Lines.{bare_lines, lines_in, HaveHeard, KeepNoMore}
+use Rattle.c_keeper.specs.Lines.{lines_in, unread_lines, HaveHeard, KeepNoMore}
 use Rattle.c_keeper.specs.CheckWord.{IsSealed}
 
 -- the second that was announced, if there is one
@@ -89,11 +89,9 @@ clock_state_in t = record {
   ended_before = announced_in t.ended_before;
 }
 
--- the same, but for what lines say of themselves: how long to wait does not ask for it
-abbrev pub waiting_in : IrigTimekeeper → ClockState
-waiting_in t = record (clock_state_in t) {
-  lines = bare_lines (lines_in (limits_in t.setup) (rules_in t.setup) t.lines);
-}
+-- a clock of whose lines only that is read which a vote asks for
+abbrev pub unread : ClockState → ClockState
+unread s = record s { lines = unread_lines s.lines }
 
 -- a line may be so late
 abbrev pub IsDelay : ℤ → Type 0

@@ -25,5 +25,5 @@ pub use stamp::{IrigStamp, stamp_for_c};
 pub use states::{IrigMasks, number_of};
 pub use timekeeper::{
     IrigDelays, IrigTimekeeper, IrigWires, are_wires, clock_rules_of, clock_state_of, delay_of,
-    forget, is_accepted, keep, restart, stamp_at, waiting_state_of,
+    forget, is_accepted, keep, restart, stamp_at, unread_state_of,
 };

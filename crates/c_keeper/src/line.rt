@@ -13,11 +13,11 @@ ghost use Rattle.irig_port.specs.Tallies.{IsTallyOf};
 ghost use Rattle.irig_frame.specs.Symbols.{symbol_of};
 ghost use Rattle.irig_timekeeper.specs.Keeping.{Heard, nothing_heard};
 ghost use Rattle.irig_timekeeper.specs.Steps.{line_heard, IsKeptOfUtc, IsNewLine, AreKeptOfUtc, AreNewLines};
-ghost use Rattle.c_keeper.specs.Lines.{bare_line, bare_lines, frame_in, frames_in, line_in, lines_in, numbers_at, with_numbers, HaveHeard, AreKeptFrom, IsEmptyLine, IsLineFrom, KeepNoMore};
+ghost use Rattle.c_keeper.specs.Lines.{frame_in, frames_in, line_in, lines_in, numbers_at, unread_line, unread_lines, with_numbers, HaveHeard, AreKeptFrom, IsEmptyLine, IsLineFrom, KeepNoMore};
 ghost use Rattle.c_keeper.specs.Timekeepers.{clock_in, AreWires};
 
 use crate::timekeeper::{IrigTimekeeper, steady_rules_of};
-use irig_port::{Limits, Tally};
+use irig_port::{Limits, Tally, Told};
 use irig_sync::Sync;
 use irig_time::Rules;
 use irig_timekeeper::{KeptFrame, Line, Lines, is_even};
@@ -174,33 +174,10 @@ fn frame_of(limits: Option<Limits>, rules: &Rules, line: &IrigLine) -> KeptFrame
     }
 }
 
-fn line_of(limits: Option<Limits>, rules: &Rules, line: &IrigLine) -> Line
-    ensures value { result ≡ line_in limits rules.now line.now }
-    ensures valid { IsKeptOfUtc result.frame }
-{
-    let mut frame = None;
-    let mut seen = None;
-    if line.has_frame != 0 || line.is_seen != 0 {
-        let last = frame_of(limits, rules, line);
-        if line.has_frame != 0 {
-            frame = Some(last);
-        }
-        if line.is_seen != 0 {
-            seen = Some(last);
-        }
-    }
-    Line {
-        sync: line.sync,
-        begin_us: line.begin_us,
-        frame,
-        seen,
-        is_heard: line.is_heard != 0,
-    }
-}
-
-// Without what it says of itself, if that is not read.
-fn bare_line_of(limits: Option<Limits>, rules: &Rules, line: &IrigLine) -> Line
-    ensures value { result ≡ bare_line (line_in limits rules.now line.now) }
+// Where a line stands. Of a frame that has no vote only is read when it ended.
+#[inline(never)]
+fn unread_line_of(limits: Option<Limits>, rules: &Rules, line: &IrigLine) -> Line
+    ensures value { result ≡ unread_line (line_in limits rules.now line.now) }
     ensures valid { IsKeptOfUtc result.frame }
 {
     Line {
@@ -211,28 +188,48 @@ fn bare_line_of(limits: Option<Limits>, rules: &Rules, line: &IrigLine) -> Line
         } else {
             Some(frame_of(limits, rules, line))
         },
-        seen: None,
-        is_heard: false,
+        seen: if line.is_seen == 0 {
+            None
+        } else {
+            Some(KeptFrame {
+                told: Told::Silence,
+                end_us: line.end_us,
+                is_even: line.is_uneven == 0,
+            })
+        },
+        is_heard: line.is_heard != 0,
     }
 }
 
+#[inline(never)]
+fn line_of(limits: Option<Limits>, rules: &Rules, line: &IrigLine) -> Line
+    ensures value { result ≡ line_in limits rules.now line.now }
+    ensures valid { IsKeptOfUtc result.frame }
+{
+    let mut read = unread_line_of(limits, rules, line);
+    if line.is_seen != 0 {
+        read.seen = Some(frame_of(limits, rules, line));
+    }
+    read
+}
+
 /// Where lines stand, as far as a vote asks for it: frames that have none are not read.
-pub(crate) fn bare_lines_of(limits: Option<Limits>, rules: &Rules, lines: &IrigLines) -> Lines
-    ensures { result ≡ bare_lines (lines_in limits rules.now lines.now) }
+pub(crate) fn unread_lines_of(limits: Option<Limits>, rules: &Rules, lines: &IrigLines) -> Lines
+    ensures value { result ≡ unread_lines (lines_in limits rules.now lines.now) }
+    ensures valid { AreKeptOfUtc result }
 {
     Lines {
-        a: bare_line_of(limits, rules, &lines.a),
-        b: bare_line_of(limits, rules, &lines.b),
-        c: bare_line_of(limits, rules, &lines.c),
-        d: bare_line_of(limits, rules, &lines.d),
-        e: bare_line_of(limits, rules, &lines.e),
+        a: unread_line_of(limits, rules, &lines.a),
+        b: unread_line_of(limits, rules, &lines.b),
+        c: unread_line_of(limits, rules, &lines.c),
+        d: unread_line_of(limits, rules, &lines.d),
+        e: unread_line_of(limits, rules, &lines.e),
     }
 }
 
 /// Where lines stand. What a line keeps is read here.
 pub(crate) fn lines_of(limits: Option<Limits>, rules: &Rules, lines: &IrigLines) -> Lines
-    ensures value { result ≡ lines_in limits rules.now lines.now }
-    ensures valid { AreKeptOfUtc result }
+    ensures { result ≡ lines_in limits rules.now lines.now }
 {
     Lines {
         a: line_of(limits, rules, &lines.a),
@@ -272,11 +269,12 @@ pub(crate) fn frames_of(lines: &IrigLines) -> [Tally; 5]
     ]
 }
 
-// A line as a tick leaves it, which drops a frame or keeps it.
+// A line as a tick leaves it, which drops a frame or keeps it, read or not.
 fn keep_line(line: &mut IrigLine, kept: &Line)
-    ensures line { (limits : Option Limits) (rules : Rules)
-        → IsLineFrom (line_in limits rules line.old) kept.now
-        → line_in limits rules line.new ≡ kept.now }
+    ensures line { (limits : Option Limits) (rules : Rules) (read : Line)
+        → IsLineFrom (line_in limits rules line.old) read → unread_line read ≡ kept.now
+        → line_in limits rules line.new ≡ read }
+    ensures frame { line.new.frame ≡ line.old.frame }
     ensures port { line.new.port ≡ line.old.port }
     ensures empty { IsEmptyLine line.old → IsEmptyLine line.new }
 {
@@ -292,9 +290,10 @@ fn keep_line(line: &mut IrigLine, kept: &Line)
 
 /// Lines as a tick leaves them.
 pub(crate) fn keep_lines(lines: &mut IrigLines, kept: &Lines)
-    ensures lines { (limits : Option Limits) (rules : Rules)
-        → AreKeptFrom (lines_in limits rules lines.old) kept.now
-        → lines_in limits rules lines.new ≡ kept.now }
+    ensures lines { (limits : Option Limits) (rules : Rules) (read : Lines)
+        → AreKeptFrom (lines_in limits rules lines.old) read → unread_lines read ≡ kept.now
+        → lines_in limits rules lines.new ≡ read }
+    ensures frames { frames_in lines.new ≡ frames_in lines.old }
     ensures heard { (heard : Heard) → HaveHeard lines.old heard → HaveHeard lines.new heard }
     ensures absent { (ports : ℕ) → KeepNoMore ports lines.old → KeepNoMore ports lines.new }
 {

@@ -3,9 +3,9 @@
 ghost use Rattle.std.specs.Prelude.{◌≡◌, ◌≤◌, ◌==◌, if◌then◌else◌, Some};
 ghost use Rattle.c_numbers.specs.Numbers.{sense_in};
 ghost use Rattle.c_numbers.specs.Reports.{report_in, voices_in};
-ghost use Rattle.c_numbers.specs.Setups.{redundancy_in};
+ghost use Rattle.c_numbers.specs.Setups.{limits_in, redundancy_in, rules_in};
 ghost use Rattle.c_numbers.specs.Voices.{voices_to};
-ghost use Rattle.c_keeper.specs.Lines.{frames_in};
+ghost use Rattle.c_keeper.specs.Lines.{frames_in, lines_in};
 ghost use Rattle.irig_timekeeper.specs.Clock.{AreSmall};
 ghost use Rattle.irig_timekeeper.specs.Exactness.{most_drift_us};
 ghost use Rattle.c_keeper.specs.Seconds.{against_at, IsSecondOf, IsToldOf};
@@ -13,7 +13,7 @@ ghost use Rattle.c_keeper.specs.States.{masks_of};
 
 use crate::line::frames_of;
 use crate::states::{IrigMasks, NO_LINES, masks_of};
-use crate::timekeeper::IrigTimekeeper;
+use crate::timekeeper::{IrigTimekeeper, read_lines};
 use c_numbers::{
     IrigReport, Voices, against_hold, redundancy_of, report_for_c, sense_of, voices_of,
 };
@@ -77,20 +77,23 @@ const NOTHING_TOLD: IrigSecond = IrigSecond {
 };
 
 /// What a tick answers, as C is given it, with what lines told by the frames that they kept, which of
-/// them were against what was held, and where the clock then stands.
+/// them were against what was held, and where the clock then stands, its lines read or not.
 pub fn second_of(
     timekeeper: &IrigTimekeeper,
     ticked: &Ticked,
     held: Option<UtcSecond>,
     rules: &ClockRules,
-    state: &ClockState,
+    mut state: ClockState,
 ) -> IrigSecond
     requires steady { rules.now.drift_us ≤ most_drift_us }
-    requires small { AreSmall state.now }
-    ensures strays { result.strays ≡ (if result.is_told == 0 then 0 else state.now.strays) }
-    ensures doubt { result.doubt ≡ (if result.is_told == 0 then 0 else state.now.doubt) }
+    requires small { AreSmall state }
+    ensures strays { result.strays ≡ (if result.is_told == 0 then 0 else state.strays) }
+    ensures doubt { result.doubt ≡ (if result.is_told == 0 then 0 else state.doubt) }
     ensures lines { (beat : Beat) → ticked.now.beat ≡ Some beat
-        → result.lines ≡ masks_of rules.now state.now }
+        → result.lines ≡ masks_of rules.now (record state {
+          lines = lines_in (limits_in timekeeper.now.setup) (rules_in timekeeper.now.setup)
+              timekeeper.now.lines;
+        }) }
     ensures told { IsSecondOf result ticked.now.beat }
     ensures against { (beat : Beat) → ticked.now.beat ≡ Some beat → result.report.against_hold
         ≡ against_at held beat (redundancy_in timekeeper.now.setup) }
@@ -109,7 +112,8 @@ pub fn second_of(
         &frames_of(&timekeeper.lines),
     );
     let against = against_at(held, &beat, redundancy_of(&timekeeper.setup));
-    second_for_c(&beat, &voices, against, masks_of(rules, state), state)
+    state.lines = read_lines(timekeeper);
+    second_for_c(&beat, &voices, against, masks_of(rules, &state), &state)
 }
 
 // Behind seconds that were missed nothing is said of what was held before them.

@@ -50,6 +50,8 @@ pub(crate) struct States {
     pub(crate) e: Option<LineState>,
 }
 
+// Once in the code, since five lines ask for it.
+#[inline(never)]
 fn state_if(rules: &ClockRules, state: &ClockState, port: u8) -> Option<LineState>
     requires steady { rules.now.drift_us ≤ most_drift_us }
     requires small { AreSmall state.now }
@@ -105,6 +107,7 @@ fn bit(one: LineState, other: Option<LineState>) -> u8
 }
 
 // The lines that are so.
+#[inline(never)]
 fn mask(state: LineState, states: &States) -> u8
     ensures value { result ≡ mask_of state states.now }
     ensures few { result ≤ 31 }

@@ -9,24 +9,27 @@ ghost use Rattle.irig_reader.specs.Rule.{count_of};
 ghost use Rattle.irig_timekeeper.specs.Clock.{AnnouncedOfUtc, AreSmall};
 ghost use Rattle.irig_timekeeper.specs.Keeping.{Heard, new_state, nothing_heard};
 ghost use Rattle.irig_timekeeper.specs.Stamps.{stamp_of};
+ghost use Rattle.irig_timekeeper.specs.declared.lines.Lines.{Lines};
 ghost use Rattle.irig_timekeeper.specs.Steps.{AreKeptOfUtc, AreNewLines};
 ghost use Rattle.c_numbers.specs.CheckWord.{setup_numbers, table_numbers, weighted};
 ghost use Rattle.c_numbers.specs.Setups.{rules_in, limits_in, reader_rules_in, redundancy_in, IsSetup};
 ghost use Rattle.c_numbers.specs.States.{state_in, IsState};
-ghost use Rattle.c_keeper.specs.Lines.{lines_in, AreKeptFrom, HaveHeard, KeepNoMore};
+ghost use Rattle.c_keeper.specs.Lines.{frames_in, lines_in, unread_lines, AreKeptFrom, HaveHeard, KeepNoMore};
 ghost use Rattle.c_numbers.specs.declared.state.TheConstants.{IDLE};
 ghost use Rattle.c_keeper.specs.CheckWord.{IsSealed};
 ghost use Rattle.irig_timekeeper.specs.Delays.{delay_at};
 ghost use Rattle.irig_timekeeper.specs.Exactness.{most_drift_us, most_vote_us};
 ghost use Rattle.irig_timekeeper.specs.Intervals.{IsShort};
 ghost use Rattle.irig_timekeeper.specs.Refusals.{clock_fault};
-ghost use Rattle.c_keeper.specs.Timekeepers.{announced_in, clock_in, clock_state_in, delays_in, edge_in, interval_in, waiting_in, AreDelays, AreWires, HasShortInterval, IsAccepted, IsAnnounced, IsDelay, IsSmall};
+ghost use Rattle.c_keeper.specs.Timekeepers.{announced_in, clock_in, clock_state_in, delays_in, edge_in, interval_in, unread, AreDelays, AreWires, HasShortInterval, IsAccepted, IsAnnounced, IsDelay, IsSmall};
 
 use crate::announced::{
     IrigAnnounced, NOTHING_ANNOUNCED, announced_for_c, announced_of, is_announced,
 };
 use crate::check_word::{changing_sum, check_of};
-use crate::line::{IrigLines, bare_lines_of, keep_lines, keep_no_more, lines_of, lines_of_nothing};
+use crate::line::{
+    IrigLines, keep_lines, keep_no_more, lines_of, lines_of_nothing, unread_lines_of,
+};
 use c_numbers::{
     IDLE, IrigSetup, IrigState, IrigTable, is_setup, limits_of, reader_rules_of, redundancy_of,
     rules_of, state_for_c, state_of,
@@ -232,6 +235,16 @@ pub fn is_accepted(fixed: u64, timekeeper: &IrigTimekeeper) -> bool
 pub fn clock_state_of(timekeeper: &IrigTimekeeper) -> ClockState
     requires { IsAccepted timekeeper.now }
     ensures is { result ≡ clock_state_in timekeeper.now }
+    ensures ended { AreSmall result }
+{
+    state_with(timekeeper, read_lines(timekeeper))
+}
+
+/// The same, but for what frames tell that have no vote, which is not read: neither a vote nor how long
+/// to wait asks for it.
+pub fn unread_state_of(timekeeper: &IrigTimekeeper) -> ClockState
+    requires { IsAccepted timekeeper.now }
+    ensures is { result ≡ unread (clock_state_in timekeeper.now) }
     ensures counting { count_of result.reader < timekeeper.now.setup.lock_after }
     ensures small { result.bound_us ≤ most_vote_us }
     ensures known { IsShort result.interval }
@@ -240,19 +253,20 @@ pub fn clock_state_of(timekeeper: &IrigTimekeeper) -> ClockState
     ensures announced { AnnouncedOfUtc result }
 {
     let limits = limits_of(&timekeeper.setup);
-    let lines = lines_of(limits, &rules_of(&timekeeper.setup), &timekeeper.lines);
+    let lines = unread_lines_of(limits, &rules_of(&timekeeper.setup), &timekeeper.lines);
     state_with(timekeeper, lines)
 }
 
-/// The same, but for what lines say of themselves, which is not read: how long to wait does not ask for
-/// it.
-pub fn waiting_state_of(timekeeper: &IrigTimekeeper) -> ClockState
-    requires { IsAccepted timekeeper.now }
-    ensures { result ≡ waiting_in timekeeper.now }
+/// Where its lines stand.
+pub fn read_lines(timekeeper: &IrigTimekeeper) -> Lines
+    ensures { result ≡ lines_in (limits_in timekeeper.now.setup) (rules_in timekeeper.now.setup)
+        timekeeper.now.lines }
 {
-    let limits = limits_of(&timekeeper.setup);
-    let lines = bare_lines_of(limits, &rules_of(&timekeeper.setup), &timekeeper.lines);
-    state_with(timekeeper, lines)
+    lines_of(
+        limits_of(&timekeeper.setup),
+        &rules_of(&timekeeper.setup),
+        &timekeeper.lines,
+    )
 }
 
 fn state_with(timekeeper: &IrigTimekeeper, lines: Lines) -> ClockState
@@ -378,12 +392,12 @@ pub fn stamp_at(timekeeper: &IrigTimekeeper, time_us: u32) -> Option<Stamp>
 
 /// Takes up where a tick leaves its clock. The check word stays.
 pub fn keep(timekeeper: &mut IrigTimekeeper, state: &ClockState)
-    requires kept { AreKeptFrom (lines_in (limits_in timekeeper.old.setup)
-        (rules_in timekeeper.old.setup) timekeeper.old.lines)
-        state.now.lines }
     requires counting { count_of state.now.reader < timekeeper.old.setup.lock_after }
     requires small { state.now.bound_us ≤ most_vote_us }
-    ensures state { clock_state_in timekeeper.new ≡ state.now }
+    ensures lines { (read : Lines) → AreKeptFrom (clock_state_in timekeeper.old).lines read
+        → unread_lines read ≡ state.now.lines → (clock_state_in timekeeper.new).lines ≡ read }
+    ensures rest { record (clock_state_in timekeeper.new) { lines = state.now.lines } ≡ state.now }
+    ensures frames { frames_in timekeeper.new.lines ≡ frames_in timekeeper.old.lines }
     ensures heard { (heard : Heard) → HaveHeard timekeeper.old.lines heard
         → HaveHeard timekeeper.new.lines heard }
     ensures is_state { IsState timekeeper.new.setup.lock_after timekeeper.new.state }

@@ -51,7 +51,7 @@ use crate::line::NO_PORT;
 use c_keeper::{
     IrigLineSaid, IrigSecond, IrigStamp, IrigTimekeeper, IrigWires, are_wires, check_of,
     clock_rules_of, clock_state_of, delay_of, forget, hear, is_accepted, keep, line_at, restart,
-    said_of, second_of, set_line, stamp_at, stamp_for_c, waiting_state_of,
+    said_of, second_of, set_line, stamp_at, stamp_for_c, unread_state_of,
 };
 use c_numbers::{
     IrigSetup, IrigTable, OUT_OF_RANGE, fixed_sum, has_kinds, held_by, is_port, is_setup,
@@ -390,12 +390,11 @@ fn tick_accepted(timekeeper: &mut IrigTimekeeper, now_us: u32) -> IrigSecond
         → result.lines ≡ masks_of (clock_in timekeeper.old) (clock_state_in timekeeper.new) }
 {
     let rules = clock_rules_of(timekeeper);
-    let mut state = clock_state_of(timekeeper);
+    let mut state = unread_state_of(timekeeper);
     let held = held_by(&state.reader);
     let ticked = tick(&rules, &timekeeper.table, &mut state, now_us);
-    let second = second_of(timekeeper, &ticked, held, &rules, &state);
     keep(timekeeper, &state);
-    second
+    second_of(timekeeper, &ticked, held, &rules, state)
 }
 
 /// How long until a tick has something to do, in microseconds, if no call comes before it; 0 where a
@@ -440,7 +439,7 @@ pub extern "C" fn irig_c_timekeeper_wait(timekeeper: &IrigTimekeeper, now_us: u3
     if !is_accepted(fixed, timekeeper) {
         return 0;
     }
-    let state = waiting_state_of(timekeeper);
+    let state = unread_state_of(timekeeper);
     wait_of(&clock_rules_of(timekeeper), &state, now_us)
 }
 

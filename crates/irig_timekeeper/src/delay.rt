@@ -25,6 +25,7 @@ pub const NO_DELAYS: Delays = Delays {
     e: 0,
 };
 
+/// How late the line of a port is, 0 to 4, in microseconds.
 pub fn delay_at(delays: &Delays, port: u8) -> i16
     ensures { result ≡ delay_at delays.now port }
 {

@@ -102,6 +102,7 @@ pub fn lines_of_nothing() -> Lines
     }
 }
 
+/// The line of a port, 0 to 4.
 pub fn line_at(lines: Lines, port: u8) -> Line
     ensures { result ≡ line_at lines port }
 {
@@ -114,6 +115,7 @@ pub fn line_at(lines: Lines, port: u8) -> Line
     }
 }
 
+/// The lines, with this one at a port, 0 to 4.
 pub fn with_line(lines: Lines, port: u8, line: Line) -> Lines
     ensures { result ≡ with_line lines port line }
 {

@@ -5,7 +5,7 @@ use Rattle.c_numbers.specs.States.{state_in, IsState}
 use Rattle.c_numbers.specs.Setups.{limits_in, rules_in}
 use Rattle.c_keeper.specs.declared.line.IrigLines.{IrigLines}
 use Rattle.c_keeper.specs.declared.timekeeper.IrigTimekeeper.{IrigTimekeeper}
-use Rattle.c_keeper.specs.Lines.{lines_in, KeepNoMore}
+use Rattle.c_keeper.specs.Lines.{frames_in, lines_in, KeepNoMore}
 use Rattle.c_keeper.specs.Timekeepers.{edge_in}
 use Rattle.c_keeper.proofs.timekeeper.keep.Goals as goal
 
@@ -22,22 +22,32 @@ returns-clause-absent c ports h =
     subst (λ (ls : IrigLines). KeepNoMore ports ls) (sym (ap (λ (t : IrigTimekeeper). t.lines) c.set_interval.ensures.others ∙ ap (λ (t : IrigTimekeeper). t.lines) c.set_edge.ensures.others))
     (c.keep_lines.ensures.absent ports h)
 
-pub returns-clause-state : goal.returns-clause-state
-returns-clause-state c =
+pub returns-clause-lines : goal.returns-clause-lines
+returns-clause-lines c read kept is =
     let others = c.set_edge.ensures.others in
     let others_then = c.set_interval.ensures.others in
     let q = c.set_interval.new.timekeeper in
     let setup = c.args.timekeeper.now.setup in
     let same_setup : q.setup ≡ setup = ap (λ (t : IrigTimekeeper). t.setup) others_then ∙ ap (λ (t : IrigTimekeeper). t.setup) others in
     let same_lines : q.lines ≡ c.keep_lines.new.lines = ap (λ (t : IrigTimekeeper). t.lines) others_then ∙ ap (λ (t : IrigTimekeeper). t.lines) others in
-    let lines = ap (λ (s : IrigSetup). lines_in (limits_in s) (rules_in s) q.lines) same_setup
-    ∙ (ap (λ (ls : IrigLines). lines_in (limits_in setup) (rules_in setup) ls) same_lines ∙ c.keep_lines.ensures.lines (limits_in setup) (rules_in setup) c.requires.kept) in
-    let same_state : q.state ≡ c.state_for_c-timekeeper.result = ap (λ (t : IrigTimekeeper). t.state) others_then ∙ ap (λ (t : IrigTimekeeper). t.state) others in
+    ap (λ (s : IrigSetup). lines_in (limits_in s) (rules_in s) q.lines) same_setup
+    ∙ (ap (λ (ls : IrigLines). lines_in (limits_in setup) (rules_in setup) ls) same_lines ∙ c.keep_lines.ensures.lines (limits_in setup) (rules_in setup) read kept is)
+
+pub returns-clause-frames : goal.returns-clause-frames
+returns-clause-frames c =
+    ap (λ (t : IrigTimekeeper). frames_in t.lines) c.set_interval.ensures.others
+    ∙ (ap (λ (t : IrigTimekeeper). frames_in t.lines) c.set_edge.ensures.others ∙ c.keep_lines.ensures.frames)
+
+pub returns-clause-rest : goal.returns-clause-rest
+returns-clause-rest c =
+    let others = c.set_edge.ensures.others in
+    let others_then = c.set_interval.ensures.others in
+    let same_state = ap (λ (t : IrigTimekeeper). t.state) others_then ∙ ap (λ (t : IrigTimekeeper). t.state) others in
     let reader = ap state_in same_state ∙ c.state_for_c-timekeeper.ensures.is in
     let edge = ap edge_in others_then ∙ c.set_edge.ensures.edge in
-    let bound : q.bound_us ≡ c.args.state.now.bound_us = omega (arith, ap (λ (t : IrigTimekeeper). t.bound_us) others_then, c.requires.small) in
+    let bound : c.set_interval.new.timekeeper.bound_us ≡ c.args.state.now.bound_us = omega (arith, ap (λ (t : IrigTimekeeper). t.bound_us) others_then, c.requires.small) in
     λ i. record {
-      lines = lines i;
+      lines = c.args.state.now.lines;
       reader = reader i;
       edge_us = edge i;
       bound_us = bound i;
