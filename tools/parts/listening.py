@@ -6,6 +6,7 @@ from collections import Counter
 from dataclasses import dataclass
 from functools import lru_cache, partial
 from itertools import product
+from statistics import fmean, median
 from typing import Callable, Dict, Iterable, Iterator, List, Optional, Sequence, Set, Tuple
 
 from irig import (
@@ -14,11 +15,13 @@ from irig import (
 from irig.words import Sense
 
 from parts.changes import END, Change
+from parts.pace import ELEMENT_US, SECOND_US, LinesTime, pace_of
 
-ELEMENT_US, SECOND_US = 10_000, 1_000_000
 KEPT_US = 100_000  # how long behind its end a timekeeper keeps a frame
 AGREE_US = 1_000  # a frame that ends so near to an edge is of it
 BEHIND_US = 5_000  # how long behind a recording's end it is still ticked
+FIRST_US = 8_000_000  # for so long behind its first whole frame a recording is looked at beforehand
+LATELY_US = 1_500_000  # a line whose last frame ended within this says how fast the recorder's clock runs
 WORD = 1 << 32  # at which its counter wraps
 MOST_EARLY = 300  # pulses that are kept of a line's beginning
 NEVER = float("inf")
@@ -83,6 +86,7 @@ class View:
         self.hears: List[Callable[[int, int], int]] = [Sync().pulse]  # what says a pulse's place
         self.heard: List[Tuple[int, int]] = []  # rises and widths, in step since a frame began
         self.whole: List[Tuple[int, int]] = []  # those of the last frame
+        self.pace = 1.0  # how many microseconds of the recorder one of that frame takes
         self.rise = self.last_rise = -NEVER
         self.early: List[Tuple[float, int]] = []  # the first rises and widths, of a short recording all
         self.pulses = self.frames = self.out_of_step = self.begun = self.on_time = 0
@@ -113,6 +117,7 @@ class View:
             self.heard.append((rise, width))
         if place == 100:
             self.whole, self.heard = self.heard, []
+            self.pace = pace_of(self.whole)
         return place == 100
 
     def _note(self, place: int, width: int, gap: float) -> None:
@@ -173,7 +178,7 @@ class Line:
     def frame_end(self) -> float:
         """Where the last whole frame ends."""
         whole = self.view.whole
-        return whole[-1][0] + ELEMENT_US if whole else -NEVER
+        return whole[-1][0] + ELEMENT_US * self.view.pace if whole else -NEVER
 
     def change(self, time: float, level: int) -> bool:
         """A change of the level; whether a frame ends with it."""
@@ -208,10 +213,10 @@ class Line:
         if self.shifted is None and Control.unpack(coded.control).offset_half_hours:
             self.shifted = coded
 
-    def heard(self, now: int) -> Tuple[List[int], Told]:
+    def heard(self, now: float) -> Tuple[List[int], Told]:
         """The widths that its ports have at a tick, and what they tell: the frame that a timekeeper
         keeps, or the beginning of one."""
-        if self.frame_end >= now - KEPT_US:
+        if self.frame_end >= now - KEPT_US * self.view.pace:
             return [width for _, width in self.view.whole], self.told
         heard = self.view.heard
         is_new = bool(heard) and heard[-1][0] > now - SECOND_US
@@ -230,10 +235,27 @@ class Tick:
     heard: List[List[int]]
 
 
-class Device:
-    """A timekeeper with a line to each port, ticked as `c/examples/capture.c` does it."""
+def first_pace(changes: Iterable[Change], lines: Sequence[Line]) -> float:
+    """How many microseconds of the recorder one of most lines takes when they begin. Of the lines nothing
+    else is asked."""
+    paces: Dict[int, List[float]] = {}
+    end = NEVER
+    for line in lines:
+        line.ports.append(Sync().pulse)
+    for time, number, level in changes:
+        if number == END or time > end:
+            break
+        if lines[number].change(time, level):
+            paces.setdefault(number, []).append(lines[number].view.pace)
+            end = min(end, time + FIRST_US)
+    return median(map(fmean, paces.values())) if paces else 1.0
 
-    def __init__(self, keeper: Timekeeper, ports: Sequence[Line]) -> None:
+
+class Device:
+    """A timekeeper with a line to each port, ticked as `c/examples/capture.c` does it. Its counter has the
+    time of the lines, whose first pace by the recorder is known."""
+
+    def __init__(self, keeper: Timekeeper, ports: Sequence[Line], pace: float) -> None:
         self.ports = ports
         self.lines = list(dict.fromkeys(ports))
         self.count = 0
@@ -242,35 +264,49 @@ class Device:
         self.end = 0.0  # of the recording
         self.apart = 0.0  # how far frames that ended near an edge were apart at most
         self._keeper = keeper
-        self._due = -NEVER  # at which the recording begins
+        self._counter = LinesTime(pace)
+        self._due = 0  # by the counter
+        self._due_at = -NEVER  # by the recorder; at which the recording begins
         for number, line in enumerate(ports):
-            line.ports.append(partial(keeper.hear, number))
+            line.ports.append(partial(self._hear, number))
 
     def ticks(self, changes: Iterable[Change]) -> Iterator[Tick]:
         """Each tick at which a second begins."""
         for time, number, level in changes:
-            if self._due <= time:
+            if self._due_at <= time:
                 yield from self._until(time)
             if number == END:
                 self.end = time
                 yield from self._until(time + BEHIND_US)
             elif self.lines[number].change(time, level):
-                self._ask(round(time))
+                self._follow(round(time))
+                self._ask(round(self._counter.at(time)))
 
-    def _ask(self, now: int) -> None:
-        self._due = now + self._keeper.wait(now)
+    def _hear(self, port: int, rise: int, width: int) -> int:
+        return self._keeper.hear(port, round(self._counter.at(rise)), width)
+
+    def _follow(self, now: int) -> None:
+        paces = [line.view.pace for line in self.lines if line.frame_end > now - LATELY_US]
+        if paces:  # the last pulse of a frame may have been stuck for seconds
+            self._counter.follow(now, paces)
+
+    def _ask(self, count: int) -> None:
+        """Pulses were told up to this count."""
+        self._due = count + self._keeper.wait(count)
+        self._due_at = self._counter.back(self._due)
 
     def _until(self, end: float) -> Iterator[Tick]:
-        if self._due == -NEVER:
-            self._ask(round(end))
-        while self._due <= end:
-            now = int(self._due)
-            beat = self._keeper.tick(now)
+        if self._due_at == -NEVER:
+            self._ask(round(self._counter.at(end)))
+        while self._due_at <= end:
+            count, now = self._due, self._due_at
+            beat = self._keeper.tick(count)
             if beat:
-                yield self._tick(now, now - (now - beat.edge_us) % WORD, beat.report.agreed)
-            self._ask(now)
+                edge = self._counter.back(count - (count - beat.edge_us) % WORD)
+                yield self._tick(now, round(edge), beat.report.agreed)
+            self._ask(count)
 
-    def _tick(self, now: int, edge: int, agreed: Tuple[int, ...]) -> Tick:
+    def _tick(self, now: float, edge: int, agreed: Tuple[int, ...]) -> Tick:
         ends = [line.frame_end for line in self.lines if abs(line.frame_end - edge) <= AGREE_US]
         self.apart = max(self.apart, max(ends, default=0) - min(ends, default=0))
         heard = [line.heard(now) for line in self.ports]
@@ -290,8 +326,9 @@ class Device:
     def _compare(self, line: Line, edge: int, claim: Claim) -> None:
         """Compares the last frame of a line with the claim of an edge, if it is of that second. One that is
         late by a part of a second is of the second before."""
-        behind = round((line.frame_end - edge) / SECOND_US) if line.frame_end > edge - 2 * SECOND_US else -2
-        late = line.frame_end - edge - behind * SECOND_US
+        second = SECOND_US * self._counter.pace
+        behind = round((line.frame_end - edge) / second) if line.frame_end > edge - 2 * second else -2
+        late = line.frame_end - edge - behind * second
         is_near = abs(late) <= AGREE_US
         if behind < -1 or (behind and is_near):
             return

@@ -9,7 +9,8 @@ from itertools import product
 from typing import Collection, Dict, Iterator, List, NamedTuple, Optional, Sequence, Set, Tuple
 
 from parts.changes import Stamp
-from parts.listening import AGREE_US, ELEMENT_US, SECOND_US, Line, symbol_of
+from parts.listening import AGREE_US, Line, symbol_of
+from parts.pace import ELEMENT_US, SECOND_US
 
 from irig import Fault, Leap, Second, frame
 from irig.seconds import DAY, LAST_DAY, day_number, day_text, is_month_end

@@ -127,6 +127,12 @@ class Wave:
             yield -(-end // every_us) - -(-begin // every_us), levels
 
 
+def scaled(lines: Wave, parts: int) -> Wave:
+    """Lines by a recorder that has so many microseconds in a second."""
+    changed = lines.of(lambda change: [(change[0] * parts // 1_000_000, *change[1:])])
+    return replace(changed, end=lines.end * parts // 1_000_000)
+
+
 def wave_of_text(text: str, count: int = 3) -> Wave:
     """The lines of a scenario's first reader."""
     seconds = waves.seconds_of(text)
@@ -332,20 +338,27 @@ class Forms(InAFolder):
 class Recorders(unittest.TestCase):
     """Bad recorders, by seeds: the log is still that of the scenario."""
 
-    def alike(self, lines: Wave) -> str:
-        text, said = captured_wave(lines, "--reader=relay,2,3600")
-        self.assertEqual(log_of(text), wanted_of("leap_inserted"))
+    def alike(self, lines: Wave, name: str = "leap_inserted") -> str:
+        reader = trips_of(name)[0].reader
+        text, said = captured_wave(lines, "--reader={name},{lock_after},{holdover}".format_map(reader))
+        self.assertEqual(log_of(text), wanted_of(name))
         return said
 
     def test_a_clock_that_is_off(self) -> None:
-        for parts, said_so in ((1_000_800, "800.0 ppm longer"), (999_900, "100.0 ppm shorter")):
-            lines = wave_of("leap_inserted").of(
-                lambda change: [(change[0] * parts // 1_000_000, *change[1:])]
-            )
-            lines = replace(lines, end=lines.end * parts // 1_000_000)
-            said = self.alike(lines)
+        """The ticks stand where the edges are in the recording: that of tick 14 at 14.05 s times 1.005."""
+        for parts, said_so, ends in (
+            (1_005_000, "5000.0 ppm longer", "1.055 s of the recording, tick 14 at 14.120 s"),
+            (995_000, "5000.0 ppm shorter", "1.045 s of the recording, tick 14 at 13.980 s"),
+            (999_900, "100.0 ppm shorter", "1.050 s of the recording, tick 14 at 14.049 s"),
+        ):
+            said = self.alike(scaled(wave_of("leap_inserted"), parts))
             self.assertIn(f"a second is {said_so} than one of the recorder", said)
+            self.assertIn(f"14 ticks: tick 1 is at {ends}; ", said)
             self.assertIn("0.000 s of the recording is 2016-12-31T23:59:49.950Z, by 3 of 3", said)
+
+    def test_a_clock_that_is_off_in_the_dark(self) -> None:
+        """By it an hour without lines lasts 3,618 s. Its seconds are as long as those of the lines before."""
+        self.alike(scaled(wave_of("dark_hour"), 1_005_000), "dark_hour")
 
     def test_a_clock_that_mends_itself_between_frames(self) -> None:
         """Its pulses are 10 ms apart, but 50 us more lie between two frames: 50 in a million."""
@@ -491,12 +504,42 @@ class Edges(InAFolder):
         """The frames at 350 and 700 us agree, and so do those at 0 and 350 us, earlier."""
         self.assertEqual(self.ticks(self.clocks(7, (0, 350, 700))), self.each(1_050_350, 7))
 
+    def near(self, lines: Wave, edges: Sequence[float]) -> None:
+        """Lines agree at each tick, and it stands within 3 us of its edge."""
+        found = self.ticks(lines)
+        self.assertEqual([is_voted for _, is_voted in found], [True] * len(edges))
+        off = [tick - edge for (tick, _), edge in zip(found, edges)]
+        self.assertLessEqual(max(map(abs, off)), 3)
+
+    def test_a_line_with_a_second_of_its_own(self) -> None:
+        """The recorder is right. G0 is 0.5 % too fast, and its first frame ends before the others'."""
+        lines = self.clocks(7, (0, 0, 0))
+        lines = lines.line(0, lambda change: [(change[0] * 995 // 1000, *change[1:])])
+        self.near(lines, [1e6 * number + 1_050_000 for number in range(7)])
+
+    def test_a_clock_that_changes(self) -> None:
+        """Its second is 5,000 us too long at first, and 8 us less with each second."""
+
+        def by_it(time: int) -> int:
+            return round(time * 1.005 - 4 * (time / 1e6) ** 2)
+
+        lines = self.clocks(250, (0, 0, 0))
+        lines = lines.of(lambda change: [(by_it(change[0]), *change[1:])])
+        self.near(replace(lines, end=by_it(lines.end)), [by_it(1_050_000 + 1_000_000 * n) for n in range(250)])
+
     def test_a_frame_that_is_not_kept(self) -> None:
         """G1 ends each half a second late, and is lost behind the second one."""
         lines = self.clocks(6, (0, 500_000, 0))
         lines = lines.line(1, lambda change: [change] * (change[0] < 2_550_000))
         log = [" 2 relay ok fault:1:Short:50 ok", " 3 relay ok silence ok"]
         self.assertEqual(log_of(captured_wave(lines)[0])[3:7:2], log)
+
+    def test_pulses_that_are_stuck(self) -> None:
+        """The last pulse of the first frames lasts for two seconds, so that no port hears it. The first whole
+        frames behind it end at 4.05 s."""
+        lines = self.clocks(6, (0, 0, 0))
+        lines = lines.of(lambda change: [change] * (change[0] <= 1_040_000 or change[0] > 3_045_000))
+        self.assertEqual(self.ticks(lines), self.each(4_050_000, 3))
 
     def test_frames_too_far_apart(self) -> None:
         """G1, between two lines that are 1.2 ms apart, is lost after three seconds."""
@@ -704,6 +747,12 @@ class Words(InAFolder):
         for leap in "2016-12-31:never", "2017-01-01":
             self.assertIn("is not DAY or DAY:delete", self.refused(path, f"--leap={leap}"))
         self.assertIn("No such file", self.refused(self.folder / "none.vcd"))
+
+    def test_a_long_holdover(self) -> None:
+        """It may be longer than that of any timekeeper whose counter is 100 parts in a million off."""
+        text, _ = captured_wave(wave_of("plain_minute"), "--reader=relay,2,1000000")
+        self.assertIn('"holdover":1000000', text.split("\n")[0])
+        self.assertEqual(from_first_vote(log_of(text)), from_first_vote(wanted_of("plain_minute")))
 
     def test_without_the_libraries(self) -> None:
         for name in ("tools/capture", "tools/parts", "python/irig"):

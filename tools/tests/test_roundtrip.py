@@ -202,11 +202,9 @@ class Recorder:
 
 
 def recorders(seed: int, name: str) -> dict[str, Recorder]:
-    """Two of them. By a clock that is more than 100 parts in a million off frames are uneven, and where
-    lines are dark for a minute one that is farther off ticks before a frame has ended."""
-    by = random.Random(seed)
-    is_dark = name.startswith(("month_end", "misled_by_table"))
-    parts = by.choice((-1, 1)) * (40 if is_dark else by.randint(40, 100))
+    """Two of them."""
+    by = random.Random(f"{seed} {name}")
+    parts = by.choice((-1, 1)) * by.randint(100, 5000)
     return {
         "jitter, glitches and its clock": Recorder(by, 450, parts, glitches=30),
         "jitter, its clock and samples at 2 kHz": Recorder(by, 200, parts, every_us=500),
