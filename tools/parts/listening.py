@@ -18,7 +18,8 @@ from parts.changes import END, Change
 from parts.pace import ELEMENT_US, SECOND_US, LinesTime, pace_of
 
 KEPT_US = 100_000  # how long behind its end a timekeeper keeps a frame
-AGREE_US = 1_000  # a frame that ends so near to an edge is of it
+AGREE_US = 1_000  # a frame that ends so near to an edge is of it, if lines are as inexact as they may be
+MOST_EXACT_US = 450
 BEHIND_US = 5_000  # how long behind a recording's end it is still ticked
 FIRST_US = 8_000_000  # for so long behind its first whole frame a recording is looked at beforehand
 LATELY_US = 1_500_000  # a line whose last frame ended within this says how fast the recorder's clock runs
@@ -150,10 +151,10 @@ class View:
 class Line:
     """A line with its polarity, as soon as a frame has shown it: pulses rise each 10 ms, and do not
     end so, so that no frame is found with the other one. Its ports are told of it from that frame
-    on. The reader says what a frame tells."""
+    on. The reader says what a frame tells. All its pulses come so many microseconds late."""
 
-    def __init__(self, name: str, polarity: str, ear: Reader) -> None:
-        self.name = name
+    def __init__(self, name: str, polarity: str, ear: Reader, delay: int = 0) -> None:
+        self.name, self.delay = name, delay
         highs = {"normal": (1,), "inverted": (0,)}.get(polarity, (1, 0))
         self.views = [View(high) for high in highs]
         self.ports: List[Callable[[int, int], int]] = []
@@ -176,9 +177,14 @@ class Line:
 
     @property
     def frame_end(self) -> float:
-        """Where the last whole frame ends."""
+        """Where the last whole frame ends, without its delay."""
         whole = self.view.whole
-        return whole[-1][0] + ELEMENT_US * self.view.pace if whole else -NEVER
+        return whole[-1][0] + (ELEMENT_US - self.delay) * self.view.pace if whole else -NEVER
+
+    @property
+    def early(self) -> List[Tuple[float, int]]:
+        """Its first pulses without their delay."""
+        return [(rise - self.delay, width) for rise, width in self.view.early]
 
     def change(self, time: float, level: int) -> bool:
         """A change of the level; whether a frame ends with it."""
@@ -252,8 +258,9 @@ def first_pace(changes: Iterable[Change], lines: Sequence[Line]) -> float:
 
 
 class Device:
-    """A timekeeper with a line to each port, ticked as `c/examples/capture.c` does it. Its counter has the
-    time of the lines, whose first pace by the recorder is known."""
+    """A timekeeper with a line to each port, ticked as `c/examples/capture.c` does it, but as much later as
+    the line with the longest delay is. Its counter has the time of the lines, whose first pace by the
+    recorder is known."""
 
     def __init__(self, keeper: Timekeeper, ports: Sequence[Line], pace: float) -> None:
         self.ports = ports
@@ -263,6 +270,9 @@ class Device:
         self.last: Optional[Tick] = None
         self.end = 0.0  # of the recording
         self.apart = 0.0  # how far frames that ended near an edge were apart at most
+        self.exact = keeper.within_us
+        self._near = AGREE_US * self.exact / MOST_EXACT_US
+        self._wait = max(0, *(line.delay for line in ports))
         self._keeper = keeper
         self._counter = LinesTime(pace)
         self._due = 0  # by the counter
@@ -273,14 +283,15 @@ class Device:
     def ticks(self, changes: Iterable[Change]) -> Iterator[Tick]:
         """Each tick at which a second begins."""
         for time, number, level in changes:
-            if self._due_at <= time:
-                yield from self._until(time)
+            now = time - self._wait
+            if self._due_at <= now:
+                yield from self._until(now)
             if number == END:
                 self.end = time
                 yield from self._until(time + BEHIND_US)
             elif self.lines[number].change(time, level):
                 self._follow(round(time))
-                self._ask(round(self._counter.at(time)))
+                self._ask(round(self._counter.at(now)))
 
     def _hear(self, port: int, rise: int, width: int) -> int:
         return self._keeper.hear(port, round(self._counter.at(rise)), width)
@@ -307,7 +318,7 @@ class Device:
             self._ask(count)
 
     def _tick(self, now: float, edge: int, agreed: Tuple[int, ...]) -> Tick:
-        ends = [line.frame_end for line in self.lines if abs(line.frame_end - edge) <= AGREE_US]
+        ends = [line.frame_end for line in self.lines if abs(line.frame_end - edge) <= self._near]
         self.apart = max(self.apart, max(ends, default=0) - min(ends, default=0))
         heard = [line.heard(now) for line in self.ports]
         most, count = Counter(told for _, told in heard).most_common(1)[0]
@@ -329,7 +340,7 @@ class Device:
         second = SECOND_US * self._counter.pace
         behind = round((line.frame_end - edge) / second) if line.frame_end > edge - 2 * second else -2
         late = line.frame_end - edge - behind * second
-        is_near = abs(late) <= AGREE_US
+        is_near = abs(late) <= self._near
         if behind < -1 or (behind and is_near):
             return
         line.near += is_near

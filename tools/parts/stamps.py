@@ -192,7 +192,7 @@ def short_verdict(ports: Sequence[Line], search: Search) -> Iterator[str]:
     heard: Dict[Line, str] = {}
     tries: Set[str] = set()
     for line in dict.fromkeys(ports):
-        seen = _seen(line.view.early)
+        seen = _seen(line.early)
         zeros = _fitting(seen, search) if seen else []
         if seen and _is_poor(seen):
             heard[line] = f"{line.name} says itself that its clock is off by a second or more"
@@ -235,7 +235,7 @@ def reckoned(
     zeros = [Zero.behind(start, -before_us, of, days) for of in leaps]
     votes = [0] * len(zeros)
     for line in ports:
-        seen = _seen(line.view.early)
+        seen = _seen(line.early)
         begins = seen.begins_us * SECOND_US / line.view.second if seen else 0.0
         fitting = [place for place, one in enumerate(zeros) if seen and _fits(
             seen, one.second.plus(round((one.after_us + begins) / SECOND_US), one.leaps), one.leaps, reading)]

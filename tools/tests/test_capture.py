@@ -490,11 +490,11 @@ class Edges(InAFolder):
         text = ONE_CLOCK_AHEAD.replace('"n":3', f'"n":{seconds - 4}').replace(":18", ":0")
         return wave_of_text(text).of(lambda change: [(change[0] + late[change[1]], *change[1:])])
 
-    def ticks(self, lines: Wave) -> list[tuple[int, bool]]:
+    def ticks(self, lines: Wave, *words: str) -> list[tuple[int, bool]]:
         """The time of each tick, and whether lines agree on it."""
         as_table(lines, self.folder / "lines.csv")
-        words = TOOL.command().parse_args([str(self.folder / "lines.csv")])
-        return [(tick.edge, tick.claim is not None) for tick in TOOL.listened(words)[1]]
+        told = TOOL.command().parse_args([str(self.folder / "lines.csv"), *words])
+        return [(tick.edge, tick.claim is not None) for tick in TOOL.listened(told)[1]]
 
     @staticmethod
     def each(first: int, count: int, is_voted: bool = True) -> list[tuple[int, bool]]:
@@ -504,9 +504,9 @@ class Edges(InAFolder):
         """The frames at 350 and 700 us agree, and so do those at 0 and 350 us, earlier."""
         self.assertEqual(self.ticks(self.clocks(7, (0, 350, 700))), self.each(1_050_350, 7))
 
-    def near(self, lines: Wave, edges: Sequence[float]) -> None:
+    def near(self, lines: Wave, edges: Sequence[float], *words: str) -> None:
         """Lines agree at each tick, and it stands within 3 us of its edge."""
-        found = self.ticks(lines)
+        found = self.ticks(lines, *words)
         self.assertEqual([is_voted for _, is_voted in found], [True] * len(edges))
         off = [tick - edge for (tick, _), edge in zip(found, edges)]
         self.assertLessEqual(max(map(abs, off)), 3)
@@ -526,6 +526,49 @@ class Edges(InAFolder):
         lines = self.clocks(250, (0, 0, 0))
         lines = lines.of(lambda change: [(by_it(change[0]), *change[1:])])
         self.near(replace(lines, end=by_it(lines.end)), [by_it(1_050_000 + 1_000_000 * n) for n in range(250)])
+
+    def test_a_line_whose_delay_is_known(self) -> None:
+        """G1 is 3 ms late. Without that its last pulse comes behind the tick; with it each line is heard."""
+        lines = self.clocks(6, (0, 3000, 0))
+        late, short = "G1 is 3.0 ms late of most lines", " ok fault:1:Short:99 ok"
+        for words, heard, is_late in ([], short, True), (["--delay=0,3000,0"], " ok ok ok", False):
+            text, said = captured_wave(lines, *words)
+            told = [line for line in log_of(text) if line[0] == " "]
+            self.assertEqual([line for line in told if not line.endswith(heard)], [])
+            self.assertEqual((len(told), late in said), (6, is_late))
+            self.assertEqual(self.ticks(lines, *words), self.each(1_050_000, 6))
+        self.assertIn("29:59.950Z, by 3 of 3 lines, within 0 us\n", said)
+
+    def test_lines_that_agree_by_their_delays_alone(self) -> None:
+        """Of any two one is too late for the other. By a recorder that is 0.5 % too fast, tick 1 is at 1.05 s
+        times 1.005."""
+        for late in (0, 1500, 3000), (0, -4000, 4000):
+            lines, words = self.clocks(6, late), "--delay={},{},{}".format(*late)
+            with self.assertRaisesRegex(ValueError, "most ports never claim one second within 0.9 ms"):
+                captured_wave(lines)
+            self.assertEqual(self.ticks(lines, words), self.each(1_050_000, 6))
+            self.near(scaled(lines, 1_005_000), [1_055_250 + 1_005_000 * n for n in range(6)], words)
+
+    def test_a_delay_of_all_lines(self) -> None:
+        lines = self.clocks(6, (1500, 1500, 1500))
+        self.assertEqual(self.ticks(lines), self.each(1_051_500, 6))
+        self.assertEqual(self.ticks(lines, "--delay=1500"), self.each(1_050_000, 6))
+        self.assertEqual(self.ticks(lines, "--delay=1500", "--channels=G1"), self.each(1_050_000, 6))
+
+    def test_how_exact_lines_are(self) -> None:
+        """Lines that are exact to 10 us, so off by 9 at most, end within 18 us of each other. Of the ends of
+        three lines the edge is the one in the middle."""
+        late = "G2 is 82 us late of most lines, and --exact=10 allows less\n"
+        lines = self.clocks(6, (0, 18, 100))
+        self.assertEqual(self.ticks(lines, "--exact=10"), self.each(1_050_018, 6))
+        self.assertIn(late, captured_wave(lines, "--exact=10")[1])
+        self.assertNotIn(" of most lines", captured_wave(lines)[1])
+        lines = self.clocks(6, (0, 19, 100))
+        with self.assertRaisesRegex(ValueError, "most ports never claim one second within 0.02 ms"):
+            captured_wave(lines, "--exact=10")
+        words = "--exact=10", "--delay=0,19,100"
+        self.assertEqual(self.ticks(lines, *words), self.each(1_050_000, 6))
+        self.near(scaled(lines, 995_000), [1_044_750 + 995_000 * n for n in range(6)], *words)
 
     def test_a_frame_that_is_not_kept(self) -> None:
         """G1 ends each half a second late, and is lost behind the second one."""
@@ -746,6 +789,15 @@ class Words(InAFolder):
         self.assertIn("is no second served", self.refused(path, "--start=2016"))
         for leap in "2016-12-31:never", "2017-01-01":
             self.assertIn("is not DAY or DAY:delete", self.refused(path, f"--leap={leap}"))
+        for us in "0", "451", "-1", "1.5", "":
+            self.assertIn(f"{us!r} is not a whole number from 1 to 450", self.refused(path, f"--exact={us}"))
+        for us in "4001", "0,-4001,0", "2,,3", "1e3", "":
+            self.assertIn(" is not a whole number from -4000 to 4000", self.refused(path, f"--delay={us}"))
+        many = "--delay has to be one number, or as many as the 3 lines: G0, G1, G2"
+        for us in "1,2", "1,2,3,4":
+            self.assertIn(f"lines.csv: {many}\n", self.refused(path, f"--delay={us}"))
+        one = "--delay has to be one number, or as many as the one line"
+        self.assertIn(f"lines.csv: {one}\n", self.refused(path, "--channels=G1", "--delay=1,2,3"))
         self.assertIn("No such file", self.refused(self.folder / "none.vcd"))
 
     def test_a_long_holdover(self) -> None:

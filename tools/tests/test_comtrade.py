@@ -434,6 +434,14 @@ class Short(InAFolder):
         wanted = "IRIG1 has the recording begin at 2026-11-24T09:30:01.700Z; IRIG2 .*:19.700Z; IRIG3 .*:08.700Z"
         self.undecided(wanted, replace(GOOD, lines=apart), 1.75, 0.6)
 
+    def test_a_line_whose_delay_is_known(self) -> None:
+        """IRIG2 is 3 ms late, and begins its seconds as the others do without that. Where all lines are 3 ms
+        early, their edges come later than they seem to, and sample 1 is earlier than its stamp says."""
+        late = replace(GOOD, lines=wave().line(1, lambda change: [(change[0] + 3000, *change[1:])]))
+        self.decided("agrees within 1.3 ms by 2 of 3 lines", late, 1.75, 0.6)
+        self.decided("agrees within 1.3 ms by 3 of 3 lines", late, 1.75, 0.6, "--delay=0,3000,0")
+        self.decided("is 0.003 s late by 3 of 3 lines", GOOD, 1.75, 0.6, "--delay=-3000")
+
     def test_a_stamp_that_is_far_off(self) -> None:
         self.undecided("on IRIG1 none of the seconds there fit", later(90)(GOOD), 1.75, 0.6)
         self.decided("is 1 min 30 s late by 3 of 3 lines", later(90)(GOOD), 1.75, 0.6, "--within=120")
