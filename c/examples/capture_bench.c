@@ -1,5 +1,6 @@
 /* A board for capture.c without hardware: it plays what `tools/wave --changes` makes of a scenario from
- * its standard input, and prints what is said of each second, as a line of a log.
+ * its standard input, and prints what is said of each second, as a line of a log. On the standard error
+ * it says what each line is, counted from 0, and the alarm, at each second at which that changes.
  *
  * The words are `lock_after` and `holdover`; then, of a reader with a leap table, its last day, and
  * the day of each inserted leap second, counted from 2000-01-01. */
@@ -7,6 +8,7 @@
 
 #include <stdio.h>
 #include <stdlib.h>
+#include <string.h>
 
 static uint32_t now_us;
 static uint32_t due_us;
@@ -22,6 +24,30 @@ void compare_at(uint32_t time_us) {
     is_due = true;
 }
 
+/* Adds the lines of a mask, as ` silent:02`. */
+static void add_lines(char *text, const char *state, uint8_t mask) {
+    if (mask != 0) strcat(strcat(strcat(text, " "), state), ":");
+    for (unsigned line = 0; line < LINES; line++)
+        if (mask >> line & 1) strcat(text, (char[]){(char)('0' + line), '\0'});
+}
+
+static void say_states(const irig_second *second) {
+    static char before[128];
+    char text[128] = "";
+    const irig_masks *lines = &second->lines;
+    add_lines(text, "agreed", lines->agreed);
+    add_lines(text, "apart", lines->apart);
+    add_lines(text, "differed", lines->differed);
+    add_lines(text, "faulty", lines->faulty);
+    add_lines(text, "poor", lines->poor);
+    add_lines(text, "broken", lines->broken);
+    add_lines(text, "silent", lines->silent);
+    add_lines(text, "unjudged", lines->unjudged);
+    if (*alarm_of(second)) strcat(strcat(text, " alarm:"), alarm_of(second));
+    if (strcmp(text, before) != 0) fprintf(stderr, "%u%s\n", edges, text);
+    strcpy(before, text);
+}
+
 void on_second(const irig_second *second) {
     const irig_report *report = &second->report;
     char text[21] = "-";
@@ -30,6 +56,7 @@ void on_second(const irig_second *second) {
     if (report->lock_count > 0) snprintf(count, sizeof count, ":%u", (unsigned)report->lock_count);
     printf("%u relay %s %s%s %s\n", ++edges, text, irig_lock_name(report->lock), count,
            irig_cause_name(report->cause));
+    say_states(second);
 }
 
 /* Lets the timer run on, and calls for what was asked for meanwhile. The timer wraps. */

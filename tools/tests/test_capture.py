@@ -418,14 +418,33 @@ class Devices(InAFolder):
                  f"-Wl,-rpath,{library.parent}", "-o", self.folder / f"board{count}"], check=True,
             )
 
-    def announced(self, lines: Wave, ports: Sequence[int], *setup: int) -> list[str]:
-        """What the board of this setup announces, tick by tick, until 5 ms behind the end."""
+    def played(self, lines: Wave, ports: Sequence[int], *setup: int) -> subprocess.CompletedProcess[str]:
+        """What the board of this setup prints until 5 ms behind the end."""
         rows = [*lines.rows(), (lines.end + 5_000, list(lines.rows())[-1][1])]
         table = [f"{time / 1e6:.6f}," + ",".join(str(levels[line]) for line in ports)
                  for time, levels in rows]
         text = "\n".join(["Time [s]", *table, ""])
         words = [self.folder / f"board{len(ports)}", *map(str, setup)]
-        return subprocess.run(words, input=text, capture_output=True, text=True).stdout.splitlines()
+        return subprocess.run(words, input=text, capture_output=True, text=True)
+
+    def announced(self, lines: Wave, ports: Sequence[int], *setup: int) -> list[str]:
+        """What it announces, tick by tick."""
+        return self.played(lines, ports, *setup).stdout.splitlines()
+
+    def test_what_each_line_is(self) -> None:
+        """By docs/LINES.md. Edge n is at n + 0.05 s. Line 0 is out from 4.3 s on: at edge 5 its last frame ended
+        a second before, at edge 6 no pulse came for 1.7 s. Back at 6.2 s, it has pulses at edge 7, and a
+        whole frame at edge 8. Line 2, here the second clock, is 18 seconds ahead from edge 11 on."""
+        lines = wave_of_text(ONE_CLOCK_AHEAD.replace('"n":4', '"n":10'))
+        lines = replace(lines, changes=tuple(sorted(waves.pulled(lines.changes, 0, 4_300_000, 6_200_000))))
+        self.assertEqual(self.played(lines, (0, 2, 1), 2, 3600).stderr.splitlines(), [
+            "1 agreed:012 alarm:lost",
+            "2 agreed:012",
+            "6 agreed:12 silent:0 alarm:degraded",
+            "7 agreed:12 broken:0 alarm:degraded",
+            "8 agreed:012",
+            "11 agreed:01 differed:2 alarm:degraded",
+        ])
 
     def test_examples(self) -> None:
         """Each that wires can carry, and one line of three that are equal: as the program has them."""

@@ -55,9 +55,9 @@ own c table s edges false = refl
 -- by a vote
 voted : (c : ClockRules) (table : TableValue) (s : ClockState) (vote : Vote) (edges : ℕ) (none : Bool)
     → knowing_vote c (unread s) vote edges (if none then record (unread s) { lines = taken (unread_lines s.lines); edge_us = Some vote.edge_us; bound_us = vote.bound_us; moved = (s.moved + 1) % 2 ^ 32 }
-        else beaten c (unread s) (taken (unread_lines s.lines)) (Some vote.claim) (step_to c table s edges (Some vote.claim)) (edges - 1) vote.edge_us vote.bound_us)
+    else beaten c (unread s) (taken (unread_lines s.lines)) (Some vote.claim) (step_to c table s edges (Some vote.claim)) (edges - 1) vote.edge_us vote.bound_us)
     ≡ unread (knowing_vote c s vote edges (if none then record s { lines = taken s.lines; edge_us = Some vote.edge_us; bound_us = vote.bound_us; moved = (s.moved + 1) % 2 ^ 32 }
-        else beaten c s (taken s.lines) (Some vote.claim) (step_to c table s edges (Some vote.claim)) (edges - 1) vote.edge_us vote.bound_us))
+    else beaten c s (taken s.lines) (Some vote.claim) (step_to c table s edges (Some vote.claim)) (edges - 1) vote.edge_us vote.bound_us))
 voted c table s vote edges true = refl
 voted c table s vote edges false = refl
 
