@@ -83,14 +83,14 @@ pub fn second_of(
     ticked: &Ticked,
     held: Option<UtcSecond>,
     rules: &ClockRules,
-    mut state: ClockState,
+    state: &mut ClockState,
 ) -> IrigSecond
     requires steady { rules.now.drift_us ≤ most_drift_us }
-    requires small { AreSmall state }
-    ensures strays { result.strays ≡ (if result.is_told == 0 then 0 else state.strays) }
-    ensures doubt { result.doubt ≡ (if result.is_told == 0 then 0 else state.doubt) }
+    requires small { AreSmall state.old }
+    ensures strays { result.strays ≡ (if result.is_told == 0 then 0 else state.old.strays) }
+    ensures doubt { result.doubt ≡ (if result.is_told == 0 then 0 else state.old.doubt) }
     ensures lines { (beat : Beat) → ticked.now.beat ≡ Some beat
-        → result.lines ≡ masks_of rules.now (record state {
+        → result.lines ≡ masks_of rules.now (record state.old {
           lines = lines_in (limits_in timekeeper.now.setup) (rules_in timekeeper.now.setup)
               timekeeper.now.lines;
         }) }
@@ -113,7 +113,7 @@ pub fn second_of(
     );
     let against = against_at(held, &beat, redundancy_of(&timekeeper.setup));
     state.lines = read_lines(timekeeper);
-    second_for_c(&beat, &voices, against, masks_of(rules, &state), &state)
+    second_for_c(&beat, &voices, against, masks_of(rules, state), state)
 }
 
 // Behind seconds that were missed nothing is said of what was held before them.

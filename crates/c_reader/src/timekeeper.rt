@@ -394,7 +394,7 @@ fn tick_accepted(timekeeper: &mut IrigTimekeeper, now_us: u32) -> IrigSecond
     let held = held_by(&state.reader);
     let ticked = tick(&rules, &timekeeper.table, &mut state, now_us);
     keep(timekeeper, &state);
-    second_of(timekeeper, &ticked, held, &rules, state)
+    second_of(timekeeper, &ticked, held, &rules, &mut state)
 }
 
 /// How long until a tick has something to do, in microseconds, if no call comes before it; 0 where a
