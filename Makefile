@@ -20,7 +20,7 @@ manual = share/man/man1/irig.1
 completion = share/bash-completion/completions/irig
 doc = share/doc/irig
 
-of_page = $(wildcard web/*.* tools/*.py tools/parts/*.* python/irig/*.py docs/*.md examples/*.*)
+of_page = $(wildcard web/*.* tools/*.py tools/parts/*.* python/irig/*.py docs/*.md c/layout.txt examples/*.*)
 
 .PHONY: all install uninstall deb release reproduce
 

@@ -109,10 +109,12 @@ static bool is_padding_of_timekeeper(size_t byte) {
         return of_line == 6 || of_line == 7 || of_line == 14 || of_line == 15 || of_line == 38 ||
                of_line == 39 || of_line > offsetof(irig_line, is_heard);
     size_t of_wires = byte - offsetof(irig_timekeeper, wires);
-    if (byte < offsetof(irig_timekeeper, edge_us)) return of_wires >= sizeof(irig_wires);
-    if (byte < last_at) return byte == offsetof(irig_timekeeper, has_edge) + 1;
+    if (byte < offsetof(irig_timekeeper, edge_us))
+        return of_wires > offsetof(irig_wires, prefers_frames);
+    if (byte < last_at) return false;
     if (byte < offsetof(irig_timekeeper, begin_us)) return of_second > 16;
-    return byte > offsetof(irig_timekeeper, has_interval) && byte < offsetof(irig_timekeeper, check);
+    return byte > offsetof(irig_timekeeper, anchors) + offsetof(irig_anchors, has_young) &&
+           byte < offsetof(irig_timekeeper, check);
 }
 
 static const kind kinds[] = {

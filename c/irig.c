@@ -38,6 +38,7 @@ uint32_t irig_c_timekeeper_tick(irig_timekeeper *timekeeper, uint32_t now_us, ir
 uint32_t irig_c_timekeeper_wait(const irig_timekeeper *timekeeper, uint32_t now_us);
 uint32_t irig_c_timekeeper_stamp(const irig_timekeeper *timekeeper, uint32_t time_us,
                                  irig_stamp *stamp);
+uint32_t irig_c_timekeeper_rate(const irig_timekeeper *timekeeper, irig_rate *rate);
 uint32_t irig_c_timekeeper_line(const irig_timekeeper *timekeeper, uint8_t line,
                                 irig_line_said *said);
 void irig_c_timekeeper_restart(irig_timekeeper *timekeeper);
@@ -208,6 +209,11 @@ uint32_t irig_timekeeper_stamp(const irig_timekeeper *timekeeper, uint32_t time_
                                irig_stamp *stamp) {
     bool is_there = (timekeeper != NULL) && (stamp != NULL);
     return is_there ? irig_c_timekeeper_stamp(timekeeper, time_us, stamp) : REFUSED;
+}
+
+uint32_t irig_timekeeper_rate(const irig_timekeeper *timekeeper, irig_rate *rate) {
+    bool is_there = (timekeeper != NULL) && (rate != NULL);
+    return is_there ? irig_c_timekeeper_rate(timekeeper, rate) : REFUSED;
 }
 
 uint32_t irig_timekeeper_line(const irig_timekeeper *timekeeper, uint8_t line,

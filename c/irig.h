@@ -61,9 +61,9 @@ IRIG_ASSERT(sizeof(irig_count) == 8u);
 
 /* The number of the layout: of the structures, and of what calls take and answer. The linker finds it
  * in the name of each call but irig_version, so that no program is linked with a library of another
- * layout. `undefined reference to irig_reader_init_layout_5` says that this header and the library
+ * layout. `undefined reference to irig_reader_init_layout_6` says that this header and the library
  * are of different ones: take both of one version, and compile all that includes the header. */
-#define IRIG_LAYOUT 5
+#define IRIG_LAYOUT 6
 #define IRIG_JOINED(name, number) name##_layout_##number
 #define IRIG_NAME(name, number) IRIG_JOINED(name, number)
 
@@ -332,9 +332,13 @@ typedef struct irig_wires {
     int16_t delay_us[5]; /* how much later each line's pulses rise here than at its clock, by a cable,
                           * a converter or an input: -4,000 to 4,000, below 0 if a line is early. It
                           * is taken off, so that a constant delay does not make a line untrue */
+    uint8_t prefers_frames; /* 0: where the lines and the table contradict each other over a month's
+                             * end nothing is announced (IRIG_CAUSE_LEAP_GUARD); any other: what the
+                             * lines say is followed */
 } irig_wires;
-IRIG_ASSERT((sizeof(irig_wires) == 14u) && (offsetof(irig_wires, drift_us) == 2u) &&
-            (offsetof(irig_wires, delay_us) == 4u));
+IRIG_ASSERT((sizeof(irig_wires) == 16u) && (offsetof(irig_wires, drift_us) == 2u) &&
+            (offsetof(irig_wires, delay_us) == 4u) &&
+            (offsetof(irig_wires, prefers_frames) == 14u));
 
 /* A line of a timekeeper. */
 typedef struct irig_line {
@@ -363,6 +367,24 @@ typedef struct irig_announced {
 } irig_announced;
 IRIG_ASSERT((sizeof(irig_announced) == 20u) && (offsetof(irig_announced, is_told) == 16u));
 
+/* From where the length of a second is measured: the interval in which the true edge of a voted second
+ * lay. */
+typedef struct irig_anchor {
+    uint32_t begin_us; /* where it begins */
+    uint32_t long_us;  /* how long it is */
+    uint32_t seconds;  /* the seconds that were counted since, 2,000 at most */
+} irig_anchor;
+IRIG_ASSERT((sizeof(irig_anchor) == 12u) && (offsetof(irig_anchor, seconds) == 8u));
+
+typedef struct irig_anchors {
+    irig_anchor old;   /* the one that serves, of 1,000 seconds ago or more */
+    irig_anchor young; /* the one that takes its place, and serves as long as there is no old one */
+    uint8_t has_old;   /* 0 if there is none */
+    uint8_t has_young; /* 0 if there is none */
+} irig_anchors;
+IRIG_ASSERT((sizeof(irig_anchors) == 28u) && (offsetof(irig_anchors, young) == 12u) &&
+            (offsetof(irig_anchors, has_old) == 24u) && (offsetof(irig_anchors, has_young) == 25u));
+
 /* A timekeeper. All that is said of an irig_reader is true of it: its fields are there to be looked
  * at between calls, it may be copied and kept, and `check` is made of all numbers before it. */
 typedef struct irig_timekeeper {
@@ -374,6 +396,7 @@ typedef struct irig_timekeeper {
     uint32_t edge_us;      /* where the last second begins that was counted */
     uint32_t moved;        /* how often lines moved that edge since */
     uint8_t has_edge;      /* 0 if none was counted */
+    uint8_t has_interval;  /* 0 if there is no such interval as begins at `begin_us` */
     uint16_t bound_us;     /* how far from its true edge that of the last vote may lie, 899 at most */
     irig_announced last;   /* that second, if it was announced */
     irig_announced before; /* the one counted before it, if it was */
@@ -383,21 +406,22 @@ typedef struct irig_timekeeper {
     uint32_t long_us;      /* and how long it is, 980,000 at most */
     uint32_t strays;       /* how many votes contradicted those before them */
     uint32_t doubt;        /* seconds to be voted yet before one is held again */
-    uint8_t has_interval;  /* 0 if there is no such interval */
+    irig_anchors anchors;  /* from where the length of a second is measured */
     uint64_t check;
 } irig_timekeeper;
-IRIG_ASSERT((sizeof(irig_timekeeper) == 1048u) && (offsetof(irig_timekeeper, state) == 536u) &&
+IRIG_ASSERT((sizeof(irig_timekeeper) == 1072u) && (offsetof(irig_timekeeper, state) == 536u) &&
             (offsetof(irig_timekeeper, lines) == 552u) &&
             (offsetof(irig_timekeeper, wires) == 912u) &&
             (offsetof(irig_timekeeper, has_edge) == 936u) &&
+            (offsetof(irig_timekeeper, has_interval) == 937u) &&
             (offsetof(irig_timekeeper, bound_us) == 938u) &&
             (offsetof(irig_timekeeper, last) == 940u) &&
             (offsetof(irig_timekeeper, before) == 960u) &&
             (offsetof(irig_timekeeper, ended) == 980u) &&
             (offsetof(irig_timekeeper, begin_us) == 1020u) &&
             (offsetof(irig_timekeeper, doubt) == 1032u) &&
-            (offsetof(irig_timekeeper, has_interval) == 1036u) &&
-            (offsetof(irig_timekeeper, check) == 1040u));
+            (offsetof(irig_timekeeper, anchors) == 1036u) &&
+            (offsetof(irig_timekeeper, check) == 1064u));
 
 /* What each line of a timekeeper is: bit p of a mask is line p. Each line is in exactly one. */
 typedef struct irig_masks {
@@ -415,6 +439,8 @@ IRIG_ASSERT((sizeof(irig_masks) == 8u) && (offsetof(irig_masks, unjudged) == 7u)
 /* What a tick of a timekeeper says. */
 typedef struct irig_second {
     uint8_t is_told;    /* 1 if a second was counted; 0 if there is nothing to tell, then all zeros */
+    uint8_t against_table; /* 1 if the lines that have the vote speak of a leap at the end of their
+                            * day, and the table says otherwise; else 0 */
     uint32_t edge_us;   /* where it begins, never ahead of the tick */
     uint32_t bound_us;  /* how far from its true edge that may lie, if it is announced: what
                          * irig_timekeeper_tick says, 490,899 at most */
@@ -428,7 +454,8 @@ typedef struct irig_second {
     irig_masks lines;   /* what each line is */
     irig_report report; /* masks, quality and zone by the frames that could vote at this edge */
 } irig_second;
-IRIG_ASSERT((sizeof(irig_second) == 60u) && (offsetof(irig_second, edge_us) == 4u) &&
+IRIG_ASSERT((sizeof(irig_second) == 60u) && (offsetof(irig_second, against_table) == 1u) &&
+            (offsetof(irig_second, edge_us) == 4u) &&
             (offsetof(irig_second, bound_us) == 8u) && (offsetof(irig_second, strays) == 20u) &&
             (offsetof(irig_second, doubt) == 24u) && (offsetof(irig_second, lines) == 28u) &&
             (offsetof(irig_second, report) == 36u));
@@ -471,6 +498,15 @@ typedef struct irig_stamp {
 } irig_stamp;
 IRIG_ASSERT((sizeof(irig_stamp) == 16u) && (offsetof(irig_stamp, bound_us) == 12u));
 
+/* How long a second is by the device's own counter: the mean of the last `seconds`, which were counted.
+ * It is 1,000,000,000 ns by a perfect counter, and 1,000,037,000 by one that is 37 ppm fast. */
+typedef struct irig_rate {
+    uint32_t seconds;  /* of how many it is the mean, 1 to 2,000 */
+    uint32_t least_ns; /* what it is at least, in nanoseconds of the counter */
+    uint32_t most_ns;  /* what it is at most */
+} irig_rate;
+IRIG_ASSERT((sizeof(irig_rate) == 12u) && (offsetof(irig_rate, most_ns) == 8u));
+
 /* ---- calls */
 
 /* Their names for the linker. */
@@ -510,6 +546,7 @@ IRIG_ASSERT((sizeof(irig_stamp) == 16u) && (offsetof(irig_stamp, bound_us) == 12
 #define irig_timekeeper_tick IRIG_NAME(irig_timekeeper_tick, IRIG_LAYOUT)
 #define irig_timekeeper_wait IRIG_NAME(irig_timekeeper_wait, IRIG_LAYOUT)
 #define irig_timekeeper_stamp IRIG_NAME(irig_timekeeper_stamp, IRIG_LAYOUT)
+#define irig_timekeeper_rate IRIG_NAME(irig_timekeeper_rate, IRIG_LAYOUT)
 #define irig_timekeeper_line IRIG_NAME(irig_timekeeper_line, IRIG_LAYOUT)
 #define irig_timekeeper_restart IRIG_NAME(irig_timekeeper_restart, IRIG_LAYOUT)
 #define irig_quality_of IRIG_NAME(irig_quality_of, IRIG_LAYOUT)
@@ -743,6 +780,13 @@ uint32_t irig_timekeeper_wait(const irig_timekeeper *timekeeper, uint32_t now_us
  * by no more than the sum of both and the drift of two seconds of each device. */
 uint32_t irig_timekeeper_stamp(const irig_timekeeper *timekeeper, uint32_t time_us,
                                irig_stamp *stamp);
+
+/* Says how long seconds are by the device's own counter: IRIG_DONE, or IRIG_FAULT_VALUE if nothing is
+ * measured, since no second was counted since a vote or since one strayed (`strays`), or where a tick
+ * would be refused. While all lines but f are true and the counter drifts no more than `drift_us`, the
+ * mean of the last `seconds` lies between the least and the most. These differ by 2 ns and by the lengths
+ * of two intervals in which votes left a true edge, over that time. */
+uint32_t irig_timekeeper_rate(const irig_timekeeper *timekeeper, irig_rate *rate);
 
 /* What a line is as of the last tick, from the first pulse on and whether seconds are told or not:
  * what one looks at while a device is installed, or when it tells nothing. IRIG_FAULT_VALUE, also if

@@ -73,7 +73,8 @@ static const words causes[] = {
     {"expired", "there was no vote for more than holdover edges, and the reader no longer counts"},
     {"leap-guard",
      "counting alone the reader came to 23:59:58 of a month's last day, and no frame or table "
-     "told if a leap second comes"},
+     "told if a leap second comes; or, of a timekeeper, frames and its leap table contradict "
+     "one another"},
     {"jump",
      "the vote is for another second than the one that follows, and the reader begins afresh"},
     {"range-end", "the next second would be after 2099-12-30"},

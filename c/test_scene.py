@@ -10,7 +10,7 @@ import subprocess
 import sys
 import unittest
 from collections.abc import Iterator, Sequence
-from ctypes import c_bool, c_int8, c_size_t, c_uint8
+from ctypes import c_bool, c_size_t, c_uint8
 from itertools import product
 from pathlib import Path
 
@@ -20,7 +20,7 @@ sys.path[:0] = [str(ROOT / "tests"), str(ROOT / "python")]
 from case_files import scenarios  # noqa: E402
 import irig  # noqa: E402
 from irig import _library, scenes  # noqa: E402
-from irig._library import Entry, Refusal, Verdict  # noqa: E402
+from irig._library import Entry, FrameOptions, Refusal, Verdict  # noqa: E402
 from irig.scenarios import made_edges, plant_in  # noqa: E402
 
 LIBRARY, PROGRAM = ctypes.CDLL(sys.argv[1]), sys.argv[2]
@@ -34,12 +34,6 @@ _, *SIGNATURE = _library.CALLS["run_entries"]
 RUN_ENTRIES = getattr(LIBRARY, _library.symbol("run_entries"))
 RUN_ENTRIES.restype, RUN_ENTRIES.argtypes = SIGNATURE[0], SIGNATURE[1:]
 _library.run_entries = RUN_ENTRIES  # which the package calls then
-
-
-class FrameOptions(ctypes.Structure):
-    _fields_ = [("local", c_int8)] + [
-        (name, c_uint8) for name in ("pending", "dst", "quality", "parity", "sense")
-    ]
 
 
 def printed(*words: str, given: bytes = b"") -> tuple[int, bytes, str]:

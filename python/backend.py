@@ -15,28 +15,29 @@ from typing import Dict, List
 HERE = Path(__file__).resolve().parent
 ROOT = HERE.parent
 LIBRARIES = ("irig", "irig_scene")
+LISTS = ROOT / "c/layout.txt", ROOT / "docs/FAULTS.md"  # which the package reads
 
 
-def stated(name: str, pattern: str) -> str:
-    """What a file of the package says of itself."""
+def stated(path: Path, pattern: str) -> str:
+    """What a file says of itself."""
     if not (ROOT / "docs/irig.1").exists():
         sys.exit(
             f"{HERE} is not in a checkout of irig. Before its version 21.3 `pip` copies the folder"
             " away first: `pip install --upgrade pip`, then install this package again."
         )
-    found = re.search(pattern, (HERE / "irig" / name).read_text(), re.M)
+    found = re.search(pattern, path.read_text(), re.M)
     if not found:
-        sys.exit(f"python/irig/{name} has no line {pattern}")
+        sys.exit(f"{path} has no line {pattern}")
     return found[1]
 
 
 def version() -> str:
-    return stated("__init__.py", r'^__version__ = "([0-9.]+)"')
+    return stated(HERE / "irig/__init__.py", r'^__version__ = "([0-9.]+)"')
 
 
 def shared_libraries() -> List[Path]:
     """The shared libraries, of what is proved."""
-    layout = stated("_library.py", r"^LAYOUT = (\d+)")
+    layout = stated(ROOT / "c/layout.txt", r"^layout (\d+)")
     made = [ROOT / f"c/out/lib{name}.so.{layout}" for name in LIBRARIES]
     # No proof is begun here: it would take longer than anyone expects of an installation.
     words = ["make", "-s", "-C", str(ROOT / "c"), "build=false", *(f"out/{file.name}" for file in made)]
@@ -70,9 +71,10 @@ def metadata() -> Dict[str, bytes]:
 
 
 def package() -> Dict[str, bytes]:
-    """The package's files, with the libraries."""
+    """The package's files, with the libraries and what it reads of the repository."""
     sources = [path for path in sorted((HERE / "irig").iterdir()) if path.is_file()]
-    return {f"irig/{path.name}": path.read_bytes() for path in [*sources, *shared_libraries()]}
+    files = [*sources, *LISTS, *shared_libraries()]
+    return {f"irig/{path.name}": path.read_bytes() for path in files}
 
 
 def record(files: Dict[str, bytes]) -> bytes:

@@ -92,13 +92,13 @@ def make_libraries(made: Path) -> None:
     nothing = made / "nothing.a"
     nothing.write_text("!<arch>\n")
     lib = made / HERE / "lib"
-    compile_here(lib / "libirig.so.5", "int irig_here(void) { return 1; }\n", "-shared")
+    compile_here(lib / "libirig.so.6", "int irig_here(void) { return 1; }\n", "-shared")
     compile_here(lib / "irig.o", "int irig_here(void) { return 1; }\n", "-c")
     run("ar", "rcsD", lib / "libirig.a", lib / "irig.o")
     (lib / "irig.o").unlink()
-    shutil.copy(lib / "libirig.so.5", lib / "libirig_scene.so.5")
+    shutil.copy(lib / "libirig.so.6", lib / "libirig_scene.so.6")
     for name in ("irig", "irig_scene"):
-        (lib / f"lib{name}.so").symlink_to(f"lib{name}.so.5")
+        (lib / f"lib{name}.so").symlink_to(f"lib{name}.so.6")
     with ThreadPoolExecutor() as pool:
         list(pool.map(lambda it: run(ROOT / "toolchain/archive", it, nothing, made / it / "lib/libirig.a"), TARGETS))
     for target in (HERE, AARCH64):
@@ -123,7 +123,7 @@ def what_is_made() -> Path:
     compile_here(made / "irig", PROGRAM, "-g")
     shutil.copy(made / f"{AARCH64}/lib/libirig.a", made / "irig_aarch64")
     with zipfile.ZipFile(made / WHEEL, "w", zipfile.ZIP_DEFLATED) as wheel:
-        wheel.write(made / HERE / "lib/libirig.so.5", "irig/libirig.so.5")
+        wheel.write(made / HERE / "lib/libirig.so.6", "irig/libirig.so.6")
     return made
 
 
@@ -322,7 +322,7 @@ class Release(Packages):
                         lambda top: shutil.copytree(top / "riscv32", top / "riscv64"), is_signed=True)
 
     def test_what_is_not_proved(self) -> None:
-        library, package, raw = f"{HERE}/lib/libirig.so.5", "irig_2.0.0_amd64.deb", self.folder / "raw"
+        library, package, raw = f"{HERE}/lib/libirig.so.6", "irig_2.0.0_amd64.deb", self.folder / "raw"
         self.is_refused(f"{library} is not proved", lambda top: append(top / library, "irig_unproved"), is_signed=True)
         run("dpkg-deb", "-R", self.release / package, raw)
         append(raw / "usr/bin/irig", "irig_unproved")
@@ -333,7 +333,7 @@ class Release(Packages):
         """Nothing is moved, and what stood there stays."""
         before = {name: (self.release / name).read_bytes() for name in files_below(self.release)}
         with zipfile.ZipFile(self.kit / "made" / WHEEL, "a", zipfile.ZIP_DEFLATED) as opened:
-            opened.writestr("irig/libirig_scene.so.5", b"\0irig_unproved\0" * 9)
+            opened.writestr("irig/libirig_scene.so.6", b"\0irig_unproved\0" * 9)
         ran = self.run_here("packaging/release")
         self.assertEqual((ran.returncode, ran.stderr), (1, f"release: {WHEEL} is not proved\n"))
         self.assertEqual({name: (self.release / name).read_bytes() for name in files_below(self.release)}, before)

@@ -1,11 +1,7 @@
-// ---- the codec: what the page asks the module of c_reader, as c/irig.h has its structures
+// ---- the codec: what the page asks the module of c_reader
 
 const SYMBOLS = "01P?";
 const MOST_SYMBOLS = 101; // enough to see that there are too many
-const FIELDS = ["second", "minute", "hour", "day", "year"];
-const FAULTY = 1; // the kind of what a port tells that found a fault
-const FAULTS = { SHORT: 1, LONG: 2, PULSE: 3, MARKER: 4, DIGIT: 5, RANGE: 6 };
-const ELEMENT_FAULTS = [FAULTS.PULSE, FAULTS.MARKER], FIELD_FAULTS = [FAULTS.DIGIT, FAULTS.RANGE];
 const CODEC_PAGES = 32; // of memory: the stack has 16 of them
 
 class Codec {
@@ -13,14 +9,12 @@ class Codec {
     const memory = new WebAssembly.Memory({ initial: CODEC_PAGES, maximum: CODEC_PAGES });
     this.calls = new WebAssembly.Instance(module, { env: { memory } }).exports;
     this.view = new DataView(memory.buffer);
+    this.places = {};
     let place = Math.ceil(Number(this.calls.__heap_base.value) / 16) * 16;
-    const sizes = {
-      symbols: 112, coded: 16, control: 16, second: 16, text: 64, setup: 16, table: 528,
-      reader: 720, told: 32,
-    };
-    for (const [name, size] of Object.entries(sizes)) {
-      this[name] = place;
-      place += size;
+    const bytes = { symbols: { size: MOST_SYMBOLS }, text: { size: 20 } };
+    for (const [name, { size }] of Object.entries({ ...LAYOUT, ...bytes })) {
+      this.places[name] = place;
+      place += Math.ceil(size / 16) * 16;
     }
   }
 
@@ -29,58 +23,62 @@ class Codec {
     return this.calls[`irig_c_${call}`](...given) >>> 0;
   }
 
-  at(name) { return { at: this[name] }; }
+  at(name) { return { at: this.places[name] }; }
 
-  bytes(name, count) { return new Uint8Array(this.view.buffer, this[name], count); }
+  bytes(name, count) { return new Uint8Array(this.view.buffer, this.places[name], count); }
+
+  // The numbers of a structure by their names; and puts some of them there, and 0 for all others.
+  numbers_of(name) {
+    const fields = Object.entries(LAYOUT[name]).filter(([, field]) => field.reads);
+    return Object.fromEntries(fields.map(([key, field]) => [key, get(this.view, this.places[name], field)]));
+  }
+
+  put(name, numbers) {
+    this.bytes(name, LAYOUT[name].size).fill(0);
+    for (const [key, number] of Object.entries(numbers)) {
+      const { at, reads } = LAYOUT[name][key];
+      this.view[reads.replace("get", "set")](this.places[name] + at, Number(number), true);
+    }
+  }
 
   // The place of a second by its text, if it is one of the years served.
   second_of(text) {
     const letters = new TextEncoder().encode(text);
     if (letters.length !== 20) return false;
     this.bytes("text", 20).set(letters);
-    return this.ask("second_read", this.at("text"), { at: 20 }, this.at("second")) === 0;
+    return this.ask("second_read", this.at("text"), { at: 20 }, this.at("utc")) === 0;
   }
 
   // The frame of a second with these control bits, as 100 symbols; null if the text is of no second.
   frame(text, { local, pending, dst_pending, dst, quality, is_odd }) {
     if (!this.second_of(text)) return null;
-    const control = [pending !== "", pending === "delete", dst_pending, dst, -local, quality];
-    new Int8Array(this.view.buffer, this.control, 6).set(control.map(Number));
+    const leap = { leap_pending: pending !== "", leap_delete: pending === "delete" };
+    this.put("control", { ...leap, dst_pending, dst, offset_half_hours: -local, quality });
     const places = [this.at("control"), Number(is_odd), this.at("symbols")];
-    const answer = this.ask("frame_of", this.at("second"), local, ...places);
+    const answer = this.ask("frame_of", this.at("utc"), local, ...places);
     return answer ? null : [...this.bytes("symbols", 100)];
   }
 
-  // What symbols, 101 at most, read as: numbers of the coded time, or its first fault.
+  // What symbols, 101 at most, read as: the coded time and what its control bits say, or its first fault.
   decode(symbols) {
     this.bytes("symbols", symbols.length).set(symbols);
     const answer = this.ask("decode", this.at("symbols"), { at: symbols.length }, this.at("coded"));
     if (answer) return { fault: fault_of(answer) };
-    const { view, coded } = this, word = view.getUint32(coded + 8, true);
-    const fields = [view.getUint8(coded), view.getUint8(coded + 1), view.getUint8(coded + 2),
-      view.getUint16(coded + 4, true), view.getUint8(coded + 6)];
-    return { fields, word, sbs: view.getUint32(coded + 12, true), control: this.control_of(word) };
-  }
-
-  control_of(word) { // what a number of control bits says
-    this.ask("control_unpack", word, this.at("control"));
-    const [leap_pending, leap_delete, dst_pending, dst] = [...this.bytes("control", 4)].map(Boolean);
-    const offset = this.view.getInt8(this.control + 4), quality = this.view.getUint8(this.control + 5);
-    return { leap_pending, leap_delete, dst_pending, dst, offset, quality };
+    const coded = this.numbers_of("coded");
+    this.ask("control_unpack", coded.control, this.at("control"));
+    return { coded, control: this.numbers_of("control") };
   }
 
   // The fault that a port of these rules, by their numbers, finds in symbols; none if it finds none.
-  fault_told(symbols, rules) {
-    this.bytes("setup", 12).fill(0);
-    this.bytes("setup", 3).set(rules);
-    this.view.setUint8(this.setup + 4, 1); // lock_after
-    this.bytes("table", 520).fill(0);
+  fault_told(symbols, [parity, sense, sbs]) {
+    this.put("setup", { parity, sense, sbs, lock_after: 1 });
+    this.put("table", {});
     this.ask("reader_init", this.at("reader"), this.at("setup"), this.at("table"));
     for (const symbol of symbols)
       this.ask("reader_pulse", this.at("reader"), 0, this.ask("width_us", symbol));
     this.ask("reader_port", this.at("reader"), 0, this.at("told"));
-    if (this.view.getUint8(this.told) !== FAULTY) return null;
-    return fault_of(this.view.getUint32(this.told + 4, true));
+    const { kind, fault } = this.numbers_of("told");
+    return kind === NUMBERS.TOLD_FAULT ? fault_of(fault) : null;
   }
 
   // The first fault of symbols, then what is wrong besides, each found once those before it are mended.
@@ -94,13 +92,13 @@ class Codec {
   }
 
   mend(symbols, { number, detail }) {
-    if (number === FAULTS.SHORT) {
+    if (number === FAULT_SHORT) {
       while (symbols.length < 100) symbols.push(SYMBOLS.indexOf("?"));
-    } else if (number === FAULTS.LONG) {
+    } else if (number === FAULT_LONG) {
       symbols.length = 100;
-    } else if (number === FAULTS.MARKER) {
+    } else if (number === FAULT_MARKER) {
       symbols[detail] = symbols[detail] === 2 ? 0 : 2;
-    } else if (number === FAULTS.PULSE) {
+    } else if (number === FAULT_PULSE) {
       symbols[detail] = data.elements[detail].field === "marker" ? 2 : 0;
     } else {
       for (const { element, weight } of elements_of(FIELDS[detail])) symbols[element] = weight === 1 ? 1 : 0;
@@ -108,14 +106,7 @@ class Codec {
   }
 }
 
-const fault_of = (answer) => ({ number: answer & 255, detail: answer >>> 8 });
-
-function named({ number, detail }) { // as `irig read` writes it
-  const name = data.numbers[number].name.split(" ")[0];
-  const place = FIELD_FAULTS.includes(number) ? ` ${FIELDS[detail]}` : ` ${detail}`;
-  const has_place = number === FAULTS.SHORT || [...ELEMENT_FAULTS, ...FIELD_FAULTS].includes(number);
-  return `${number} ${name}${has_place ? place : ""}`;
-}
+const named = (fault) => fault_words(fault).join(" "); // as `irig read` writes it
 
 const elements_of = (field) => data.elements.filter((each) => each.field === field);
 

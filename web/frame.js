@@ -60,8 +60,8 @@ function zone_text(half_hours) { // as UTC+05:30
 }
 
 // What each field says, in the order of its elements.
-function fields_of({ fields, control, sbs }, is_even) {
-  const values = Object.fromEntries(FIELDS.map((name, place) => [name, String(fields[place])]));
+function fields_of({ coded, control }, is_even) {
+  const values = Object.fromEntries(FIELDS.map((name) => [name, String(coded[name])]));
   const which = control.leap_delete ? "23:59:59 is deleted" : "23:59:60 is inserted";
   return {
     ...values,
@@ -69,10 +69,10 @@ function fields_of({ fields, control, sbs }, is_even) {
     "leap is deleted": yes(control.leap_delete),
     "daylight saving pending": yes(control.dst_pending),
     "daylight saving": yes(control.dst),
-    offset: `${control.offset} half hours, to be added for UTC`,
+    offset: `${control.offset_half_hours} half hours, to be added for UTC`,
     "time quality": `${control.quality}${{ 0: " (locked)", 15: " (failed)" }[control.quality] || ""}`,
     parity: is_even ? "even" : "odd",
-    "straight binary seconds": String(sbs),
+    "straight binary seconds": String(coded.sbs),
   };
 }
 
@@ -152,7 +152,7 @@ function fault_text(fault) { // its place in words
     const { label, field } = data.elements[detail];
     return `element ${detail}, ${place_of(label, field) || `${label} of ${UNITS[field] || field}`}`;
   }
-  return FIELD_FAULTS.includes(number) ? `the field ${FIELDS[detail]}` : cause.replace(/\bn\b/, detail);
+  return FIELD_FAULTS.includes(number) ? `the field ${FIELDS[detail]}` : cause.replace("{}", detail);
 }
 
 function draw_fault(fault, is_first) {

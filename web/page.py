@@ -15,12 +15,16 @@ sys.path.insert(0, str(ROOT / "tools"))
 
 from parts.log_lanes import PORT_STATES, STATES  # noqa: E402
 from parts.html_page import embedded, filled, hashed, joined, script_of  # noqa: E402
+from irig._library import LINES  # noqa: E402
+from irig.faults import FIELDS, MEANINGS  # noqa: E402
+from irig.words import CAUSES, LOCKS, MARKS  # noqa: E402
 
 SCRIPTS = (PARTS / "list.js", PARTS / "kinds.js", PARTS / "utc.js", WEB / "log.js", PARTS / "timeline.js",
-           WEB / "codec.js", WEB / "frame.js", WEB / "editor.js", WEB / "scenario.js", WEB / "page.js")
-WORKER = PARTS / "kinds.js", WEB / "lanes.js", WEB / "worker.js"
-FIELDS = ("second", "minute", "hour", "day", "year")
+           WEB / "c.js", WEB / "codec.js", WEB / "frame.js", WEB / "editor.js", WEB / "scenario.js", WEB / "page.js")
+WORKER = PARTS / "kinds.js", WEB / "c.js", WEB / "lanes.js", WEB / "worker.js"
 MODULES = ("c_scenario", "c_reader")
+READS = {"uint8_t": "getUint8", "int8_t": "getInt8", "uint16_t": "getUint16", "uint32_t": "getUint32",
+         "int32_t": "getInt32", "uint64_t": "getBigUint64", "size_t": "getBigUint64"}
 LETTERS = {**dict(zip("smhdy", FIELDS)), "o": "offset", "q": "time quality", "b": "straight binary seconds"}
 FLAGS = {".": "none", "par": "parity", "LP": "leap pending", "LD": "leap is deleted",
          "DP": "daylight saving pending", "DS": "daylight saving"}
@@ -49,20 +53,6 @@ def rows(page: Path, heads: str) -> list[list[str]]:
 def plain(text: str) -> str:
     """A cell without marks of code."""
     return text.replace("`", "")
-
-
-def numbers() -> dict[str, dict[str, str]]:
-    """Every fault and refusal by its number."""
-    heads = "| No. | Name | Cause | For example | What to do |"
-    keys = ("name", "cause", "example", "cure")
-    return {
-        number: dict(zip(keys, map(plain, cells)))
-        for number, *cells in rows(ROOT / "docs/FAULTS.md", heads)
-    }
-
-
-def fault_names() -> dict[str, object]:
-    return {number: meaning["name"].split(" ")[0] for number, meaning in numbers().items()}
 
 
 def causes() -> dict[str, list[str]]:
@@ -115,6 +105,31 @@ def elements() -> list[dict[str, object]]:
     ]
 
 
+# ---- what the scripts have of C
+
+
+def structures() -> dict[str, object]:
+    """Of each structure its size, and of its fields where they begin and, of numbers, what reads them."""
+    found: dict[str, object] = {}
+    for name, size, fields in re.findall(r"^irig_(\w+) (\d+): (.+)", "\n".join(LINES), re.M):
+        words = map(str.split, fields.split(","))
+        found[name] = {"size": int(size)} | {
+            field: {"at": int(at), "reads": READS.get(kind)} for kind, field, at, _ in words
+        }
+    return found
+
+
+def of_c() -> str:
+    """The constants that web/c.js speaks of."""
+    numbers = re.findall(r"IRIG_(\w+) = (\d+)", "\n".join(LINES))
+    constants = {
+        "LAYOUT": structures(), "NUMBERS": {name: int(number) for name, number in numbers},
+        "LOCKS": LOCKS, "CAUSES": CAUSES, "MARKS": MARKS, "FIELDS": FIELDS,
+        "FAULT_NAMES": {number: meaning.name for number, meaning in MEANINGS.items()},
+    }
+    return "".join(f"const {name} = {embedded(value)};\n" for name, value in constants.items())
+
+
 # ---- the page
 
 
@@ -126,7 +141,7 @@ def data_of(folder: Path) -> dict[str, object]:
     return {
         "states": {name: vars(state) for name, state in STATES.items()},
         "port_states": {name: vars(state) for name, state in PORT_STATES.items()},
-        "numbers": numbers(),
+        "numbers": {number: meaning._asdict() for number, meaning in MEANINGS.items()},
         "causes": causes(),
         "verdicts": verdicts(),
         "examples": examples(),
@@ -138,7 +153,7 @@ def data_of(folder: Path) -> dict[str, object]:
 def page_of(data: dict[str, object]) -> str:
     """The page: its policy lets run these scripts, this style and these modules, and nothing be fetched
     or sent."""
-    script = script_of(SCRIPTS)
+    script = script_of(SCRIPTS, of_c())
     style = joined((PARTS / "timeline.css", WEB / "page.css"))
     return filled(WEB / "page.html", {
         "policy": f"default-src 'none'; script-src {hashed(script)} 'wasm-unsafe-eval'; worker-src blob:;"
@@ -146,7 +161,7 @@ def page_of(data: dict[str, object]) -> str:
         "style": style,
         "timeline": (PARTS / "timeline.html").read_text(),
         "data": embedded(data),
-        "worker": f"const FAULT_NAMES = {embedded(fault_names())};\n{script_of(WORKER)}",
+        "worker": script_of(WORKER, of_c()),
         "script": script,
     })
 

@@ -1,10 +1,9 @@
 // ---- a run: a scenario from the editor to a worker, and its log from there
 
 const MEMORIES = [[64, "64 MiB"], [256, "256 MiB"], [1024, "1 GiB"], [3072, "3 GiB"]], USUAL_MEMORY = 1024;
-const STATUS = { DONE: 0, REFUSED: 3, NO_LOG: 5, NO_MEMORY: 6 };
 const ENDS = { // how a run of each status ended
-  [STATUS.DONE]: "done", [STATUS.REFUSED]: "a line is refused", [STATUS.NO_LOG]: "no memory for the log",
-  [STATUS.NO_MEMORY]: "no memory for the run",
+  [RUN_DONE]: "done", [RUN_REFUSED]: "a line is refused", [RUN_NO_LOG]: "no memory for the log",
+  [RUN_NO_MEMORY]: "no memory for the run",
 };
 const MEGABYTE = 1 << 20, MOST_OF_LINK = 64 * MEGABYTE; // bytes of a scenario that a link may grow to
 
@@ -222,8 +221,8 @@ class ScenarioTab {
   }
 
   show_verdict(verdict, status, refusal) {
-    const is_kept = status === STATUS.DONE && verdict === "premises kept";
-    const is_cut = status !== STATUS.DONE && status !== STATUS.REFUSED;
+    const is_kept = status === RUN_DONE && verdict === "premises kept";
+    const is_cut = status !== RUN_DONE && status !== RUN_REFUSED;
     part("verdict").textContent = `${is_kept ? "\u2713" : "\u2717"} ${is_cut ? "memory ran out" : verdict}`;
     part("meaning").textContent = is_cut
       ? "The log shows how it begins, as far as there was memory. Allow more, or make the scenario shorter."

@@ -1,26 +1,13 @@
 // What the worker of a run does: it plays a scenario by the proved module, and makes of the entries that this
 // tells the lines of the log, and lanes for the page (lanes.js). Each run has a worker of its own, as a module
-// that trapped may not be called again. The page tells it the names of faults, FAULT_NAMES.
+// that trapped may not be called again.
 
 const PAGE = 65536, FIRST_PAGES = 64; // of the module's memory
 const SPARE = 1 << 22, LEAST_ROOM = 1 << 12; // bytes for all but the entries; entries
-const DONE = 0, REFUSED = 3, NO_LOG = 5, NO_MEMORY = 6; // statuses, as c/irig_scene.h has them
 const NEWLINE = 10, BLANKS = [32, 9, 13, NEWLINE];
-
-// Where the parts of its structures stand, and how large they are.
-const ENTRY = {
-  EDGE: 0, LINE: 8, TRUTH: 16, TOLD: 28, COUNT: 128, DAY: 132, SOD: 136, READER: 140, ANNOUNCES: 141, LOCK: 142,
-  CAUSE: 143, PORTS: 144, HAS_TRUTH: 145, SIZE: 152,
-};
-const TOLD = { KIND: 0, QUALITY: 1, FAULT: 4, CLAIM: 8, SIZE: 20 }, CLAIM = { DAY: 0, SOD: 4, MARK: 8 };
-const VERDICT = { EDGE: 0, KIND: 8, READER: 9, SIZE: 16 };
-const REFUSAL = { LINE: 0, WHOLE: 8, NUMBER: 80, SIZE: 88 };
 const REASON_ROOM = 4096; // bytes: more than a reason has
 
-// Its words, by their numbers.
-const LOCKS = ["unlocked", "acquiring", "locked", "holdover"];
-const CAUSES = ["voted", "held", "acquiring", "no-vote", "expired", "leap-guard", "jump", "range-end"];
-const MARKS = ["unspoken", "no-leap", "insert", "delete"], FIELDS = ["second", "minute", "hour", "day", "year"];
+const { entry: ENTRY, told: TOLD, claim: CLAIM, utc: UTC, verdict: VERDICT, refusal: REFUSAL } = LAYOUT;
 
 // ---- the module
 
@@ -51,21 +38,21 @@ function entries_in(text) {
 
 // Why a scenario is refused: the line, the number and the reason in words; null if it is not.
 function refusal_in(view, place, reason) {
-  const [line, whole] = [REFUSAL.LINE, REFUSAL.WHOLE].map((at) => Number(view.getBigUint64(place + at, true)));
+  const [line, whole, number] = ["line", "whole", "number"].map((name) => get(view, place, REFUSAL[name]));
   if (!line) return null;
   const text = new TextDecoder().decode(new Uint8Array(view.buffer, reason, Math.min(whole, REASON_ROOM)));
-  return { line, number: view.getUint8(place + REFUSAL.NUMBER), reason: text };
+  return { line, number, reason: text };
 }
 
 // Runs a scenario of these bytes in at most so many bytes of memory, with room for so many entries; if that
 // is too little it runs once more, in a new memory.
 function run_of(module, text, most, room, on_growth) {
   const { memory, calls, give } = calls_of(module, most, on_growth);
-  const sizes = [text.length, 8, VERDICT.SIZE, REASON_ROOM, REFUSAL.SIZE, room * ENTRY.SIZE];
+  const sizes = [text.length, 8, VERDICT.size, REASON_ROOM, REFUSAL.size, room * ENTRY.size];
   const [from, whole, verdict, reason, refusal, entries] = sizes.map(give);
   const failed = (status) => ({ status, count: 0, refusal: null, view: new DataView(memory.buffer) });
-  if (!from || !whole || !verdict || !reason || !refusal) return failed(NO_MEMORY);
-  if (!entries) return failed(NO_LOG);
+  if (!from || !whole || !verdict || !reason || !refusal) return failed(RUN_NO_MEMORY);
+  if (!entries) return failed(RUN_NO_LOG);
   new Uint8Array(memory.buffer).set(text, Number(from));
   const status = calls.irig_scene_c_run_entries(
     from, BigInt(text.length), entries, BigInt(room), whole, verdict, reason, BigInt(REASON_ROOM), refusal,
@@ -80,30 +67,26 @@ function run_of(module, text, most, room, on_growth) {
 
 const day_texts = new Map();
 
-function second_text(view, at) { // of a day and a second of the day
-  const day = view.getUint32(at + CLAIM.DAY, true), sod = view.getUint32(at + CLAIM.SOD, true);
+function second_text(view, at, fields = UTC) { // of a structure with a day and a second of the day
+  const day = get(view, at, fields.day), sod = get(view, at, fields.sod);
   if (!day_texts.has(day)) day_texts.set(day, new Date(Date.UTC(2000, 0, 1 + day)).toISOString().slice(0, 11));
   const minute = Math.min(Math.floor(sod / 60), 1439); // the last one may have 61 seconds
   const parts = [Math.floor(minute / 60), minute % 60, sod - 60 * minute];
   return `${day_texts.get(day)}${parts.map((part) => String(part).padStart(2, "0")).join(":")}Z`;
 }
 
-function fault_word(answer) {
-  const number = answer & 255, detail = answer >>> 8, word = `fault:${number}:${FAULT_NAMES[number]}`;
-  if (number === 5 || number === 6) return `${word}:${FIELDS[detail]}`;
-  return [1, 3, 4].includes(number) ? `${word}:${detail}` : word;
-}
-
 // The kind and the word of what a port told, beside the true claim, of which the place is 0 if there is none.
 function told_at(view, at, truth) {
-  const kind = view.getUint8(at + TOLD.KIND), claim = at + TOLD.CLAIM;
-  if (kind === 0) return [PORT.SILENT, "silence"];
-  if (kind === 1) return [PORT.FAULTY, fault_word(view.getUint32(at + TOLD.FAULT, true))];
-  if (kind === 2) return [PORT.POOR, `poor:${view.getUint8(at + TOLD.QUALITY)}`];
-  const is_same = truth && view.getBigUint64(claim, true) === view.getBigUint64(truth, true);
-  if (!is_same) return [PORT.ANOTHER_SECOND, second_text(view, claim)];
-  const mark = view.getUint8(claim + CLAIM.MARK);
-  return mark === view.getUint8(truth + CLAIM.MARK) ? [PORT.AGREED, "ok"] : [PORT.ANOTHER_MARK, MARKS[mark]];
+  const kind = get(view, at, TOLD.kind), claim = at + TOLD.claim.at, second = claim + CLAIM.at.at;
+  if (kind === NUMBERS.TOLD_SILENCE) return [PORT.SILENT, "silence"];
+  if (kind === NUMBERS.TOLD_FAULT) {
+    return [PORT.FAULTY, ["fault", ...fault_words(fault_of(get(view, at, TOLD.fault)))].join(":")];
+  }
+  if (kind === NUMBERS.TOLD_POOR) return [PORT.POOR, `poor:${get(view, at, TOLD.quality)}`];
+  const is_same = (field) => get(view, second, field) === get(view, truth + CLAIM.at.at, field);
+  if (!truth || !is_same(UTC.sod) || !is_same(UTC.day)) return [PORT.ANOTHER_SECOND, second_text(view, second)];
+  const mark = get(view, claim, CLAIM.mark);
+  return mark === get(view, truth, CLAIM.mark) ? [PORT.AGREED, "ok"] : [PORT.ANOTHER_MARK, MARKS[mark]];
 }
 
 class LogWriter { // lines become bytes, some megabytes at once
@@ -134,9 +117,9 @@ class LogWriter { // lines become bytes, some megabytes at once
 
 function verdict_text({ status, refusal, view, verdict }, names) {
   if (refusal) return `refused: line ${refusal.line}: ${refusal.number} ${FAULT_NAMES[refusal.number]}`;
-  if (status !== DONE) return null;
-  const [kind, reader] = [VERDICT.KIND, VERDICT.READER].map((at) => view.getUint8(verdict + at));
-  const broken = `edge ${view.getBigUint64(verdict + VERDICT.EDGE, true)} reader ${names[reader]}`;
+  if (status !== RUN_DONE) return null;
+  const [edge, kind, reader] = ["edge", "kind", "reader"].map((name) => get(view, verdict, VERDICT[name]));
+  const broken = `edge ${edge} reader ${names[reader]}`;
   return [null, "premises kept", `premises broken: ${broken}`, `premises broken: table of reader ${names[reader]}`][kind];
 }
 
@@ -145,9 +128,8 @@ function shown_of(ran, names, shown) {
   const { view } = ran, writer = new LogWriter(), lanes = new Map(), drawn = new Set();
   let has_silences = false;
   for (let place = 0; place < ran.count; place++) {
-    const at = ran.entries + place * ENTRY.SIZE, [edge, line] = [ENTRY.EDGE, ENTRY.LINE].map((part) =>
-      Number(view.getBigUint64(at + part, true)));
-    const reader = names[view.getUint8(at + ENTRY.READER)], is_silent = !view.getUint8(at + ENTRY.ANNOUNCES);
+    const at = ran.entries + place * ENTRY.size, edge = get(view, at, ENTRY.edge), line = get(view, at, ENTRY.line);
+    const reader = names[get(view, at, ENTRY.reader)], is_silent = !get(view, at, ENTRY.announces);
     if (!lanes.has(reader)) lanes.set(reader, new Lane(reader));
     const lane = lanes.get(reader);
     lane.make(edge, line - 1);
@@ -169,16 +151,16 @@ function shown_of(ran, names, shown) {
 }
 
 function add_entry(writer, lane, view, at, edge, is_silent) {
-  const lock = LOCKS[view.getUint8(at + ENTRY.LOCK)], cause = view.getUint8(at + ENTRY.CAUSE);
-  const count = view.getUint32(at + ENTRY.COUNT, true), time = is_silent ? "-" : second_text(view, at + ENTRY.DAY);
+  const lock = LOCKS[get(view, at, ENTRY.lock)], cause = get(view, at, ENTRY.cause);
+  const count = get(view, at, ENTRY.lock_count), time = is_silent ? "-" : second_text(view, at, ENTRY);
   lane.add(edge, time, STATE_NAMES.indexOf(lock), cause + 1, writer.length);
   writer.add(`${edge} ${lane.reader} ${time} ${lock}${count ? `:${count}` : ""} ${CAUSES[cause]}`);
 }
 
 function add_ports(writer, lane, view, at, edge) {
-  const truth = view.getUint8(at + ENTRY.HAS_TRUTH) ? at + ENTRY.TRUTH : 0, told = [];
-  for (let port = 0; port < view.getUint8(at + ENTRY.PORTS); port++) {
-    told.push(told_at(view, at + ENTRY.TOLD + port * TOLD.SIZE, truth));
+  const truth = get(view, at, ENTRY.has_truth) ? at + ENTRY.truth.at : 0, told = [];
+  for (let port = 0; port < get(view, at, ENTRY.ports); port++) {
+    told.push(told_at(view, at + ENTRY.told.at + port * TOLD.size, truth));
   }
   lane.tell(edge, told.map(([kind]) => kind), writer.length);
   writer.add(` ${edge} ${lane.reader} ${told.map(([, word]) => word).join(" ")}`);
@@ -190,18 +172,18 @@ function add_ports(writer, lane, view, at, edge) {
 function told_of({ module, text, shown, most }, tell) {
   const expected = entries_in(text), begun = performance.now();
   // The run's own copy of the entries may take twice as much as these.
-  const room = Math.min(Math.max(LEAST_ROOM, expected), Math.floor((most / 3 - SPARE) / ENTRY.SIZE));
+  const room = Math.min(Math.max(LEAST_ROOM, expected), Math.floor((most / 3 - SPARE) / ENTRY.size));
   let largest = SPARE;
   const on_growth = (bytes) => {
     if (bytes <= largest) return;
     largest = bytes;
-    const written = Math.floor(bytes / 2 / ENTRY.SIZE);
+    const written = Math.floor(bytes / 2 / ENTRY.size);
     tell({ kind: "progress", spent: performance.now() - begun, written, expected });
   };
   const ran = run_of(module, text, most, room, on_growth);
   const spent = performance.now() - begun, { status, refusal, count } = ran;
   tell({ kind: "progress", spent, written: count, expected: count, is_read: true });
-  const memory = ran.view.buffer.byteLength, names = count || status === DONE ? names_in(text) : [];
+  const memory = ran.view.buffer.byteLength, names = count || status === RUN_DONE ? names_in(text) : [];
   return { kind: "done", status, refusal, memory, spent, ...shown_of(ran, names, shown) };
 }
 

@@ -19,12 +19,12 @@ uint32_t timer_now(void);
 void on_second(const irig_second *second);
 
 /* The alarm of a second, as a substation has it: `lost`, if none is announced; `untrusted`, if votes
- * contradicted one another of late; `degraded`, if it is held, or a line is not as the others; or
+ * contradicted one another of late, or the vote contradicts the leap table; `degraded`, if it is held, or a line is not as the others; or
  * none. */
 static inline const char *alarm_of(const irig_second *second) {
     const irig_masks *lines = &second->lines;
     if (!second->report.announces) return "lost";
-    if (second->doubt > 0) return "untrusted";
+    if ((second->doubt > 0) || (second->against_table != 0)) return "untrusted";
     if ((second->report.cause == IRIG_CAUSE_HELD) || (lines->apart != 0) ||
         (lines->differed != 0) || (lines->faulty != 0) || (lines->poor != 0) ||
         (lines->broken != 0) || (lines->silent != 0))

@@ -1,11 +1,11 @@
-"""The shared libraries, and the structures that they share with C, as c/irig.h has them. A library is
-loaded at the first of its calls, so that what needs none works where none is."""
+"""The shared libraries, with their structures and calls by the list of c/layout.txt, which is made of the headers.
+A library is loaded at the first of its calls, so that what needs none works where none is."""
 from __future__ import annotations
 
 import ctypes
+import re
 import subprocess
-from ctypes import Structure, c_bool, c_char_p, c_int8, c_int16, c_int32, c_size_t
-from ctypes import c_uint8, c_uint16, c_uint32, c_uint64
+from ctypes import POINTER, Structure, c_char, c_int16, c_uint8, sizeof
 from functools import lru_cache
 from pathlib import Path
 from typing import Any, Dict, List, Tuple
@@ -13,151 +13,72 @@ from typing import Any, Dict, List, Tuple
 HERE = Path(__file__).resolve().parent
 
 
-def _of(kind: Any, names: str) -> List[Tuple[str, Any]]:
-    """Fields of one type, in a row."""
-    return [(name, kind) for name in names.split()]
+def lines_of(name: str) -> List[str]:
+    """The lines of a file of the repository, which an installed package has beside this one."""
+    beside = HERE / Path(name).name
+    path = beside if beside.exists() else HERE.parent.parent / name
+    return path.read_text(encoding="utf-8").splitlines()
 
 
-class Coded(Structure):
-    _fields_ = [
-        *_of(c_uint8, "second minute hour"), ("day", c_uint16), ("year", c_uint8),
-        *_of(c_uint32, "control sbs"),
-    ]
+LINES = lines_of("c/layout.txt")
+LAYOUT = int(LINES[0].split()[1])  # the number of all that follows
+IRIG, SCENE = f"libirig.so.{LAYOUT}", f"libirig_scene.so.{LAYOUT}"
+LIBRARIES = {"irig.h": IRIG, "irig_scene.h": SCENE}
+# A call of the first library holds Python's lock: it is short, and no other thread comes between. A
+# run of the second may be long: other threads go on meanwhile.
+KINDS = {IRIG: ctypes.PyDLL, SCENE: ctypes.CDLL}
+
+Symbols, Text, Delays = c_uint8 * 100, c_char * 20, c_int16 * 5
+STRUCTURES: Dict[str, Any] = {}  # by their names in C. Here irig_line_said is LineSaid
+CALLS: Dict[str, Tuple[Any, ...]] = {}  # the library of a call, what it answers, and what it takes
 
 
-class Control(Structure):
-    _fields_ = [
-        *_of(c_uint8, "leap_pending leap_delete dst_pending dst"), ("offset_half_hours", c_int8),
-        ("quality", c_uint8),
-    ]
+def _type(name: str) -> Any:
+    """A type by its name in C, as `irig_utc` or `uint8_t`."""
+    if name == "irig_count":
+        return ctypes.c_size_t
+    return STRUCTURES.get(name) or getattr(ctypes, "c_" + re.sub(r"(?<=\d)_t", "", name))
 
 
-class Utc(Structure):
-    _fields_ = _of(c_uint32, "day sod")
+def _structure(name: str, fields: str) -> Any:
+    """A structure of fields like `irig_tally ports 552 120`: a type, a name, a place and a size."""
+    found = []
+    for kind, field, _, size in map(str.split, fields.split(",")):
+        count = int(size) // sizeof(_type(kind))
+        found.append((field, _type(kind) * count if count > 1 else _type(kind)))
+    words = name.split("_")[1:]
+    return type("".join(map(str.title, words)), (Structure,), {"_fields_": found})
 
 
-class Claim(Structure):
-    _fields_ = [("at", Utc), ("mark", c_uint8)]
+def _passed(declared: str) -> Any:
+    """The type of what a call takes or answers, declared like `const irig_utc *second`."""
+    found = re.fullmatch(r"(const )?(\w+) ?(\*?)\w*(?:\[(\d+)\])?", declared)
+    assert found
+    is_const, name, is_pointer, count = found.groups()
+    if name == "void":
+        return None
+    if count:
+        return _type(name) * int(count)
+    if is_pointer:
+        return ctypes.c_char_p if is_const and sizeof(_type(name)) == 1 else POINTER(_type(name))
+    return _type(name)
 
 
-class Setup(Structure):
-    _fields_ = [
-        *_of(c_uint8, "parity sense sbs redundancy lock_after"), ("holdover", c_uint32),
-        ("not_before", c_uint16), ("poor_from", c_uint8),
-    ]
+def _take(lines: List[str]) -> None:
+    """Takes up the structures and calls of the list."""
+    library = ""
+    for line in lines:
+        structure = re.fullmatch(r"(irig_\w+) \d+: (.*)", line)
+        call = re.fullmatch(r"(.*?) ?irig_(\w+)\((?!void)(.*)\);", line)
+        library = LIBRARIES.get(line, library)
+        if structure:
+            made = STRUCTURES[structure[1]] = _structure(*structure.groups())
+            globals()[made.__name__] = made
+        elif call:
+            CALLS[call[2]] = library, *map(_passed, (call[1], *call[3].split(", ")))
 
 
-class Leap(Structure):
-    _fields_ = _of(c_uint32, "day kind")
-
-
-class Table(Structure):
-    _fields_ = [*_of(c_uint32, "until len"), ("leaps", Leap * 64)]
-
-
-class State(Structure):
-    _fields_ = [*_of(c_uint8, "kind count heard"), *_of(c_uint32, "day sod age")]
-
-
-class Tally(Structure):
-    _fields_ = [
-        ("count", c_uint32), *_of(c_uint8, "wrong_kind wrong_element"), *_of(c_uint64, "time control"),
-    ]
-
-
-class Reader(Structure):
-    _fields_ = [
-        ("setup", Setup), ("table", Table), ("state", State), ("ports", Tally * 5), ("check", c_uint64),
-    ]
-
-
-class Sync(Structure):
-    _fields_ = [("rise_us", c_uint32), *_of(c_uint8, "place was_marker")]
-
-
-class Report(Structure):
-    _fields_ = [
-        *_of(c_uint8, "announces lock cause agreed"), *_of(c_uint32, "lock_count day sod"),
-        *_of(c_uint8, "differed faulty poor quality has_local"), ("local_half_hours", c_int8),
-        *_of(c_uint8, "dst against_hold"),
-    ]
-
-
-class Told(Structure):
-    _fields_ = [*_of(c_uint8, "kind quality"), ("fault", c_uint32), ("claim", Claim)]
-
-
-Delays = c_int16 * 5
-
-
-class Wires(Structure):
-    _fields_ = [*_of(c_uint16, "within_us drift_us"), ("delay_us", Delays)]
-
-
-class Line(Structure):
-    _fields_ = [
-        ("sync", Sync), *_of(Tally, "port frame"), *_of(c_uint32, "begin_us end_us"),
-        *_of(c_uint8, "is_uneven has_frame is_seen is_heard"),
-    ]
-
-
-class Announced(Structure):
-    _fields_ = [*_of(c_uint32, "day sod edge_us bound_us"), ("is_told", c_uint8)]
-
-
-class Timekeeper(Structure):
-    _fields_ = [
-        ("setup", Setup), ("table", Table), ("state", State), ("lines", Line * 5), ("wires", Wires),
-        *_of(c_uint32, "edge_us moved"), ("has_edge", c_uint8), ("bound_us", c_uint16),
-        *_of(Announced, "last before ended ended_before"),
-        *_of(c_uint32, "begin_us long_us strays doubt"), ("has_interval", c_uint8), ("check", c_uint64),
-    ]
-
-
-class Masks(Structure):
-    _fields_ = _of(c_uint8, "agreed apart differed faulty poor broken silent unjudged")
-
-
-class Second(Structure):
-    _fields_ = [
-        ("is_told", c_uint8), *_of(c_uint32, "edge_us bound_us missed moved strays doubt"),
-        ("lines", Masks), ("report", Report),
-    ]
-
-
-class LineSaid(Structure):
-    _fields_ = [("state", c_uint8), ("told", Told), ("end_us", c_uint32), ("off_us", c_int32)]
-
-
-class Stamp(Structure):
-    _fields_ = _of(c_uint32, "day sod offset_us bound_us")
-
-
-class Span(Structure):
-    _fields_ = _of(c_size_t, "start end")
-
-
-class Refusal(Structure):
-    _fields_ = [
-        ("line", c_uint64), ("whole", c_size_t), *_of(Span, "place key value allowed"),
-        ("number", c_uint8),
-    ]
-
-
-class Entry(Structure):
-    _fields_ = [
-        *_of(c_uint64, "edge line"), ("truth", Claim), ("told", Told * 5),
-        *_of(c_uint32, "lock_count day sod"),
-        *_of(c_uint8, "reader announces lock cause ports has_truth"),
-    ]
-
-
-class Verdict(Structure):
-    _fields_ = [("edge", c_uint64), *_of(c_uint8, "kind reader")]
-
-
-Symbols = c_uint8 * 100
-Text = ctypes.c_char * 20
+_take(LINES)
 
 
 def same(one: Any, other: Any) -> bool:
@@ -169,57 +90,6 @@ def same(one: Any, other: Any) -> bool:
     if isinstance(one, ctypes.Array):
         return len(one) == len(other) and all(map(same, one, other))
     return bool(one == other)
-
-
-def _to(structure: Any) -> Any:
-    return ctypes.POINTER(structure)
-
-
-# A call of the first library holds Python's lock: it is short, and no other thread comes between. A
-# run of the second may be long: other threads go on meanwhile.
-LAYOUT = 5  # as in c/irig.h: of the structures above, and the calls below
-IRIG, SCENE = f"libirig.so.{LAYOUT}", f"libirig_scene.so.{LAYOUT}"
-KINDS = {IRIG: ctypes.PyDLL, SCENE: ctypes.CDLL}
-
-# The library of a call, what it answers, and what it takes.
-CALLS: Dict[str, Tuple[Any, ...]] = {
-    "classify": (IRIG, c_uint8, c_uint32),
-    "width_us": (IRIG, c_uint32, c_uint8),
-    "frame_of": (IRIG, c_uint32, _to(Utc), c_int8, _to(Control), c_uint8, Symbols),
-    "encode": (IRIG, c_uint32, _to(Coded), Symbols),
-    "decode": (IRIG, c_uint32, c_char_p, c_size_t, _to(Coded)),
-    "has_parity": (IRIG, c_bool, Symbols, c_uint8),
-    "set_parity": (IRIG, c_uint32, Symbols, c_uint8),
-    "control_pack": (IRIG, c_uint32, _to(Control), _to(c_uint32)),
-    "control_unpack": (IRIG, c_uint32, c_uint32, _to(Control)),
-    "second_next": (IRIG, c_uint32, _to(Utc), c_uint8, _to(Utc)),
-    "second_write": (IRIG, c_uint32, _to(Utc), Text),
-    "second_read": (IRIG, c_uint32, c_char_p, c_size_t, _to(Utc)),
-    "coded_of": (IRIG, c_uint32, _to(Utc), c_int8, _to(Coded)),
-    "claim_of": (IRIG, c_uint32, _to(Coded), _to(Control), c_uint8, _to(Claim)),
-    "reader_init": (IRIG, c_uint32, _to(Reader), _to(Setup), _to(Table)),
-    "reader_pulse": (IRIG, c_uint32, _to(Reader), c_uint8, c_uint32),
-    "reader_pulses": (IRIG, c_uint32, _to(Reader), c_uint8, _to(c_uint32), c_size_t),
-    "sync_init": (IRIG, None, _to(Sync)),
-    "sync_pulse": (IRIG, c_uint8, _to(Sync), c_uint32, c_uint32),
-    "sync_idle": (IRIG, None, _to(Sync), c_uint32),
-    "reader_hear": (IRIG, c_uint8, _to(Reader), _to(Sync), c_uint8, c_uint32, c_uint32),
-    "reader_tick": (IRIG, c_uint32, _to(Reader), _to(Report)),
-    "reader_restart": (IRIG, None, _to(Reader)),
-    "reader_port": (IRIG, c_uint32, _to(Reader), c_uint8, _to(Told)),
-    "timekeeper_init": (IRIG, c_uint32, _to(Timekeeper), _to(Setup), _to(Table), _to(Wires)),
-    "timekeeper_hear": (IRIG, c_uint8, _to(Timekeeper), c_uint8, c_uint32, c_uint32),
-    "timekeeper_tick": (IRIG, c_uint32, _to(Timekeeper), c_uint32, _to(Second)),
-    "timekeeper_wait": (IRIG, c_uint32, _to(Timekeeper), c_uint32),
-    "timekeeper_stamp": (IRIG, c_uint32, _to(Timekeeper), c_uint32, _to(Stamp)),
-    "timekeeper_line": (IRIG, c_uint32, _to(Timekeeper), c_uint8, _to(LineSaid)),
-    "timekeeper_restart": (IRIG, None, _to(Timekeeper)),
-    "quality_of": (IRIG, c_uint8, c_uint32),
-    "run_entries": (
-        SCENE, c_uint8, c_char_p, c_size_t, _to(Entry), c_size_t, _to(c_size_t), _to(Verdict),
-        _to(c_uint8), c_size_t, _to(Refusal),
-    ),
-}
 
 
 def symbol(name: str) -> str:

@@ -1,8 +1,11 @@
 """Faults and refusals, by their numbers in docs/FAULTS.md."""
 from __future__ import annotations
 
+import re
 from operator import index
-from typing import Dict, NamedTuple, Optional, Tuple, Union
+from typing import Iterator, NamedTuple, Optional, Tuple, Union
+
+from ._library import lines_of
 
 Detail = Union[int, str, None]
 
@@ -14,71 +17,22 @@ class Meaning(NamedTuple):
 
     name: str
     cause: str
+    example: str
+    cure: str
 
 
-MEANINGS: Dict[int, Meaning] = {
-    1: Meaning("Short", "fewer than 100 symbols, {} of them"),
-    2: Meaning("Long", "more than 100 symbols"),
-    3: Meaning("Pulse", "the lowest wrong element is {}, a bad pulse"),
-    4: Meaning(
-        "Marker",
-        "the lowest wrong element is {}, a marker where data belongs or data where a marker does",
-    ),
-    5: Meaning(
-        "Digit",
-        "the first wrong field, of second, minute, hour, day, year, has a decimal digit above 9",
-    ),
-    6: Meaning("Range", "that field has digits, and is out of its range"),
-    7: Meaning("NoSuchDay", "day 366 of a year that has 365"),
-    8: Meaning("OutOfYears", "the UTC day is before 2000-01-02 or after 2099-12-30"),
-    9: Meaning("Second60", "second 60 elsewhere than in 23:59 UTC of a month's last day"),
-    10: Meaning(
-        "DeletedSecond",
-        "23:59:59 UTC of a month's last day, and the frame says that this second is deleted",
-    ),
-    11: Meaning("BadStart", "start is no second of this timeline"),
-    12: Meaning("LeapNotMonthEnd", "a leap on a day that is not a month's last"),
-    13: Meaning("LeapTwice", "a day is listed twice in leaps"),
-    14: Meaning("OutOfYears", "a leap outside 2000-01-02 to 2099-12-30"),
-    15: Meaning("Offset", "a zone more than 31 half hours from UTC"),
-    16: Meaning("Changes", "a change inside a minute, or not later than the one before"),
-    17: Meaning(
-        "Parity",
-        "the ones at elements 1 to 75 have the wrong parity",
-    ),
-    18: Meaning("Sbs", "the straight binary seconds are not those of the coded time"),
-    19: Meaning("NoSuchReader", "no reader has this name"),
-    20: Meaning("NoSuchGenerator", "there is no generator g"),
-    21: Meaning("FutureReplay", "a replay of an edge that generator g has not reached"),
-    22: Meaning("EndOfYears", "a second after 2099-12-30"),
-    23: Meaning("TooLong", "more than 65,536 bytes in a line"),
-    24: Meaning("Json", "no JSON, no UTF-8, or nested deeper than 127"),
-    25: Meaning(
-        "Shape",
-        "a key is missing or unknown, or a value has another type;"
-        " a do or kind that is not there",
-    ),
-    26: Meaning(
-        "Value",
-        "a number out of its range, a text that is none of the words or no date,"
-        " a list that is too long, or too many or too few generators",
-    ),
-    27: Meaning("Version", "a version that this program does not know"),
-    28: Meaning("Names", "no reader or more than 16, a name of another form, or a name twice"),
-    29: Meaning("NoPlant", "the input ended before a plant line"),
-    30: Meaning("TooManyLines", "more than 1,000,000 lines"),
-    31: Meaning("TableEnd", "a table goes beyond 2099-12-30"),
-    32: Meaning("TableLong", "a table with more than 64 leaps"),
-    33: Meaning("TableDay", "a table's leap on a day that is not a month's last, or after until"),
-    34: Meaning("TableTwice", "a day is listed twice in a table"),
-    35: Meaning(
-        "Drift",
-        "a holdover longer than a timekeeper's counter can count:"
-        " (holdover + 2) * drift_us is above 490,000",
-    ),
-    36: Meaning("Early", "a second before the first day that the reader takes, not_before"),
-}
+def _meanings() -> Iterator[Tuple[int, Meaning]]:
+    """The rows of the tables of docs/FAULTS.md; in a cause one letter stands for the detail."""
+    for line in lines_of("docs/FAULTS.md"):
+        row = re.match(r"\| (\d+) \| (\w+)(?: (\w+))? \| (.+) \| (.+) \| (.+) \|", line.replace("`", ""))
+        if row:
+            number, name, detail, cause, *others = row.groups()
+            if detail and len(detail) == 1:
+                cause = re.sub(rf"\b{detail}\b", "{}", cause)
+            yield int(number), Meaning(name, cause, *others)
 
+
+MEANINGS = dict(_meanings())
 VALUE = 26
 
 

@@ -23,6 +23,8 @@ class Beat:
     moved: how often lines set the edge right since the second that was told before
     strays: how many votes contradicted those before them since the timekeeper was made or restarted
     doubt: how many seconds have to be voted yet before one is announced again without a vote
+    against_table: whether the vote and the leap table contradict one another on a leap second; False
+        without a vote
     lines: what each line is. An "uneven" line is "faulty" here
     """
 
@@ -33,6 +35,7 @@ class Beat:
     moved: int
     strays: int
     doubt: int
+    against_table: bool
     lines: Tuple[LineState, ...]
 
     def __str__(self) -> str:
@@ -58,6 +61,20 @@ class Line:
     told: Told
     end_us: int
     off_us: int
+
+
+@dataclass(frozen=True)
+class Rate:
+    """How long seconds were by the timekeeper's counter: 1,000,000,000 ns by a perfect one.
+
+    seconds: of how many seconds it is the mean, 1 to 2,000, up to the one that was counted last
+    least_ns: what that mean is at least, in nanoseconds of the counter
+    most_ns: what it is at most
+    """
+
+    seconds: int
+    least_ns: int
+    most_ns: int
 
 
 @dataclass(frozen=True)
@@ -132,11 +149,13 @@ class Timekeeper(Ruled):
         (holdover + 2) * drift_us may be 490,000 at most
     delay_us: how many microseconds later than at its clock each line's pulses rise here, -4,000 to
         4,000, below 0 if it is early: this is taken off
+    prefers_frames: whether it follows the frames where they contradict its leap table on a leap second.
+        Else it is silent at the second where the two part, and locks anew
 
     What else it takes is what a `Reader` takes, and a port is a line.
     """
 
-    _what, _form, _kind = "timekeeper", "irig timekeeper 5", c.Timekeeper
+    _what, _form, _kind = "timekeeper", f"irig timekeeper {c.LAYOUT}", c.Timekeeper
 
     def __init__(
         self,
@@ -146,6 +165,7 @@ class Timekeeper(Ruled):
         drift_us: int,
         within_us: int = 450,
         delay_us: Sequence[int] = (),
+        prefers_frames: bool = False,
         ports: Literal[1, 3, 5] = 3,
         parity: Parity = "even",
         sense: Sense = "add",
@@ -161,7 +181,7 @@ class Timekeeper(Ruled):
         exact, drift = within("within_us", within_us, 1, 450), within("drift_us", drift_us, 0, 100)
         delays = [within("delay_us", delay, -4000, 4000) for delay in delay_us]
         within("how many of delay_us", len(delays), 0, ports)
-        self._held, wires = c.Timekeeper(), c.Wires(exact, drift, c.Delays(*delays))
+        self._held, wires = c.Timekeeper(), c.Wires(exact, drift, c.Delays(*delays), bool(prefers_frames))
         check(c.timekeeper_init(self._held, setup, table_of(until, leaps), wires))
 
     def hear(self, line: int, rise_us: int, width_us: int) -> int:
@@ -186,7 +206,7 @@ class Timekeeper(Ruled):
         states = _states_in(held.lines, self.ports)
         return Beat(
             report, held.edge_us, held.bound_us, held.missed, held.moved, held.strays, held.doubt,
-            states,
+            bool(held.against_table), states,
         )
 
     def line(self, line: int) -> Line:
@@ -212,6 +232,16 @@ class Timekeeper(Ruled):
             return None
         return Stamp(Second(held.day, held.sod), held.offset_us, held.bound_us)
 
+    def rate(self) -> Optional[Rate]:
+        """How long the last seconds were by the counter, 2,000 of them at most. None until a second was
+        counted behind the first vote, or behind one that contradicts those before it; while no interval
+        is known; and once no vote came for 2,000 s. What a tick would refuse is refused."""
+        held = c.Rate()
+        if c.timekeeper_rate(self._held, held):
+            self._refuse(c.Timekeeper.from_buffer_copy(self._held))
+            return None
+        return Rate(held.seconds, held.least_ns, held.most_ns)
+
     def restart(self) -> None:
         """Forgets all that was heard and counted. A timekeeper that a tick refuses stays so."""
         c.timekeeper_restart(self._held)
@@ -230,6 +260,11 @@ class Timekeeper(Ruled):
     def delay_us(self) -> Tuple[int, ...]:
         """How late each line is."""
         return tuple(self._held.wires.delay_us[: self.ports])
+
+    @property
+    def prefers_frames(self) -> bool:
+        """Whether it follows frames against its leap table."""
+        return bool(self._held.wires.prefers_frames)
 
     @property
     def strays(self) -> int:

@@ -1,4 +1,4 @@
-"""The structures, beside those of c/irig.h as a C compiler lays them out, and the calls."""
+"""The structures, as a C compiler lays them out, the calls, and the words by which numbers go in Python."""
 from __future__ import annotations
 
 import ctypes
@@ -9,63 +9,51 @@ from unittest import mock
 
 import irig
 from irig import _library
-from irig.faults import MEANINGS
-from irig.words import CAUSES, LOCKS
-from program import ROOT
-
-STRUCTURES = {
-    "irig" + re.sub("([A-Z])", r"_\1", name).lower(): kind for name, kind in vars(_library).items()
-    if isinstance(kind, type) and issubclass(kind, ctypes.Structure) and kind is not ctypes.Structure
-}
-UNUSED = {"irig_frame_options"}
+from irig.faults import FIELDS, MEANINGS
+from irig.words import CAUSES, LINE_STATES, LOCKS, MARKS
 
 
-def laid_out_by_c() -> dict[str, str]:
-    """Of each structure its size, and place and size of each field, without their types."""
-    lines = (ROOT / "c/layout.txt").read_text().splitlines()
-    found = dict(line.split(" ", 1) for line in lines if re.match(r"irig_\w+ \d+:", line))
-    return {name: re.sub(r"\w+ (\w+ \d+ \d+)", r"\1", rest) for name, rest in found.items()}
-
-
-def laid_out_by_python(structure: Any) -> str:
+def laid_out(name: str, structure: Any) -> str:
+    """The line of c/layout.txt, without the types of fields."""
     places = ((field, getattr(structure, field)) for field, *_ in structure._fields_)
     fields = ",".join(f" {field} {place.offset} {place.size}" for field, place in places)
-    return f"{ctypes.sizeof(structure)}:{fields}"
+    return f"{name} {ctypes.sizeof(structure)}:{fields}"
 
 
 class Layout(unittest.TestCase):
     def test_layout(self) -> None:
         """That of the list which tools/repo/versions compares with the headers."""
-        here = {name: laid_out_by_python(structure) for name, structure in STRUCTURES.items()}
-        wanted = laid_out_by_c()
-        self.assertEqual(here, {name: wanted[name] for name in wanted.keys() - UNUSED})
+        listed = [re.sub(r"\w+ (\w+ \d+ \d+)", r"\1", line) for line in _library.LINES if ": " in line]
+        self.assertEqual([laid_out(*structure) for structure in _library.STRUCTURES.items()], listed)
 
     def test_a_library_of_another_layout(self) -> None:
-        wrong = "libirig.so.5 has no irig_width_us_layout_1: take it and this package of one version"
+        wrong = f"{_library.IRIG} has no irig_width_us_layout_1: take it and this package of one version"
         with mock.patch.object(_library, "LAYOUT", 1), self.assertRaisesRegex(ImportError, wrong):
             _library.__getattr__("width_us")
 
 
 class Texts(unittest.TestCase):
+    def test_words(self) -> None:
+        """In the order of their numbers in C."""
+        for kind, names in (
+            ("FIELD", FIELDS), ("LOCK", LOCKS), ("CAUSE", CAUSES), ("MARK", MARKS), ("LINE", LINE_STATES),
+        ):
+            numbers = (f"IRIG_{kind}_{name.upper().replace('-', '_')} = {n}" for n, name in enumerate(names))
+            self.assertEqual(list(numbers), [line for line in _library.LINES if line.startswith(f"IRIG_{kind}_")])
+
     def test_names(self) -> None:
         """By their numbers, each with a text; what stands beside a fault does not count, as 77 here."""
-        library = _library._loaded(_library.IRIG)
         for kind, names in (
             ("fault", {number: meaning.name for number, meaning in MEANINGS.items()}),
             ("lock", dict(enumerate(LOCKS))), ("cause", dict(enumerate(CAUSES))),
         ):
             for number in range(256):
                 answer = number | 77 << 8 if kind == "fault" else number
-                name, text = (said(library, f"{kind}_{what}", answer) for what in ("name", "text"))
-                self.assertEqual((name, bool(text)), (names.get(number, ""), number in names))
+                name, text = (getattr(_library, f"{kind}_{what}")(answer) for what in ("name", "text"))
+                self.assertEqual((name.decode(), bool(text)), (names.get(number, ""), number in names))
+        library = _library._loaded(_library.IRIG)
         library.irig_version.restype = ctypes.c_char_p
         self.assertEqual(library.irig_version().decode(), irig.__version__)
-
-
-def said(library: ctypes.CDLL, name: str, *numbers: int) -> str:
-    call = getattr(library, _library.symbol(name))
-    call.restype = ctypes.c_char_p
-    return call(*numbers).decode()
 
 
 POINTER = ctypes.c_void_p

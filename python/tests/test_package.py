@@ -13,6 +13,7 @@ import zipfile
 from pathlib import Path
 
 import irig
+from irig import _library
 from program import ROOT, printed
 
 HOOK = "import backend, sys; print(backend.{}(sys.argv[1]))"
@@ -58,7 +59,7 @@ class Package(unittest.TestCase):
             names = set(opened.namelist())
             about = f"irig-{version}.dist-info"
             sources = {path.name for path in (ROOT / "python/irig").glob("*.py")}
-            others = {"libirig.so.5", "libirig_scene.so.5", "py.typed"}
+            others = {_library.IRIG, _library.SCENE, "py.typed", "layout.txt", "FAULTS.md"}
             self.assertLessEqual({f"irig/{name}" for name in sources | others}, names)
             self.assertIn(f"Version: {version}\n", opened.read(f"{about}/METADATA").decode())
             licences = {path.name for path in ROOT.glob("LICENSE-*")}

@@ -10,7 +10,7 @@ from datetime import date, datetime, timezone
 from pathlib import Path
 from typing import List
 
-from irig import Second
+from irig import Second, _library
 from irig.scenarios import (
     Change, Damage, Generator, Leap, Lost, Raw, Reader, Replay, Scenario, Table, Timeline,
     made_edges, plant_in,
@@ -179,17 +179,17 @@ class Said(unittest.TestCase):
 
 class Alone(unittest.TestCase):
     def test_no_library_is_needed(self) -> None:
-        """The sources alone, in a folder without libraries."""
+        """The sources and their lists alone, in a folder without libraries."""
         with tempfile.TemporaryDirectory() as folder:
             (Path(folder) / "irig").mkdir()
-            for path in (ROOT / "python/irig").glob("*.py"):
+            for path in (*ROOT.glob("python/irig/*.py"), ROOT / "c/layout.txt", ROOT / "docs/FAULTS.md"):
                 (Path(folder) / "irig" / path.name).write_bytes(path.read_bytes())
             words = [sys.executable, "-c", ALONE, folder]
             ran = subprocess.run(words, capture_output=True, text=True, cwd=folder)
         self.assertEqual(ran.stderr, "")
         self.assertEqual(ran.stdout.splitlines(), [
             "8 1 relay - unlocked no-vote",
-            "there is no libirig.so.5: in a folder of irig's sources that one may write, `make -C c` makes it",
+            f"there is no {_library.IRIG}: in a folder of irig's sources that one may write, `make -C c` makes it",
         ])
 
 

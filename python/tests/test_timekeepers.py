@@ -200,6 +200,31 @@ class Ticks(unittest.TestCase):
         self.assertEqual((beat.report.second, beat.report.cause, beat.doubt), (None, "held", 20))
         self.assertIsNone(keeper.stamp(2_100_000))
 
+    def test_a_leap_table(self) -> None:
+        """A table knows of a second that frames say is not inserted: that second is silent, unless frames are
+        preferred."""
+        for prefers, said in ((False, "- unlocked leap-guard"), (True, "2017-01-01T00:00:00Z locked voted")):
+            keeper = Timekeeper(
+                1, drift_us=50, prefers_frames=prefers, until="2017-06-30", leaps=[irig.Leap("2016-12-31")]
+            )
+            for second, text in ((58, "2016-12-31T23:59:59Z locked voted"), (59, said)):
+                hear_frame(keeper, irig.frame(f"2016-12-31T23:59:{second}Z"), (second - 58) * 1_000_000, 0, 1, 2)
+                beat = told(keeper, (second - 57) * 1_000_000)
+                self.assertEqual((str(beat), beat.against_table), (text, True))
+            self.assertEqual(keeper.prefers_frames, prefers)
+
+    def test_how_long_seconds_are(self) -> None:
+        """Of each edge it is known to 450 us on both sides, and a second later to 50 us more."""
+        keeper = self.voted()
+        self.assertIsNone(keeper.rate())
+        hear_frame(keeper, irig.frame("2017-01-01T00:00:00Z"), 0, 0, 1, 2)
+        told(keeper, 1_000_000)
+        self.assertEqual(keeper.rate(), irig.Rate(1, 999_100_000, 1_000_900_000))
+        told(keeper, 2_005_000)
+        self.assertEqual(keeper.rate(), irig.Rate(2, 999_525_000, 1_000_475_000))
+        keeper.restart()
+        self.assertIsNone(keeper.rate())
+
     def test_delays(self) -> None:
         """A line that is late by a constant time is as exact as others."""
         late_us = (4_000, -4_000, 37)

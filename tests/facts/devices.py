@@ -5,7 +5,7 @@ from collections.abc import Iterator
 from dataclasses import dataclass, replace
 from random import Random
 
-from model.device import SECOND, WRAP, Beat, Device, Stamp
+from model.device import SECOND, WRAP, Beat, Device, Rate, Stamp
 from model.frames import Parity, Rules, Sense, symbol_of
 from model.generator import Generator, GeneratorFault, Zone, sent
 from model.reader import ReaderRules
@@ -156,11 +156,13 @@ def random_life(random: Random) -> tuple[World, Device, list[Call]]:
     lines = false_lines(random, world, few, seconds, random.choice(zones))
     others = set(range(redundancy)) - set(few)
     lines += [true_line(random, world, line, seconds, random.choice(zones)) for line in sorted(others)]
-    table = random.choice((None, Table(world.timeline.start.day, world.timeline.leaps)))
+    day = world.timeline.start.day
+    wrong = random.choice(((), ((day, random.choice((Mark.INSERT, Mark.DELETE))),)))
+    table = random.choice((None, Table(day, world.timeline.leaps), Table(day, wrong)))
     rules = ReaderRules(random.choice((1, 1, 2)), random.choice((0, 1, 100)))
     drift = random.choice((100, abs(world.second - SECOND)))
     delays = tuple(random.choice((0, 0, 4_000, -4_000, random.randint(-4_000, 4_000))) for _ in range(5))
-    device = Device(world.rules, rules, table, redundancy, world.within, drift, delays)
+    device = Device(world.rules, rules, table, redundancy, world.within, drift, delays, random.random() < 0.3)
     ticks = random_ticks(random, world, seconds + random.choice((0, 2, 4)))
     calls = in_turn([pulse for line in lines for pulse in line], ticks)
     return world, device, pause(random, world, calls, random.choice((0, 0, 0, 0, 0, SECOND, WRAP)))
@@ -173,7 +175,7 @@ def call(value: Call) -> Antt:
 def beat(value: Beat | None) -> Antt:
     return some(value and record(
         report=value.report, told=v.tells(value.told), edge_us=value.edge, bound_us=value.bound, missed=value.missed,
-        moved=value.moved,
+        moved=value.moved, against_table=value.against_table,
     ))  # fmt: skip
 
 
@@ -181,9 +183,14 @@ def stamp(value: Stamp | None) -> Antt:
     return some(value and record(second=value.second, offset_us=value.offset, bound_us=value.bound))
 
 
+def rate(value: Rate | None) -> Antt:
+    return some(value and record(seconds=value.seconds, least_ns=value.least, most_ns=value.most))
+
+
 def made(device: Device) -> Antt:
     delays = record(**dict(zip("abcde", map(integer, device.delays))))
-    exact = {"within": Antt(f"within_of {device.within}"), "drift_us": device.drift, "delays": delays}
+    exact = {"within": Antt(f"within_of {device.within}"), "drift_us": device.drift, "delays": delays,
+             "prefers_frames": device.prefers_frames}
     clock = record(reader_rules=device.reader_rules, redundancy=v.ports(device.redundancy), **exact)
     lines = {"lines": Antt("new_lines"), "fresh": Antt("are_new")}
     return record(limits=Antt("None"), rules=device.rules, clock=clock, table=device.table or Table(0, ()), **lines)
@@ -191,22 +198,23 @@ def made(device: Device) -> Antt:
 
 # A life in parts, each of calls, the newest first, with a tick behind them and an event: what the tick answers, how
 # long a device would have waited then, and behind the tick the stamp of the event, how many votes strayed, how many
-# seconds are in doubt, and what the lines are. Each step is a function of its own, so that the checker computes once
-# what becomes of the device.
+# seconds are in doubt, how long seconds are, and what the lines are. Each step is a function of its own, so that the
+# checker computes once what becomes of the device.
 WALK = """use Rattle.irig_lives.proofs.LifeFacts.{new_lines, are_new}
-use Rattle.irig_timekeeper.specs.Refusals.{within_of}
+use Rattle.irig_lines.specs.Refusals.{within_of}
 use Rattle.irig_timekeeper.specs.Life.{after_calls}
 use Rattle.irig_timekeeper.specs.Life.Call.{Hear, Tick}
-use Rattle.irig_timekeeper.specs.Keeping.{after_tick}
+use Rattle.irig_timekeeper.specs.Keeping.{after_tick, rate_at}
+use Rattle.irig_lines.specs.declared.rate.Rate.{Rate}
 use Rattle.irig_timekeeper.specs.States.{state_of}
 use Rattle.irig_vote.specs.Vote.{ports_in}
 """, """abbrev Said : Type 0
-Said = Option Beat × ℕ × Option Stamp × ℕ × ℕ × List LineState
+Said = Option Beat × ℕ × Option Stamp × ℕ × ℕ × Option Rate × List LineState
 """, """abbrev lines_of : Keeping → List LineState
 lines_of k = map (state_of k.clock k.state) (range_with_len 0 (ports_in k.clock.redundancy))
 """, """abbrev behind : Option Beat → ℕ → Keeping → ℕ → (Keeping → List Said) → List Said
 behind beat wait k event rest =
-    (beat, wait, stamp_at k event, k.state.strays, k.state.doubt, lines_of k) ∷ rest k
+    (beat, wait, stamp_at k event, k.state.strays, k.state.doubt, rate_at k, lines_of k) ∷ rest k
 """, """abbrev ticked : Keeping → ℕ → ℕ → (Keeping → List Said) → List Said
 ticked k now event rest = behind (answer_at k now) (wait_at k now) (after_tick k now) event rest
 """, """abbrev asked : List (List Call × ℕ × ℕ) → Keeping → List Said
@@ -217,8 +225,8 @@ asked ((calls, now, event) ∷ parts) k = ticked (after_calls k calls) now event
 
 def parts_of(random: Random, device: Device, calls: list[Call]) -> Iterator[tuple[tuple, tuple]]:
     """The pulses between ticks, each tick, and an event behind it or before; and what the model answers: at the tick,
-    for how long to wait before it, of the event, how many votes strayed, how many seconds are in doubt, and what the
-    lines are."""
+    for how long to wait before it, of the event, how many votes strayed, how many seconds are in doubt, how long they
+    are by the counter, and what the lines are."""
     heard = []
     for one in calls:
         if isinstance(one, int):
@@ -227,7 +235,8 @@ def parts_of(random: Random, device: Device, calls: list[Call]) -> Iterator[tupl
             event = random.choice((one, one - SECOND, one + random.randint(-1_200_000, 1_200_000), *ends)) % WRAP
             asked = [call(pulse) for pulse in reversed(heard)], one % WRAP, event
             states = [Antt(f"LineState.{device.state(line)}") for line in range(device.redundancy)]
-            yield asked, (beat(said), wait, stamp(device.stamp(event)), device.strays, device.doubt, states)
+            doubts = device.strays, device.doubt, rate(device.rate())
+            yield asked, (beat(said), wait, stamp(device.stamp(event)), *doubts, states)
             heard = []
         else:
             device.hear(one.line, one.rise % WRAP, one.width)
@@ -244,7 +253,47 @@ def lives(random: Random) -> Iterator[Fact]:
         yield equal(f"asked {asked} (life_of $_made [])", [antt(said) for _, said in parts], above=above)
 
 
-@question("model", "irig_timekeeper.corrected")
+def random_anchor(random: Random, now: int) -> tuple[int, int, int] | None:
+    """Where an interval begins, how long it is, and how many seconds ago that was."""
+    seconds = random.choice((0, 1, 999, 1_000, 1_999, 2_000, random.randint(2, 1_998)))
+    begin = now - seconds * SECOND - random.randint(-200_000, 200_000)
+    return random.choice((None, *[(begin % WRAP, random.choice((0, 38, 900, 980_000)), seconds)] * 3))
+
+
+def anchor(value: tuple[int, int, int] | None) -> Antt:
+    return some(value and record(begin_us=value[0], long_us=value[1], seconds=value[2]))
+
+
+@question("model", "irig_lines.rate_of")
+def rates(random: Random) -> Iterator[tuple]:
+    """From the anchor's end to the interval's begin at least, and from its begin to the interval's end at most."""
+    for _ in range(60):
+        now, long = random.randrange(WRAP), random.choice((0, 40, 1_700))
+        one, known = random_anchor(random, now), random.random() < 0.9
+        said = None
+        if known and one and one[2]:
+            gap = (now - one[0]) % WRAP
+            each = 1_000 * max(0, gap - one[1]) // one[2], -(-1_000 * (gap + long) // one[2])
+            said = Rate(one[2], *(min(value, WRAP - 1) for value in each))
+        yield (some(record(begin_us=now, long_us=long) if known else None), anchor(one)), rate(said)
+
+
+@question("model", "irig_lines.anchors_cut irig_lines.anchors_on")
+def anchors(random: Random) -> Iterator[Fact]:
+    """By docs/EXACTNESS.md: 1,000 s behind an anchor the next is set, and 2,000 s behind it it is dropped."""
+    for _ in range(40):
+        now, seconds, is_known = random.randrange(WRAP), random.choice((0, 1, 1_000, 5_000)), random.random() < 0.8
+        old, young = random_anchor(random, now), random_anchor(random, now)
+        both = record(old=anchor(old), young=anchor(young))
+        cut = (old, young) if young and young[2] < 1_000 else (young, (now, 40, 0))
+        yield equal(f"anchors_cut {record(begin_us=now, long_us=40)} {both}", record(old=anchor(cut[0]), young=anchor(cut[1])))
+        later = [one and (*one[:2], one[2] + seconds) for one in (old, young)]
+        on = [one if one and is_known and one[2] <= 2_000 else None for one in later]
+        known = some(record(begin_us=now, long_us=40) if is_known else None)
+        yield equal(f"anchors_on {seconds} {known} {both}", record(old=anchor(on[0]), young=anchor(on[1])))
+
+
+@question("model", "irig_lines.corrected")
 def corrected_rises(random: Random) -> Iterator[tuple]:
     for _ in range(40):
         delay = random.choice((0, 1, -1, 4_000, -4_000, random.randint(-4_000, 4_000)))
@@ -252,14 +301,14 @@ def corrected_rises(random: Random) -> Iterator[tuple]:
         yield (rise, integer(delay)), (rise - delay) % WRAP
 
 
-@question("model", "irig_timekeeper.delay_at")
+@question("model", "irig_lines.delay_at")
 def delays_of_lines(random: Random) -> Iterator[tuple]:
     for line in (*range(5), 5, 255):
         delays = [random.randint(-4_000, 4_000) for _ in range(5)]
         yield (record(**dict(zip("abcde", map(integer, delays)))), line), integer(delays[min(line, 4)])
 
 
-@question("model", "irig_timekeeper.clock_fault")
+@question("model", "irig_lines.clock_fault")
 def refused_clocks(random: Random) -> Iterator[tuple]:
     """By docs/EXACTLY_WHEN.md: a drift above 100, else one by which a holdover and two seconds err too much."""
     for _ in range(40):

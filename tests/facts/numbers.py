@@ -17,7 +17,7 @@ HEADER = (Path(__file__).resolve().parents[2] / "c/irig.h").read_text()
 NUMBER = {name: int(number) for name, number in re.findall(r"\bIRIG_(\w+) = (\d+)", HEADER)}
 PORTS = {1: "ONE", 3: "THREE", 5: "FIVE"}
 SILENT = record(**dict.fromkeys("abcde", Antt("Told.Silence")))
-EXACT = "use Rattle.irig_timekeeper.specs.Refusals.{within_of}\n"
+EXACT = "use Rattle.irig_lines.specs.Refusals.{within_of}\n"
 MOMENTS = """use Rattle.c_keeper.specs.Lives.Moment.{Pulsed as was_pulsed, Ticked as was_ticked}
 use Rattle.irig_timekeeper.specs.Life.Call.{Hear, Tick}
 """
@@ -55,9 +55,10 @@ def random_setup(random: Random) -> tuple[Antt, Antt]:
     numbers = [record(day=day, kind=number_of("LEAP", kind.value)) for day, kind in leaps]
     late = record(**{line: integer(random.randint(-4_000, 4_000)) for line in "abcde"})
     table = record(until=until, len=count, leaps=numbers)
-    wires = record(within_us=within, drift_us=drift, delays=late)
+    prefers = random.choice((0, 0, 1, random.randrange(256)))
+    wires = record(within_us=within, drift_us=drift, delays=late, prefers_frames=prefers)
     limits = record(not_before=not_before, poor_from=poor_from or 10) if not_before or poor_from else None
-    exact = {"within": Antt(f"within_of {within}"), "drift_us": drift, "delays": late}
+    exact = {"within": Antt(f"within_of {within}"), "drift_us": drift, "delays": late, "prefers_frames": prefers != 0}
     clock = record(reader_rules=reader_rules, redundancy=v.ports(ports), **exact)
     made = record(limits=some(limits), rules=rules, clock=clock, table=Table(until, tuple(leaps[:count])))
     return Antt(f"(made_in {setup} {table} {wires})"), made
@@ -70,7 +71,7 @@ def random_report(random: Random) -> Report:
     return Report(random.choice((None, second)), lock, cause, count)
 
 
-def second_of(random: Random, report: Report, beside: dict[str, int], told: int = 1) -> Antt:
+def second_of(random: Random, report: Report, beside: dict[str, int], told: int = 1, against: int = 0) -> Antt:
     """A second of C, with these numbers beside its report. What it says of its ports and lines has no meaning here, and
     none have its strays and its doubt."""
     second = report.second or Second(0, 0)
@@ -83,7 +84,7 @@ def second_of(random: Random, report: Report, beside: dict[str, int], told: int 
     masks = "agreed apart differed faulty poor broken silent unjudged".split()
     lines = record(**{name: random.randrange(32) for name in masks})
     strays, doubt = (random.choice((0, 1, random.randrange(2**32))) for _ in range(2))
-    return record(is_told=told, **beside, strays=strays, doubt=doubt, lines=lines, report=numbers)
+    return record(is_told=told, against_table=against, **beside, strays=strays, doubt=doubt, lines=lines, report=numbers)
 
 
 @question("header", "c_keeper.beat_in")
@@ -92,7 +93,9 @@ def seconds(random: Random) -> Iterator[tuple]:
         report, missed = random_report(random), random.choice((0, random.randrange(2_000)))
         edge, bound = random.randrange(2**32), random.randrange(490_900)
         beside = {"edge_us": edge, "bound_us": bound, "missed": missed, "moved": random.randrange(3)}
-        yield (second_of(random, report, beside),), record(report=report, told=SILENT, **beside)
+        against = random.randrange(2)
+        beat = record(report=report, told=SILENT, against_table=against == 1, **beside)
+        yield (second_of(random, report, beside, against=against),), beat
 
 
 @question("header", "c_keeper.stamp_in")

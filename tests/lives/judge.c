@@ -209,6 +209,22 @@ static void judge_lines(judge *j, const irig_masks *m) {
     }
 }
 
+/* What is measured of the counter holds the true mean of these seconds. */
+static void judge_rate(judge *j, uint64_t edge_us) {
+    irig_rate rate = {0};
+    if (!j->subject->rate || j->subject->rate(&rate) != IRIG_DONE) return;
+    uint32_t m = nearest(j, edge_us), n = rate.seconds;
+    if (n < 1 || n > 2000 || n > m) {
+        fail(j, "it measures %u s", (unsigned)n);
+        return;
+    }
+    uint64_t long_ns = 1000 * (j->world->edge_us[m] - j->world->edge_us[m - n]);
+    if ((uint64_t)rate.least_ns * n > long_ns || (uint64_t)rate.most_ns * n < long_ns)
+        fail(j, "%u s of %llu ns are measured as %u to %u ns each", (unsigned)n,
+             (unsigned long long)long_ns, (unsigned)rate.least_ns, (unsigned)rate.most_ns);
+    j->counts[MEASURED]++;
+}
+
 static void judge_report(judge *j, const irig_second *s, uint64_t edge_us) {
     const irig_report *r = &s->report;
     judge_world(j);
@@ -220,6 +236,8 @@ static void judge_report(judge *j, const irig_second *s, uint64_t edge_us) {
     if (s->moved < j->moves) fail(j, "its edge was moved, and it tells of none");
     if (s->strays > 0) fail(j, "it counts %u strays", s->strays);
     if (s->doubt > 0) fail(j, "it doubts for %u s", s->doubt);
+    if (s->against_table) fail(j, "a true table is against the vote");
+    judge_rate(j, edge_us);
     judge_lines(j, &s->lines);
     if (r->agreed != 0) judge_vote(j, s, edge_us);
     else j->row = 0;

@@ -31,7 +31,8 @@ typedef struct sent {
     X(GUARDED, "leap guards")                                                                      \
     X(ENDED, "ends of the range")                                                                  \
     X(AGREED, "of lines, agreed")                                                                  \
-    X(APART, "apart")
+    X(APART, "apart")                                                                              \
+    X(MEASURED, "rates of the counter")
 
 #define COUNTER_OF(name, said) name,
 enum { EACH_COUNTED(COUNTER_OF) COUNTED };

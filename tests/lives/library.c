@@ -39,9 +39,11 @@ static uint32_t stamp(uint32_t time_us, irig_stamp *s) {
     return irig_timekeeper_stamp(&keeper, time_us, s);
 }
 
+static uint32_t rate(irig_rate *r) { return irig_timekeeper_rate(&keeper, r); }
+
 void flip_library(uint32_t bit) { ((uint8_t *)&keeper)[bit / 8] ^= (uint8_t)(1u << bit % 8); }
 
-const subject library_subject = {"library", begin, hear, tick, wait, restart, stamp, NULL, false};
+const subject library_subject = {"library", begin, hear, tick, wait, restart, stamp, rate, NULL, false};
 
 /* ---- with the model */
 
@@ -61,6 +63,7 @@ bool are_alike(const irig_second *a, const irig_second *b) {
     if (!a->is_told || !b->is_told) return a->is_told == b->is_told;
     return a->edge_us == b->edge_us && a->bound_us == b->bound_us && a->missed == b->missed &&
            a->moved == b->moved && a->strays == b->strays && a->doubt == b->doubt &&
+           a->against_table == b->against_table &&
            memcmp(&a->lines, &b->lines, sizeof a->lines) == 0 &&
            memcmp(&a->report, &b->report, offsetof(irig_report, dst) + 1) == 0;
 }
@@ -89,4 +92,4 @@ static void restart_both(void) {
 }
 
 const subject both_subject = {"both", begin_both, hear_both, tick_both, wait_both, restart_both,
-                              stamp_both, NULL, false};
+                              stamp_both, rate, NULL, false};

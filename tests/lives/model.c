@@ -259,15 +259,27 @@ static void add_state(irig_masks *m, int line) {
 
 static void say_nothing(irig_report *r) { r->announces = 0, r->day = 0, r->sod = 0; }
 
+/* The reader's rule, but that a step against the table is a stop, unless frames are preferred. */
+static void go_on_by(const claim *vote, irig_report *r) {
+    if (k.wires.prefers_frames || is(IGNORES_TABLE) || !goes_against_table(&k.reader, vote)) {
+        step(&k.reader, vote, r);
+    } else {
+        memset(&k.reader.state, 0, sizeof k.reader.state);
+        r->cause = IRIG_CAUSE_LEAP_GUARD;
+    }
+}
+
 /* A second that begins at an edge, behind so many that were missed, by a vote of enough lines. */
 static void tell(irig_second *s, uint32_t now_us, uint32_t edge_us, uint32_t missed, int enough) {
     voice voices[MOST_LINES];
     irig_report lost;
-    for (uint32_t i = 0; i < missed && !is(MISSES_NONE); i++) step(&k.reader, NULL, &lost);
+    for (uint32_t i = 0; i < missed && !is(MISSES_NONE); i++) go_on_by(NULL, &lost);
     voices_at(now_us, voices);
     int voted = vote(voices, k.lines, enough, k.reader.setup.sense, &s->report);
     irig_state held = k.reader.state;
-    step(&k.reader, voted < 0 ? NULL : &k.line[voted].kept.claim, &s->report);
+    const claim *by = voted < 0 ? NULL : &k.line[voted].kept.claim;
+    s->against_table = is_against_table(&k.reader, by);
+    go_on_by(by, &s->report);
     if (voted < 0 && k.doubt > 0 && !is(HOLDS_IN_DOUBT)) say_nothing(&s->report);
     s->is_told = 1;
     s->edge_us = k.edge_us = edge_us;
@@ -411,4 +423,4 @@ static uint32_t begin(const irig_setup *setup, const irig_table *table, const ir
     return IRIG_DONE;
 }
 
-const subject model_subject = {"model", begin, hear, tick, wait, restart, stamp, NULL, false};
+const subject model_subject = {"model", begin, hear, tick, wait, restart, stamp, NULL, NULL, false};

@@ -30,6 +30,7 @@ static void begin_drifting(life *l, uint32_t seconds, uint32_t drift_us) {
     l->world.leap_day = -1;
     l->world.leap = 0;
     memset(l->world.delay_us, 0, sizeof l->world.delay_us);
+    l->world.prefers_frames = false;
     l->judge.is_beyond = false;
     l->judge.earliest = 0;
     begin_lines(l, (UINT64_C(3) << 32) + (uint64_t)(int64_t)BEGIN_US, FAST, &luck);
@@ -222,20 +223,20 @@ static bool holdover_is_bounded(life *l, const subject *s) {
         uint32_t holdover;
         irig_wires wires;
         uint32_t answer;
-    } TRIED[] = {{4898, {450, 100, {0}}, IRIG_DONE},
-                 {4899, {450, 100, {0}}, IRIG_FAULT_DRIFT},
-                 {48998, {1, 10, {0}}, IRIG_DONE},
-                 {48999, {1, 10, {0}}, IRIG_FAULT_DRIFT},
-                 {489998, {450, 1, {0}}, IRIG_DONE},
-                 {489999, {450, 1, {0}}, IRIG_FAULT_DRIFT},
-                 {1000000, {450, 0, {0}}, IRIG_DONE},
-                 {1000000, {450, 1, {0}}, IRIG_FAULT_DRIFT},
-                 {0, {450, 101, {0}}, IRIG_FAULT_VALUE},
-                 {0, {450, UINT16_MAX, {0}}, IRIG_FAULT_VALUE},
-                 {0, {0, 0, {0}}, IRIG_FAULT_VALUE},
-                 {0, {451, 0, {0}}, IRIG_FAULT_VALUE},
-                 {1000000, {UINT16_MAX, 100, {0}}, IRIG_FAULT_VALUE},
-                 {1000000, {450, 100, {0}}, IRIG_FAULT_DRIFT}};
+    } TRIED[] = {{4898, {450, 100, {0}, 0}, IRIG_DONE},
+                 {4899, {450, 100, {0}, 0}, IRIG_FAULT_DRIFT},
+                 {48998, {1, 10, {0}, 0}, IRIG_DONE},
+                 {48999, {1, 10, {0}, 0}, IRIG_FAULT_DRIFT},
+                 {489998, {450, 1, {0}, 0}, IRIG_DONE},
+                 {489999, {450, 1, {0}, 0}, IRIG_FAULT_DRIFT},
+                 {1000000, {450, 0, {0}, 0}, IRIG_DONE},
+                 {1000000, {450, 1, {0}, 0}, IRIG_FAULT_DRIFT},
+                 {0, {450, 101, {0}, 0}, IRIG_FAULT_VALUE},
+                 {0, {450, UINT16_MAX, {0}, 0}, IRIG_FAULT_VALUE},
+                 {0, {0, 0, {0}, 0}, IRIG_FAULT_VALUE},
+                 {0, {451, 0, {0}, 0}, IRIG_FAULT_VALUE},
+                 {1000000, {UINT16_MAX, 100, {0}, 0}, IRIG_FAULT_VALUE},
+                 {1000000, {450, 100, {0}, 0}, IRIG_FAULT_DRIFT}};
     begin_row(l, 1);
     for (size_t i = 0; i < sizeof TRIED / sizeof *TRIED; i++) {
         l->setup.holdover = TRIED[i].holdover;
@@ -501,14 +502,12 @@ static bool counter_that_was_good(life *l, const subject *s) {
            drifts_too_fast(l, s, 1, 19);
 }
 
-/* Two of three lines tell the truth, but from just behind an edge on they are so far off, or further
- * in each second. */
-static void two_go_astray(life *l, aim aim, int32_t by_us) {
+/* Two of three lines tell the truth, but from just behind an edge on they are so far off. */
+static void two_go_astray(life *l, int32_t by_us) {
     for (uint8_t line = 1; line <= 2; line++) {
         lie *told = add_lie(l, line, CHANGES, l->world.seconds, 0);
-        told->aim = aim;
-        told->shift_us = aim == SHIFTED ? by_us : 0;
-        told->rate_us = by_us;
+        told->aim = SHIFTED;
+        told->shift_us = by_us;
         told->from_us = l->world.edge_us[CHANGES] + 9000;
         told->to_us += 400000;
     }
@@ -519,7 +518,7 @@ static void two_go_astray(life *l, aim aim, int32_t by_us) {
 static bool lines_step(life *l, const subject *s) {
     for (int32_t by_us = -300000; by_us <= 300000; by_us += 600000) {
         begin_straying(l, 9, 100);
-        two_go_astray(l, SHIFTED, by_us);
+        two_go_astray(l, by_us);
         if (!goes_right(l, s)) return false;
         uint32_t votes = 0, moves = 0;
         for (int i = CHANGES; i < l->tolds; i++) {
@@ -533,16 +532,6 @@ static bool lines_step(life *l, const subject *s) {
     return true;
 }
 
-/* They walk by 900 us a second, so that no step is larger than lines of 450 us may lie apart. */
-static bool lines_walk(life *l, const subject *s) {
-    begin_straying(l, 9, 100);
-    two_go_astray(l, WALKING, 900);
-    if (!goes_right(l, s) || strays_at(l, CHANGES) != 0) return false;
-    for (int i = CHANGES; i < CHANGES + 5 && i < l->tolds; i++)
-        if (l->told[i].second.strays > 0) return true;
-    return false;
-}
-
 /* A turn of a timer of 16 bits is lost, in a second in which no frame is heard: of the next vote. */
 static bool counter_loses_a_turn(life *l, const subject *s) {
     begin_straying(l, 9, 100);
@@ -553,7 +542,6 @@ static bool counter_loses_a_turn(life *l, const subject *s) {
            has_vote(l, CHANGES + 2) && strays_at(l, CHANGES + 2) == 1 &&
            strays_at(l, CHANGES + 9) == 1;
 }
-
 
 /* ---- what is wrong in substations, and what the device says of it */
 
@@ -573,40 +561,87 @@ static bool was_calm(const life *l) {
     return true;
 }
 
-/* A line's pulses come so much later than its clock's, or earlier, from an edge on. */
-static void shift_line(life *l, uint8_t line, int32_t by_us) {
-    lie *told = add_lie(l, line, CHANGES, l->world.seconds, 0);
-    told->aim = SHIFTED;
-    told->shift_us = by_us;
-    told->from_us = l->world.edge_us[CHANGES] + 13000;
-    told->to_us += 400000;
+/* What happens to lines, by so many microseconds, microseconds a second, seconds or codes of quality. */
+typedef enum event { COMES_LATE, WALKS_OFF, TELLS_ANOTHER, IS_POOR, LOSES_PULSES, IS_PULLED } event;
+
+typedef struct happening {
+    unsigned lines; /* a bit for each */
+    event event;
+    int32_t by[8]; /* it is tried with each, up to a 0 */
+} happening;
+
+static void let_happen(life *l, const happening *h, int32_t by) {
+    uint32_t end = l->world.seconds;
+    if (h->event == IS_PULLED) darken(l, CHANGES, end + 1, h->lines);
+    for (uint8_t line = 0; line < 3 && h->event != IS_PULLED; line++) {
+        if ((h->lines >> line & 1) == 0) continue;
+        lie *told = add_lie(l, line, CHANGES, end, h->event == TELLS_ANOTHER ? by : 0);
+        told->to_us += 400000;
+        told->harm = h->event == LOSES_PULSES ? HOLES : UNHARMED;
+        if (h->event == IS_POOR) told->saying = SAYS_POOR, told->poor = (uint32_t)by;
+        if (h->event != COMES_LATE && h->event != WALKS_OFF) continue;
+        told->aim = h->event == COMES_LATE ? SHIFTED : WALKING;
+        told->shift_us = h->event == COMES_LATE ? by : 0;
+        told->rate_us = by;
+        told->from_us = l->world.edge_us[CHANGES] + 13000;
+    }
 }
 
-/* A converter or a cable on one line of three: the line is apart within two seconds, and is said to be
- * that far off, if ticks come when `wait` says. */
-static bool one_line_is_late(life *l, const subject *s) {
-    static const int32_t LATE_US[] = {3000, -3000, 8000, -8000, 99000, -99000, 200000};
-    for (size_t i = 0; i < sizeof LATE_US / sizeof *LATE_US; i++) {
-        begin_straying(l, 6, 100);
-        shift_line(l, 0, LATE_US[i]);
-        if (!goes_right(l, s) || !was_calm(l) || !are_masks(last_lines(l), 6, 1, 0)) return false;
-        if (!entry_at(l, CHANGES + 3)->second.lines.apart) return false;
-    }
-    return true;
+/* Worlds whose conditions break at an edge, and what the device says at the last second. */
+static const struct trouble {
+    const char *name;
+    happening first, second;
+    uint32_t seconds;
+    irig_masks lines; /* what each is then */
+    uint8_t cause;    /* of the last second */
+    bool is_strayed;
+} TROUBLES[] = {
+    /* A converter or a cable. */
+    {"a line comes late",
+     {1, COMES_LATE, {3000, -3000, 8000, -8000, 99000, -99000, 200000}}, {0},
+     6, {.agreed = 6, .apart = 1}, IRIG_CAUSE_VOTED, false},
+    /* The edge goes with them, as it must, and the votes contradict those before them. */
+    {"two lines come late",
+     {6, COMES_LATE, {3000, -3000, 8000, -8000}}, {0},
+     6, {.agreed = 6, .apart = 1}, IRIG_CAUSE_VOTED, true},
+    {"a line comes late, and another's cable is pulled",
+     {1, COMES_LATE, {3000, -3000}}, {2, IS_PULLED, {0}},
+     6, {.agreed = 4, .apart = 1, .silent = 2}, IRIG_CAUSE_HELD, false},
+    {"a cable is pulled", {1, IS_PULLED, {1}}, {0},
+     6, {.agreed = 6, .silent = 1}, IRIG_CAUSE_VOTED, false},
+    {"all cables are pulled", {7, IS_PULLED, {1}}, {0},
+     6, {.silent = 7}, IRIG_CAUSE_HELD, false},
+    {"a clock is ahead, or behind", {4, TELLS_ANOTHER, {1, 60, 3600, -2, -60}}, {0},
+     6, {.agreed = 3, .differed = 4}, IRIG_CAUSE_VOTED, false},
+    /* It tells the second that ended at the edge before, and ends a second behind that. */
+    {"a clock is a second behind", {4, TELLS_ANOTHER, {-1}}, {0},
+     6, {.agreed = 3, .apart = 4}, IRIG_CAUSE_VOTED, false},
+    /* The counter gains 100 us a second, and may lose as much. */
+    {"two clocks walk off as a counter may", {6, WALKS_OFF, {-100, -200}}, {0},
+     14, {.agreed = 6, .apart = 1}, IRIG_CAUSE_VOTED, false},
+    {"two clocks walk off faster", {6, WALKS_OFF, {100, 900, -1100}}, {0},
+     14, {.agreed = 6, .apart = 1}, IRIG_CAUSE_VOTED, true},
+    {"two clocks say that they are poor", {6, IS_POOR, {7, 8, 10, 15}}, {0},
+     12, {.agreed = 1, .poor = 6}, IRIG_CAUSE_HELD, false},
+    {"a line loses pulses", {2, LOSES_PULSES, {1}}, {0},
+     6, {.agreed = 5, .broken = 2}, IRIG_CAUSE_VOTED, false},
+};
+
+static bool is_said(life *l, const subject *s, const struct trouble *t, int32_t by) {
+    begin_straying(l, t->seconds, 100);
+    l->setup.poor_from = 7;
+    let_happen(l, &t->first, by);
+    let_happen(l, &t->second, 0);
+    if (!goes_right(l, s) || !was_calm(l)) return false;
+    const irig_second *last = &l->told[l->tolds - 1].second;
+    return memcmp(&last->lines, &t->lines, sizeof t->lines) == 0 && last->report.cause == t->cause &&
+           (last->strays > 0) == t->is_strayed && (last->doubt > 0) == t->is_strayed;
 }
 
-/* Two lines so: the edge goes with them, as it must, the third is apart, and the votes contradict those
- * before them. */
-static bool two_lines_are_late(life *l, const subject *s) {
-    static const int32_t LATE_US[] = {3000, -3000, 8000, -8000};
-    for (size_t i = 0; i < sizeof LATE_US / sizeof *LATE_US; i++) {
-        begin_straying(l, 6, 100);
-        shift_line(l, 1, LATE_US[i]);
-        shift_line(l, 2, LATE_US[i]);
-        if (!goes_right(l, s) || !was_calm(l) || !are_masks(last_lines(l), 6, 1, 0)) return false;
-        const irig_second *last = &l->told[l->tolds - 1].second;
-        if (last->strays == 0 || last->doubt == 0) return false;
-    }
+static bool is_trouble_told(life *l, const subject *s) {
+    const struct trouble *t = &TROUBLES[given];
+    for (size_t i = 0; t->first.by[i] != 0; i++)
+        if (!is_said(l, s, t, t->first.by[i])) return false;
     return true;
 }
 
@@ -616,26 +651,6 @@ static bool delays_are_known(life *l, const subject *s) {
     begin_row(l, 20);
     for (int i = 0; i < 3; i++) l->world.delay_us[i] = DELAYS_US[i];
     return goes_right(l, s) && have_votes(l, 2, 20) && are_masks(last_lines(l), 7, 0, 0);
-}
-
-/* One clock, and then two, are another second ahead. */
-static bool clocks_differ(life *l, const subject *s) {
-    for (uint8_t first = 1; first <= 2; first++) {
-        begin_straying(l, 6, 100);
-        for (uint8_t line = first; line <= 2; line++)
-            add_lie(l, line, CHANGES, CHANGES + 6, 60)->to_us += 40000;
-        if (!goes_right(l, s) || !was_calm(l)) return false;
-        if (!are_masks(last_lines(l), first == 2 ? 3 : 6, 0, first == 2 ? 4 : 1)) return false;
-    }
-    return true;
-}
-
-/* Cables are pulled: one line is silent, and what is left agrees. */
-static bool cable_is_pulled(life *l, const subject *s) {
-    begin_straying(l, 6, 100);
-    darken(l, CHANGES, CHANGES + 7, 1);
-    return goes_right(l, s) && was_calm(l) && last_lines(l)->agreed == 6 &&
-           last_lines(l)->silent == 1;
 }
 
 /* The counter is off in the dark, as the votes before had shown: no second is held. */
@@ -657,7 +672,7 @@ static bool dark_on_a_bad_counter(life *l, const subject *s) {
 static bool doubt_passes(life *l, const subject *s) {
     begin_straying(l, 40, 100);
     l->setup.holdover = 20;
-    two_go_astray(l, SHIFTED, 300000);
+    two_go_astray(l, 300000);
     l->sky.lie[0].to_us = l->sky.lie[1].to_us = l->world.edge_us[CHANGES + 30] + 200000;
     darken(l, CHANGES + 12, CHANGES + 13, ALL);
     return goes_right(l, s);
@@ -687,6 +702,68 @@ static bool lines_step_by_a_second(life *l, const subject *s) {
     const entry *last = entry_at(l, CHANGES + 9), *jump = entry_at(l, CHANGES + 1);
     return jump && jump->second.report.cause == IRIG_CAUSE_JUMP && last &&
            last->second.report.announces && last->second.strays == 0;
+}
+
+/* ---- frames that a right table contradicts: a second is inserted, and no clock tells of it before */
+
+enum { INSERTED = 70 }; /* the edge at which it begins, behind the 59 of its minute that could tell */
+
+static void begin_untold_leap(life *l) {
+    begin_row(l, INSERTED + 30);
+    l->setup.lock_after = 5;
+    l->world.first = (utc){6209, 86330};
+    l->world.leap_day = 6209;
+    l->world.leap = 1;
+    l->table = (irig_table){.until = 7000, .len = 1, .leaps = {{6209, IRIG_LEAP_INSERT}}};
+    l->judge.is_beyond = true;
+    for (uint8_t line = 0; line < 3; line++) {
+        lie *told = add_lie(l, line, INSERTED - 59, INSERTED, 0);
+        told->saying = SAYS_LEAP;
+        told->to_us += 25000;
+    }
+}
+
+/* Whether what is announced at an edge is so far ahead of the truth. */
+static bool is_announced(const life *l, uint32_t edge, int64_t ahead) {
+    const entry *e = entry_at(l, edge);
+    utc at = second_at(&l->world, edge + ahead);
+    return e && e->second.report.announces && e->second.report.day == at.day && e->second.report.sod == at.second;
+}
+
+/* The table is flagged as contradicted by each vote of the minute, and then no more. */
+static bool are_flagged(const life *l) {
+    uint32_t flags = 0;
+    for (int i = 0; i < l->tolds; i++) flags += l->told[i].second.against_table;
+    const entry *first = entry_at(l, INSERTED - 58);
+    return flags == 59 && first && first->second.against_table;
+}
+
+static bool is_guarded(const life *l) {
+    const entry *e = entry_at(l, INSERTED);
+    return e && !e->second.report.announces && e->second.report.cause == IRIG_CAUSE_LEAP_GUARD;
+}
+
+/* Clocks that step rightly, and say nothing of it: the inserted second is silent, and so is each until
+ * the device has locked again. A device that prefers frames tells a false second there. */
+static bool leap_is_untold(life *l, const subject *s) {
+    begin_untold_leap(l);
+    l->world.prefers_frames = given;
+    if (!goes_right(l, s) || !are_flagged(l) || !is_announced(l, INSERTED - 1, 0)) return false;
+    if (given) return is_announced(l, INSERTED, 1);
+    for (uint32_t edge = INSERTED + 1; edge <= INSERTED + 4; edge++)
+        if (entry_at(l, edge)->second.report.announces) return false;
+    return is_guarded(l) && is_announced(l, INSERTED + 5, 0) && is_announced(l, INSERTED + 20, 0);
+}
+
+/* Two clocks that leave it out: flagged and silent, too. But then they are followed, as any two are. */
+static bool leap_is_left_out(life *l, const subject *s) {
+    begin_untold_leap(l);
+    for (uint8_t line = 1; line < 3; line++)
+        add_lie(l, line, INSERTED, l->world.seconds, 1)->from_us += 33000;
+    if (!goes_right(l, s) || !are_flagged(l) || !is_guarded(l)) return false;
+    for (uint32_t edge = INSERTED + 1; edge <= INSERTED + 4; edge++)
+        if (entry_at(l, edge)->second.report.announces) return false;
+    return is_announced(l, INSERTED + 5, 1) && last_lines(l)->apart == 1; /* a second behind */
 }
 
 /* The quality of a bound, by tens: of the library, for whichever subject. */
@@ -946,17 +1023,15 @@ static const struct {
     {"a counter of another kind", counter_of_another_kind, 0, OF_ALL},
     {"a counter that was good", counter_that_was_good, 0, OF_ALL},
     {"lines step", lines_step, 0, OF_ALL},
-    {"lines walk", lines_walk, 0, OF_ALL},
     {"a counter loses a turn", counter_loses_a_turn, 0, OF_ALL},
     {"lines step by a second", lines_step_by_a_second, 0, OF_ALL},
-    {"one line is late", one_line_is_late, 0, OF_ALL},
-    {"two lines are late", two_lines_are_late, 0, OF_ALL},
     {"delays are known", delays_are_known, 0, OF_ALL},
-    {"clocks differ", clocks_differ, 0, OF_ALL},
-    {"a cable is pulled", cable_is_pulled, 0, OF_ALL},
     {"dark on a bad counter", dark_on_a_bad_counter, 0, OF_ALL},
     {"doubt passes", doubt_passes, 0, OF_ALL},
     {"a frame is uneven", frame_is_uneven, 0, OF_ALL},
+    {"a leap is not told", leap_is_untold, false, OF_ALL},
+    {"a leap is not told, and frames are preferred", leap_is_untold, true, OF_ALL},
+    {"a leap is left out", leap_is_left_out, 0, OF_ALL},
     {"the quality of a bound", quality_of_a_bound, 0, OF_ALL},
     {"switched on in a frame", switched_on_in_a_frame, 0, OF_ALL},
     {"a frame of a turn ago", frame_of_a_turn_ago, 0, OF_ALL},
@@ -970,29 +1045,30 @@ static bool can_be_asked(const subject *s, asked what) {
     return what == OF_ALL || (what == OF_FLIPS ? s->flip != NULL : !s->is_by_wait);
 }
 
-/* One row, and whether it went as it has to. */
-static bool play_row(life *l, const subject *s, size_t row, bool is_loud) {
-    given = ROWS[row].given;
-    l->judge.is_failed = false;
-    bool is_passed = ROWS[row].play(l, s);
+/* Whether what was played went as it has to. */
+static void add_row(life *l, const char *name, bool is_passed, bool is_loud, unsigned long *passed,
+                    unsigned long *failed) {
+    *passed += is_passed;
+    *failed += !is_passed;
     if (!is_passed && is_loud)
-        printf("row failed: %s, %d us off: %s\n", ROWS[row].name, (int)jitter,
+        printf("row failed: %s, %d us off: %s\n", name, (int)jitter,
                is_right(l) ? "it came otherwise" : l->judge.text);
     memset(l->sky.line, 0, sizeof l->sky.line);
-    l->judge.is_beyond = false;
-    return is_passed;
+    l->judge.is_beyond = l->judge.is_failed = false;
 }
 
 void play_rows(life *l, const subject *s, bool is_loud, unsigned long *passed,
                unsigned long *failed) {
     static const int32_t JITTERS[] = {449, 49, 9, 0};
+    l->judge.is_failed = false;
     for (size_t i = 0; i < sizeof JITTERS / sizeof *JITTERS; i++) {
         jitter = JITTERS[i];
         for (size_t row = 0; row < sizeof ROWS / sizeof *ROWS; row++) {
             if (!can_be_asked(s, ROWS[row].asked)) continue;
-            bool is_passed = play_row(l, s, row, is_loud);
-            *passed += is_passed;
-            *failed += !is_passed;
+            given = ROWS[row].given;
+            add_row(l, ROWS[row].name, ROWS[row].play(l, s), is_loud, passed, failed);
         }
+        for (given = 0; given < sizeof TROUBLES / sizeof *TROUBLES; given++)
+            add_row(l, TROUBLES[given].name, is_trouble_told(l, s), is_loud, passed, failed);
     }
 }

@@ -174,7 +174,7 @@ int vote(const voice *voices, int lines, int enough, uint8_t sense, irig_report 
 /* ---- the reader's rule */
 
 static uint8_t table_mark(const irig_table *table, uint32_t day) {
-    if (day > table->until) return IRIG_MARK_UNSPOKEN;
+    if (day > table->until || !is_month_end(day)) return IRIG_MARK_UNSPOKEN;
     for (uint32_t i = 0; i < table->len && i < 64; i++)
         if (table->leaps[i].day == day)
             return table->leaps[i].kind == IRIG_LEAP_INSERT ? IRIG_MARK_INSERT : IRIG_MARK_DELETE;
@@ -186,6 +186,25 @@ static uint32_t last_of(uint32_t day, uint32_t sod, uint8_t mark) {
     if (!is_month_end(day)) return 86399;
     if (mark == IRIG_MARK_UNSPOKEN) return sod < 86398 || sod == 86400 ? 86400 : 0;
     return mark == IRIG_MARK_NO_LEAP ? 86399 : mark == IRIG_MARK_INSERT ? 86400 : 86398;
+}
+
+static bool differ(uint8_t heard, uint8_t known) {
+    return heard != IRIG_MARK_UNSPOKEN && known != IRIG_MARK_UNSPOKEN && heard != known;
+}
+
+bool is_against_table(const plain_reader *reader, const claim *vote) {
+    return vote && differ(vote->mark, table_mark(&reader->table, vote->day));
+}
+
+bool goes_against_table(const plain_reader *reader, const claim *vote) {
+    const irig_state *s = &reader->state;
+    if (!vote && s->kind != IRIG_STATE_LOCKED) return false;
+    claim from = vote ? *vote : (claim){s->day, s->sod, s->heard};
+    bool follows = s->kind != IRIG_STATE_IDLE && s->day == from.day && s->sod == from.sod;
+    if (from.mark == IRIG_MARK_UNSPOKEN && follows) from.mark = s->heard;
+    uint8_t known = table_mark(&reader->table, from.day);
+    bool goes_on = from.sod < last_of(from.day, from.sod, from.mark);
+    return differ(from.mark, known) && goes_on != (from.sod < last_of(from.day, from.sod, known));
 }
 
 /* Goes to the second behind that at which the reader stands; else says why not. */

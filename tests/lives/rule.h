@@ -46,6 +46,12 @@ bool are_one(const voice *a, const voice *b);
 /* A voice that enough of the lines share, or -1; and the report's masks, quality and zone. */
 int vote(const voice *voices, int lines, int enough, uint8_t sense, irig_report *r);
 
+/* Whether the claim that has the vote speaks of a leap, and the table says otherwise. */
+bool is_against_table(const plain_reader *reader, const claim *vote);
+
+/* Whether an edge, with a vote or none, leads to another second than by the table's word. */
+bool goes_against_table(const plain_reader *reader, const claim *vote);
+
 /* An edge, with a vote or none: the report's announcement, lock and cause. */
 void step(plain_reader *reader, const claim *vote, irig_report *r);
 

@@ -12,6 +12,7 @@ typedef struct subject {
     uint32_t (*wait)(uint32_t now_us);
     void (*restart)(void);
     uint32_t (*stamp)(uint32_t time_us, irig_stamp *); /* or null */
+    uint32_t (*rate)(irig_rate *);                     /* or null */
     void (*flip)(uint32_t bit); /* a bit of one that then begins afresh, or null */
     bool is_by_wait;            /* it has no other ticks */
 } subject;
@@ -61,6 +62,7 @@ enum { DIFFERS = 200 }; /* what a subject answers where two have to answer alike
     X(TRUSTS_COUNTER)  /* however long frames last, it trusts its counter */                       \
     X(LETS_UNEVEN)     /* a frame votes however long it lasts, */                                  \
     X(LETS_FEWER)      /* or one that is as short or long as it may be does not */                 \
+    X(IGNORES_TABLE)   /* frames' word on a leap second goes before the table's */                 \
     X(KEEPS_DELAYS)    /* the delays of lines are not taken off */                                 \
     X(JUDGES_CLOSELY)  /* a line is apart from an edge by what the edge alone may be off, */       \
     X(JUDGES_BY_THE_LAST) /* or differs if its frame is of the edge before, */                     \

@@ -85,6 +85,7 @@ typedef struct world {
     int64_t leap_day;           /* at whose end a leap comes, or none */
     int leap;                   /* 1 inserted, -1 deleted, 0 none */
     bool is_odd, is_subtracted; /* parity and sense */
+    bool prefers_frames;        /* to its table, on leap seconds: what a device is told */
 } world;
 
 void make_edges(world *w, uint64_t start_us, walk kind, chance *luck);
@@ -112,7 +113,8 @@ content true_content(const world *w, utc at, int32_t zone);
 
 /* What a device is told of it. */
 static inline irig_wires wires_of(const world *w) {
-    irig_wires wires = {.within_us = (uint16_t)w->within_us, .drift_us = (uint16_t)w->drift_us};
+    irig_wires wires = {.within_us = (uint16_t)w->within_us, .drift_us = (uint16_t)w->drift_us,
+                        .prefers_frames = w->prefers_frames};
     for (int i = 0; i < MOST_LINES; i++) wires.delay_us[i] = (int16_t)w->delay_us[i];
     return wires;
 }

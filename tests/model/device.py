@@ -4,8 +4,8 @@ from dataclasses import dataclass, field, replace
 
 from .faults import Fault
 from .frames import Poor, Rules, Told, symbol_of, told
-from .reader import IDLE, Lock, ReaderRules, Report, after_tick
-from .times import Claim, Second, Table
+from .reader import IDLE, Cause, Lock, ReaderRules, Report, State, after_tick, stopped
+from .times import Claim, Mark, Second, Table, second_after, table_mark
 from .voting import majority
 
 WRAP = 2**32  # where the device's counter wraps
@@ -20,6 +20,8 @@ AHEAD = 14_000  # how far ahead of a tick a frame may end
 SEEN = 1_500_000  # how long behind its end a frame says what its line is
 BETWEEN = 990_000  # from the first pulse of a frame to its last one
 MOST_DOUBT = 1_000  # as many seconds at most have to be voted behind a stray
+RENEWED = 1_000  # so many seconds behind one anchor the next is set
+OLDEST = 2_000  # so many seconds behind it an anchor is dropped
 
 
 def since(earlier: int, later: int) -> int:
@@ -35,6 +37,42 @@ def off(time: int, other: int) -> int:
 def lies_ahead(time: int, now: int) -> bool:
     """Whether a time is one that has not come: it lies less than half a turn ahead (docs/WIRES.md)."""
     return 0 < since(now, time) < WRAP // 2
+
+
+def differ(word: Mark, other: Mark) -> bool:
+    """Whether two words of a leap both speak, and not alike."""
+    return Mark.UNSPOKEN not in (word, other) and word != other
+
+
+def goes_against(table: Table | None, reader: State, is_locked: bool, vote: Claim | None) -> bool:
+    """Whether another second follows by what frames said of a leap than by the table (docs/LINES.md)."""
+    hold = reader.hold
+    if vote is None and not is_locked:
+        return False
+    second, word = (vote.second, vote.mark) if vote else (hold.second, hold.heard)
+    if word == Mark.UNSPOKEN and hold and hold.second == second:
+        word = hold.heard
+    known = table_mark(table, second.day)
+    return differ(word, known) and second_after(second, word) != second_after(second, known)
+
+
+@dataclass(frozen=True)
+class Anchor:
+    """A vote some seconds ago: how far behind the last told edge the true edge of that second lies, at least and at
+    most."""
+
+    seconds: int
+    least: int
+    most: int
+
+
+@dataclass(frozen=True)
+class Rate:
+    """The mean of some seconds by the counter, in nanoseconds: at least, at most."""
+
+    seconds: int
+    least: int
+    most: int
 
 
 @dataclass(frozen=True)
@@ -118,7 +156,8 @@ class Announced:
 @dataclass(frozen=True)
 class Beat:
     """What a tick answers: the report, what the lines' frames said, the told edge and how far that may lie
-    from the true one, the seconds that passed untold before it, and how often the edge before was set right."""
+    from the true one, the seconds that passed untold before it, how often the edge before was set right, and whether
+    the vote says otherwise of a leap than the table."""
 
     report: Report
     told: list[Told]
@@ -126,6 +165,7 @@ class Beat:
     bound: int
     missed: int
     moved: int
+    against_table: bool
 
 
 @dataclass(frozen=True)
@@ -148,6 +188,7 @@ class Device:
     within: int
     drift: int
     delays: tuple[int, ...]
+    prefers_frames: bool = False
     lines: list[Line] = field(init=False)
 
     def __post_init__(self) -> None:
@@ -159,6 +200,7 @@ class Device:
         self.last, self.before = None, None  # what was announced at the last told edge, and at the one before
         self.known, self.strays = None, 0  # how far behind `edge` the true one lies by all votes: at least, at most
         self.doubt = 0  # the seconds that have to be voted yet before one is held again
+        self.old, self.young = None, None  # anchors to measure from
         self.ended, self.ended_before = None, None  # the second that ended at the last told edge, and at the one before
 
     def corrected(self, line: int, rise: int) -> int:
@@ -223,6 +265,13 @@ class Device:
             self.known = least - drift - shift, most + drift - shift
             if self.known[1] - self.known[0] > LONGEST:
                 self.known = None
+        self.old, self.young = (self.later(one, seconds, SECOND * seconds + shift) for one in (self.old, self.young))
+
+    def later(self, anchor: Anchor | None, seconds: int, by: int) -> Anchor | None:
+        """An anchor so many seconds later, as seen from an edge so much further on."""
+        if anchor is None or self.known is None or anchor.seconds + seconds > OLDEST:
+            return None
+        return Anchor(anchor.seconds + seconds, anchor.least - by, anchor.most - by)
 
     def know(self, vote: Vote) -> None:
         """A vote cuts what is known, or contradicts it: then what it says is all that is known."""
@@ -236,8 +285,11 @@ class Device:
             self.stray()
         else:
             self.doubt = max(0, self.doubt - self.seconds_to(vote))
+        if self.young is None or self.young.seconds >= RENEWED:
+            self.old, self.young = self.young, Anchor(0, *self.known)
 
     def stray(self) -> None:
+        self.old, self.young = None, None
         self.strays = (self.strays + 1) % WRAP
         self.doubt = max(1, min(self.reader_rules.holdover, MOST_DOUBT))
 
@@ -253,14 +305,16 @@ class Device:
             return None
         if agreed is None:
             self.carry(seconds, 0)
+        held = self.reader.hold and self.reader.hold.second
         for _ in range(seconds - 1):
-            self.reader, _ = after_tick(self.reader_rules, self.table, self.reader, None)
-        vote, held = agreed and agreed.claim, self.reader.hold and self.reader.hold.second
-        self.reader, report = after_tick(self.reader_rules, self.table, self.reader, vote)
+            self.step(None)
+        vote = agreed and agreed.claim
+        report = self.step(vote)
         if vote is None and self.doubt:
             report = replace(report, second=None)
         edge = agreed.edge if agreed else (self.edge + SECOND * seconds) % WRAP
-        beat = Beat(report, told, edge, self.bound_of(report), seconds - 1, self.moved)
+        against = vote is not None and differ(vote.mark, table_mark(self.table, vote.second.day))
+        beat = Beat(report, told, edge, self.bound_of(report), seconds - 1, self.moved, against)
         self.ended_before = self.ended if seconds == 1 else None
         ended = vote.second if vote else held if report.second and seconds == 1 else None
         self.ended = ended and Announced(ended, edge, beat.bound)
@@ -268,6 +322,24 @@ class Device:
         self.last = report.second and Announced(report.second, edge, beat.bound)
         self.edge, self.moved = edge, 0
         return beat
+
+    def step(self, vote: Claim | None) -> Report:
+        """The rule of the reader, but that the table guards the end of a month, unless frames are preferred."""
+        is_locked = self.reader.votes == self.reader_rules.lock_after
+        if not self.prefers_frames and goes_against(self.table, self.reader, is_locked, vote):
+            self.reader, report = stopped(Cause.LEAP_GUARD)
+        else:
+            self.reader, report = after_tick(self.reader_rules, self.table, self.reader, vote)
+        return report
+
+    def rate(self) -> Rate | None:
+        """How long seconds were by the counter, from the older anchor on."""
+        anchor = self.old or self.young
+        if anchor is None or anchor.seconds == 0 or self.known is None:
+            return None
+        least, most = max(0, self.known[0] - anchor.most), self.known[1] - anchor.least
+        each = 1_000 * least // anchor.seconds, -(-1_000 * most // anchor.seconds)
+        return Rate(anchor.seconds, *(min(one, WRAP - 1) for one in each))
 
     def bound_of(self, report: Report) -> int:
         """How far the edge of a second may lie off: as far as the last voted one, and by the drift of each second since

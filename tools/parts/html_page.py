@@ -8,7 +8,7 @@ from collections.abc import Iterable
 from pathlib import Path
 
 
-def embedded(data: dict[str, object]) -> str:
+def embedded(data: object) -> str:
     """Data as JSON in which no letter can end the element that it stands in."""
     text = json.dumps(data, separators=(",", ":"), sort_keys=True)
     return text.replace("<", "\\u003c").replace(">", "\\u003e").replace("&", "\\u0026")
@@ -24,8 +24,9 @@ def joined(files: Iterable[Path]) -> str:
     return "\n".join(file.read_text() for file in files)
 
 
-def script_of(files: Iterable[Path]) -> str:
-    return '"use strict";\n\n' + joined(files)
+def script_of(files: Iterable[Path], made: str = "") -> str:
+    """A script of these files, and before them what was made for it."""
+    return f'"use strict";\n\n{made}\n{joined(files)}'
 
 
 def filled(template: Path, parts: dict[str, str]) -> str:

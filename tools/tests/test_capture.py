@@ -23,6 +23,7 @@ from loading import ROOT, InAFolder, loaded
 
 import waves
 from case_files import all_cases
+from irig._library import IRIG
 from model.times import day_of_text
 from parts.recordings import open_recording
 from waves import Change
@@ -411,7 +412,7 @@ class Devices(InAFolder):
             print("skipped: recordings against c/examples/capture.c; cc is missing")
             self.skipTest("no cc")
         sources = [ROOT / f"c/examples/{name}.c" for name in ("capture", "capture_bench")]
-        library = ROOT / "c/out/libirig.so.5"
+        library = ROOT / "c/out" / IRIG
         for count in (1, 3, 5):
             subprocess.run(
                 ["cc", "-std=c11", f"-DLINES={count}", f"-I{ROOT / 'c'}", *sources, library,
@@ -826,7 +827,7 @@ class Words(InAFolder):
         self.assertEqual(from_first_vote(log_of(text)), from_first_vote(wanted_of("plain_minute")))
 
     def test_without_the_libraries(self) -> None:
-        for name in ("tools/capture", "tools/parts", "python/irig"):
+        for name in ("tools/capture", "tools/parts", "python/irig", "c/layout.txt", "docs/FAULTS.md"):
             source, copy = ROOT / name, self.folder / name
             copy.parent.mkdir(exist_ok=True)
             shutil.copytree(source, copy) if source.is_dir() else shutil.copy(source, copy)
@@ -836,7 +837,7 @@ class Words(InAFolder):
         self.assertEqual((ran.returncode, ran.stdout), (2, ""))
         self.assertEqual(
             ran.stderr,
-            "capture: there is no libirig.so.5: in a folder of irig's sources that one may write, `make -C c` makes it\n",
+            f"capture: there is no {IRIG}: in a folder of irig's sources that one may write, `make -C c` makes it\n",
         )
         ran = subprocess.run([tool, "--help"], capture_output=True, text=True)
         self.assertEqual((ran.returncode, ran.stderr), (0, ""))

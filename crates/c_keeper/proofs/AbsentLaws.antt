@@ -9,15 +9,15 @@ use Rattle.irig_port.specs.declared.limits.Limits.{Limits}
 use Rattle.irig_vote.specs.declared.redundancy.Redundancy.{Redundancy}
 use Rattle.irig_vote.specs.declared.redundancy.Redundancy.TheVariants.{One, Three, Five}
 use Rattle.irig_vote.specs.Vote.{f_of, ports_in}
-use Rattle.irig_timekeeper.specs.declared.lines.KeptClaim.{KeptClaim}
-use Rattle.irig_timekeeper.specs.Lines.{IfKept, IsInTurnOf}
-use Rattle.irig_timekeeper.specs.Steps.{claim_kept, line_at}
+use Rattle.irig_lines.specs.declared.lines.KeptClaim.{KeptClaim}
+use Rattle.irig_lines.specs.Lines.{IfKept, IsInTurnOf}
+use Rattle.irig_lines.specs.Steps.{claim_kept, line_at}
 use Rattle.irig_timekeeper.specs.Truth.{AreHeardTruly}
 use Rattle.c_numbers.specs.Setups.{limits_in, redundancy_in, rules_in}
-use Rattle.c_keeper.specs.declared.line.IrigLine.{IrigLine}
-use Rattle.c_keeper.specs.declared.line.IrigLines.{IrigLines}
+use Rattle.c_lines.specs.declared.line.IrigLine.{IrigLine}
+use Rattle.c_lines.specs.declared.line.IrigLines.{IrigLines}
 use Rattle.c_keeper.specs.declared.timekeeper.IrigTimekeeper.{IrigTimekeeper}
-use Rattle.c_keeper.specs.Lines.{line_in, lines_in, KeepNoMore}
+use Rattle.c_lines.specs.Lines.{line_in, lines_in, KeepNoMore}
 use Rattle.c_keeper.specs.Timekeepers.{clock_in, HeardTruly}
 
 -- what keeps no frame claims nothing

@@ -13,6 +13,7 @@ use Rattle.irig_timekeeper.proofs.LoopLaws.{polling_announces}
 use Rattle.irig_timekeeper.proofs.WaitLoops.{waiting_announces}
 use Rattle.c_keeper.specs.declared.second.IrigSecond.{IrigSecond}
 use Rattle.c_keeper.specs.declared.timekeeper.IrigTimekeeper.{IrigTimekeeper}
+use Rattle.irig_timekeeper.specs.Truth.{FollowsTruth}
 use Rattle.c_keeper.specs.Announcing.{AreAsked, ComeInARow, GoesByWait, HasAnnounced, IsSoonEnough}
 use Rattle.c_keeper.specs.Lives.{Moment, HasLived, HaveTold, calls_of}
 use Rattle.c_keeper.specs.Lives.Moment.{Pulsed, Ticked, Waited}
@@ -40,11 +41,11 @@ announced_as q edges made m moments before u h a =
     }
 
 pub has_announced : (q : IrigTimekeeper) (t : TimelineValue) (edges : ℕ → ℕ) (made : MadeOf) (start m most : ℕ) (moments before : List Moment) (u : UtcSecond) → HasLived q made (moments ++ before)
-    → ComeInARow t edges made start m moments before → most ≤ 95000 → TicksEach most start (calls_of moments) (calls_of before) → AreToldInTime start (calls_of moments) (calls_of before)
+    → ComeInARow t edges made start m moments before → FollowsTruth t made.clock.prefers_frames made.table → most ≤ 95000 → TicksEach most start (calls_of moments) (calls_of before) → AreToldInTime start (calls_of moments) (calls_of before)
     → IsSecond t (m + 1 + made.clock.reader_rules.lock_after) u → HasAnnounced edges (m + 1 + made.clock.reader_rules.lock_after) u (moments ++ before)
-has_announced q t edges made start m most moments before u h come few each told second =
+has_announced q t edges made start m most moments before u h come follows few each told second =
     announced_as q edges made (m + 1 + made.clock.reader_rules.lock_after) moments before u h
-    (polling_announces t edges (made_with made h.lines h.fresh) start m most (calls_of moments) (calls_of before) u (come h.lines h.fresh) few each told second)
+    (polling_announces t edges (made_with made h.lines h.fresh) start m most (calls_of moments) (calls_of before) u (come h.lines h.fresh) follows few each told second)
 
 -- ---- a tick when `wait` says
 
@@ -90,11 +91,11 @@ module _ (new : Keeping) (late : ℕ) (before : List Moment) where
   goes (Ticked time second ∷ past) next asked by told = (soon time past None tt asked.1 by.0 told.1, goes past None asked.1 by.1 told.1)
 
 pub has_announced_by_wait : (q : IrigTimekeeper) (t : TimelineValue) (edges : ℕ → ℕ) (made : MadeOf) (start m late now : ℕ) (s : IrigSecond) (moments before : List Moment) (u : UtcSecond) → HasLived q made (Ticked now s ∷ (moments ++ before))
-    → ComeInARow t edges made start m (Ticked now s ∷ moments) before → late ≤ 95000 → AreAsked None moments → GoesByWait late (Ticked now s ∷ moments)
+    → ComeInARow t edges made start m (Ticked now s ∷ moments) before → FollowsTruth t made.clock.prefers_frames made.table → late ≤ 95000 → AreAsked None moments → GoesByWait late (Ticked now s ∷ moments)
     → AreMadeInTurn start (Tick now ∷ calls_of moments) (calls_of before) → IsSecond t (m + 1 + made.clock.reader_rules.lock_after) u
     → HasAnnounced edges (m + 1 + made.clock.reader_rules.lock_after) u (Ticked now s ∷ (moments ++ before))
-has_announced_by_wait q t edges made start m late now s moments before u h come few asked by turn second =
+has_announced_by_wait q t edges made start m late now s moments before u h come follows few asked by turn second =
     let whole = made_with made h.lines h.fresh in
     announced_as q edges made (m + 1 + made.clock.reader_rules.lock_after) (Ticked now s ∷ moments) before u h
-    (waiting_announces t edges whole start m late (Tick now ∷ calls_of moments) (calls_of before) u (come h.lines h.fresh) few
+    (waiting_announces t edges whole start m late (Tick now ∷ calls_of moments) (calls_of before) u (come h.lines h.fresh) follows few
     (soon (device_of whole) late before now moments None tt asked by.0 h.told.1, goes (device_of whole) late before moments None asked by.1 h.told.1) turn second)

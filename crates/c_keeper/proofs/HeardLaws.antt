@@ -1,5 +1,5 @@
 -- A line behind a pulse, and the timekeeper that has it.
-use Rattle.std.proofs.Common.{Option, ◌≡◌, ◌↔◌, ◌∙◌, ◌<◌, ℕ, zero, suc, List, refl, sym, ap, subst, arith, inl, inr}
+use Rattle.std.proofs.Common.{Option, ◌≡◌, ◌↔◌, ◌∙◌, ◌<◌, ◌==◌, Bool, true, false, if◌then◌else◌, ℕ, zero, suc, List, refl, sym, ap, subst, arith, inl, inr}
 use Rattle.std.proofs.lemmas.Bool.{cases_eq}
 use Rattle.irig_frame.specs.declared.symbol.Symbol.{Symbol}
 use Rattle.irig_time.specs.declared.rules.Rules.{Rules}
@@ -8,20 +8,20 @@ use Rattle.irig_port.specs.Tallies.{IsTallyOf}
 use Rattle.irig_port.specs.declared.limits.Limits.{Limits}
 use Rattle.irig_port.specs.Limits.{told_within}
 use Rattle.irig_sync.specs.Sync.{place_of}
-use Rattle.irig_timekeeper.specs.declared.setup.ClockRules.{ClockRules}
+use Rattle.irig_lines.specs.declared.setup.ClockRules.{ClockRules}
 use Rattle.irig_timekeeper.specs.declared.clock.ClockState.{ClockState}
-use Rattle.irig_timekeeper.specs.declared.lines.Line.{Line}
-use Rattle.irig_timekeeper.specs.declared.lines.Lines.{Lines}
+use Rattle.irig_lines.specs.declared.lines.Line.{Line}
+use Rattle.irig_lines.specs.declared.lines.Lines.{Lines}
 use Rattle.irig_timekeeper.specs.Keeping.{Heard, Keeping, heard_by, heard_then, one_pulse_more, with_heard, with_lines}
-use Rattle.irig_timekeeper.specs.Steps.{line_at, line_heard, with_line}
+use Rattle.irig_lines.specs.Steps.{line_at, line_heard, with_line}
 use Rattle.irig_vote.specs.Vote.{ports_in}
 use Rattle.irig_reader.proofs.FedLaws.{at_most_five}
 use Rattle.c_numbers.specs.Setups.{limits_in, redundancy_in, rules_in}
-use Rattle.c_keeper.specs.declared.line.IrigLine.{IrigLine}
-use Rattle.c_keeper.specs.declared.line.IrigLines.{IrigLines}
+use Rattle.c_lines.specs.declared.line.IrigLine.{IrigLine}
+use Rattle.c_lines.specs.declared.line.IrigLines.{IrigLines}
 use Rattle.c_keeper.specs.declared.timekeeper.IrigTimekeeper.{IrigTimekeeper}
 use Rattle.c_keeper.specs.CheckWord.{IsSealed}
-use Rattle.c_keeper.specs.Lines.{line_in, lines_in, numbers_at, with_numbers, HaveHeard, KeepNoMore}
+use Rattle.c_lines.specs.Lines.{line_in, lines_in, numbers_at, with_numbers, HaveHeard, KeepNoMore}
 use Rattle.c_keeper.specs.Timekeepers.{clock_in, clock_state_in, IsTimekeeperOf}
 
 -- a fact of each of five ports is one of a port
@@ -45,8 +45,14 @@ of_each P p0 p1 p2 p3 p4 port here =
 
 -- ---- the line of a port
 
-pub line_there : (limits : Option Limits) (rules : Rules) (ls : IrigLines) (port : ℕ) → port < 5 → line_at (lines_in limits rules ls) port ≡ line_in limits rules (numbers_at ls port)
-line_there limits rules ls = of_each (λ port. line_at (lines_in limits rules ls) port ≡ line_in limits rules (numbers_at ls port)) refl refl refl refl refl
+one_of : {A B : Type 0} (f : A → B) (b : Bool) (x y : A) (z : B) → z ≡ f y → (if b then f x else z) ≡ f (if b then x else y)
+one_of f true x y z is = refl
+one_of f false x y z is = is
+
+pub line_there : (limits : Option Limits) (rules : Rules) (ls : IrigLines) (port : ℕ) → line_at (lines_in limits rules ls) port ≡ line_in limits rules (numbers_at ls port)
+line_there limits rules ls port =
+    let line : IrigLine → Line = line_in limits rules in
+    one_of line (port == 0) ls.a _ _ (one_of line (port == 1) ls.b _ _ (one_of line (port == 2) ls.c _ _ (one_of line (port == 3) ls.d ls.e (line ls.e) refl)))
 
 line_put : (limits : Option Limits) (rules : Rules) (ls : IrigLines) (l : IrigLine) (port : ℕ) → port < 5
     → lines_in limits rules (with_numbers ls port l) ≡ with_line (lines_in limits rules ls) port (line_in limits rules l)
@@ -69,7 +75,7 @@ heard_put ls heard l s h now =
 pub place_as : (t : IrigTimekeeper) (k : Keeping) (port rise width : ℕ) → port < 5 → IsTimekeeperOf t k
     → place_of (numbers_at t.lines port).sync rise width ≡ place_of (line_at k.state.lines port).sync rise width
 place_as t k port rise width here h =
-    ap (λ (x : Line). place_of x.sync rise width) (sym (line_there (limits_in t.setup) (rules_in t.setup) t.lines port here))
+    ap (λ (x : Line). place_of x.sync rise width) (sym (line_there (limits_in t.setup) (rules_in t.setup) t.lines port))
     ∙ ap (λ (s : ClockState). place_of (line_at s.lines port).sync rise width) h.state
 
 -- ---- a pulse
@@ -133,7 +139,7 @@ one_more t q k port rise width place l there behind is seal h =
 
     -- the line of the value
     line : line_at k.state.lines port ≡ line_in limits rules (numbers_at t.lines port)
-    line = ap (λ (s : ClockState). line_at s.lines port) (sym h.state) ∙ line_there limits rules t.lines port here
+    line = ap (λ (s : ClockState). line_at s.lines port) (sym h.state) ∙ line_there limits rules t.lines port
 
     place_is : place_of (line_at k.state.lines port).sync rise width ≡ place
     place_is = ap (λ (x : Line). place_of x.sync rise width) line ∙ sym behind.at

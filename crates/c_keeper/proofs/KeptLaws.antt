@@ -1,16 +1,16 @@
 -- A tick keeps the frames of lines, or drops them.
 use Rattle.std.proofs.Common.{◌==◌, ℕ, Bool, true, false, if◌then◌else◌, Option, Some, None, refl, inl, inr}
 use Rattle.irig_time.specs.Tables.{TableValue}
-use Rattle.irig_timekeeper.specs.declared.setup.ClockRules.{ClockRules}
+use Rattle.irig_lines.specs.declared.setup.ClockRules.{ClockRules}
 use Rattle.irig_timekeeper.specs.declared.clock.ClockState.{ClockState}
-use Rattle.irig_timekeeper.specs.declared.lines.Vote.{Vote}
-use Rattle.irig_timekeeper.specs.declared.lines.KeptFrame.{KeptFrame}
-use Rattle.irig_timekeeper.specs.declared.lines.Line.{Line}
-use Rattle.irig_timekeeper.specs.declared.lines.Lines.{Lines}
+use Rattle.irig_lines.specs.declared.lines.Vote.{Vote}
+use Rattle.irig_lines.specs.declared.lines.KeptFrame.{KeptFrame}
+use Rattle.irig_lines.specs.declared.lines.Line.{Line}
+use Rattle.irig_lines.specs.declared.lines.Lines.{Lines}
 use Rattle.irig_timekeeper.specs.Clock.{after_own, after_vote, clock_after, clock_by, settled_at, vote_of_lines}
-use Rattle.irig_timekeeper.specs.Counting.{edges_own, edges_to_vote, is_gone, is_late}
-use Rattle.irig_timekeeper.specs.Steps.{line_settled, line_taken, settled, still_kept, still_seen, taken}
-use Rattle.c_keeper.specs.Lines.{AreKeptFrom, IsKeptFrom, IsLineFrom}
+use Rattle.irig_lines.specs.Counting.{edges_own, edges_to_vote, is_gone, is_late}
+use Rattle.irig_lines.specs.Steps.{line_settled, line_taken, settled, still_kept, still_seen, taken}
+use Rattle.c_lines.specs.Lines.{AreKeptFrom, IsKeptFrom, IsLineFrom}
 
 -- ---- a late frame is dropped
 

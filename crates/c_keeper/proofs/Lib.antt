@@ -13,3 +13,4 @@ pub mod StampedLaws
 pub mod RowLaws
 pub mod WaitedLaws
 pub mod AnnouncedLaws
+pub mod QuietLaws

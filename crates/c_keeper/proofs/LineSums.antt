@@ -6,28 +6,29 @@ use Rattle.c_numbers.proofs.CheckLaws.{append_at}
 use Rattle.c_numbers.proofs.PortSums.{renewed}
 use Rattle.c_keeper.proofs.SumLaws.{by_parts}
 use Rattle.c_keeper.specs.declared.timekeeper.IrigTimekeeper.{IrigTimekeeper}
-use Rattle.c_keeper.specs.declared.line.IrigLine.{IrigLine}
-use Rattle.c_keeper.specs.declared.line.IrigLines.{IrigLines}
-use Rattle.c_keeper.specs.CheckWord.{changing_numbers, check_of, clock_numbers, fixed_numbers, line_numbers, lines_numbers, IsSealed}
-use Rattle.c_keeper.specs.Lines.{numbers_at, with_numbers}
+use Rattle.c_lines.specs.declared.line.IrigLine.{IrigLine}
+use Rattle.c_lines.specs.declared.line.IrigLines.{IrigLines}
+use Rattle.c_lines.specs.CheckWord.{line_numbers, lines_numbers}
+use Rattle.c_keeper.specs.CheckWord.{changing_numbers, check_of, clock_numbers, fixed_numbers, IsSealed}
+use Rattle.c_lines.specs.Lines.{numbers_at, with_numbers}
 
 -- what a line adds
 abbrev part : ℕ → IrigLine → ℕ
 part w l = weighted w (line_numbers l)
 
-pub all_parts : (ls : IrigLines) → weighted 363 (lines_numbers ls) ≡ part 363 ls.a + (part 395 ls.b + (part 427 ls.c + (part 459 ls.d + part 491 ls.e)))
+pub all_parts : (ls : IrigLines) → weighted 381 (lines_numbers ls) ≡ part 381 ls.a + (part 413 ls.b + (part 445 ls.c + (part 477 ls.d + part 509 ls.e)))
 all_parts ls =
-    append_at 363 395 (line_numbers ls.a) (line_numbers ls.b ++ (line_numbers ls.c ++ (line_numbers ls.d ++ line_numbers ls.e))) refl
-    ∙ ap (λ (n : ℕ). part 363 ls.a + n)
-    (append_at 395 427 (line_numbers ls.b) (line_numbers ls.c ++ (line_numbers ls.d ++ line_numbers ls.e)) refl
-    ∙ ap (λ (n : ℕ). part 395 ls.b + n)
-    (append_at 427 459 (line_numbers ls.c) (line_numbers ls.d ++ line_numbers ls.e) refl
-    ∙ ap (λ (n : ℕ). part 427 ls.c + n) (append_at 459 491 (line_numbers ls.d) (line_numbers ls.e) refl)))
+    append_at 381 413 (line_numbers ls.a) (line_numbers ls.b ++ (line_numbers ls.c ++ (line_numbers ls.d ++ line_numbers ls.e))) refl
+    ∙ ap (λ (n : ℕ). part 381 ls.a + n)
+    (append_at 413 445 (line_numbers ls.b) (line_numbers ls.c ++ (line_numbers ls.d ++ line_numbers ls.e)) refl
+    ∙ ap (λ (n : ℕ). part 413 ls.b + n)
+    (append_at 445 477 (line_numbers ls.c) (line_numbers ls.d ++ line_numbers ls.e) refl
+    ∙ ap (λ (n : ℕ). part 445 ls.c + n) (append_at 477 509 (line_numbers ls.d) (line_numbers ls.e) refl)))
 
 abbrev IsSet : IrigLines → IrigLine → ℕ → Type 0
 IsSet ls l port =
-    weighted 363 (lines_numbers (with_numbers ls port l)) + weighted (363 + 32 * port) (line_numbers (numbers_at ls port))
-    ≡ weighted 363 (lines_numbers ls) + weighted (363 + 32 * port) (line_numbers l)
+    weighted 381 (lines_numbers (with_numbers ls port l)) + weighted (381 + 32 * port) (line_numbers (numbers_at ls port))
+    ≡ weighted 381 (lines_numbers ls) + weighted (381 + 32 * port) (line_numbers l)
 
 -- one of five parts becomes another one
 first : (a b c d e n old new : ℕ) → old ≡ a + (b + (c + (d + e))) → new ≡ n + (b + (c + (d + e))) → new + a ≡ old + n
@@ -48,22 +49,22 @@ fifth a b c d e n old new was is = omega (arith, was, is)
 -- a line is set: the sum changes by what its part does
 pub line_set : (ls : IrigLines) (port : ℕ) (l : IrigLine) → port < 5 → IsSet ls l port
 line_set ls port l here =
-    let a = part 363 ls.a in
-    let b = part 395 ls.b in
-    let c = part 427 ls.c in
-    let d = part 459 ls.d in
-    let e = part 491 ls.e in
+    let a = part 381 ls.a in
+    let b = part 413 ls.b in
+    let c = part 445 ls.c in
+    let d = part 477 ls.d in
+    let e = part 509 ls.e in
     elim (cases_eq port 0) [
-      | inl is ↦ rw is (first a b c d e (part 363 l) _ _ (all_parts ls) (all_parts (with_numbers ls 0 l)))
+      | inl is ↦ rw is (first a b c d e (part 381 l) _ _ (all_parts ls) (all_parts (with_numbers ls 0 l)))
       | inr not_0 ↦ elim (cases_eq port 1) [
-        | inl is ↦ rw is (second a b c d e (part 395 l) _ _ (all_parts ls) (all_parts (with_numbers ls 1 l)))
+        | inl is ↦ rw is (second a b c d e (part 413 l) _ _ (all_parts ls) (all_parts (with_numbers ls 1 l)))
         | inr not_1 ↦ elim (cases_eq port 2) [
-          | inl is ↦ rw is (third a b c d e (part 427 l) _ _ (all_parts ls) (all_parts (with_numbers ls 2 l)))
+          | inl is ↦ rw is (third a b c d e (part 445 l) _ _ (all_parts ls) (all_parts (with_numbers ls 2 l)))
           | inr not_2 ↦ elim (cases_eq port 3) [
-            | inl is ↦ rw is (fourth a b c d e (part 459 l) _ _ (all_parts ls) (all_parts (with_numbers ls 3 l)))
+            | inl is ↦ rw is (fourth a b c d e (part 477 l) _ _ (all_parts ls) (all_parts (with_numbers ls 3 l)))
             | inr not_3 ↦
                 let is : port ≡ 4 = omega (arith, not_0, not_1, not_2, not_3, here) in
-                rw is (fifth a b c d e (part 491 l) _ _ (all_parts ls) (all_parts (with_numbers ls 4 l)))
+                rw is (fifth a b c d e (part 509 l) _ _ (all_parts ls) (all_parts (with_numbers ls 4 l)))
           ]
         ]
       ]
@@ -71,21 +72,21 @@ line_set ls port l here =
 
 -- a check word that is renewed by the difference of a line is right exactly if it was
 pub renewed_line : (t : IrigTimekeeper) (port : ℕ) (l : IrigLine) (change : ℕ) → port < 5 → t.check < 18446744073709551616
-    → (weighted (363 + 32 * port) (line_numbers (numbers_at t.lines port)) + change) % 18446744073709551616
-    ≡ weighted (363 + 32 * port) (line_numbers l) % 18446744073709551616
+    → (weighted (381 + 32 * port) (line_numbers (numbers_at t.lines port)) + change) % 18446744073709551616
+    ≡ weighted (381 + 32 * port) (line_numbers l) % 18446744073709551616
     → IsSealed (record t { lines = with_numbers t.lines port l; check = (t.check + change) % 18446744073709551616 }) ↔ IsSealed t
 unfolding check_of
 renewed_line t port l change here fits adds =
     let q : IrigTimekeeper = record t { lines = with_numbers t.lines port l; check = (t.check + change) % 18446744073709551616 } in
     let rest : ℕ = weighted 3 (fixed_numbers t) + (weighted 279 (state_numbers t.state) + weighted 291 (clock_numbers t)) in
     rw (whole t, whole q)
-    (renewed t.check rest (weighted (363 + 32 * port) (line_numbers (numbers_at t.lines port))) (weighted (363 + 32 * port) (line_numbers l))
-    (weighted 363 (lines_numbers t.lines)) (weighted 363 (lines_numbers (with_numbers t.lines port l))) change (line_set t.lines port l here) fits adds)
+    (renewed t.check rest (weighted (381 + 32 * port) (line_numbers (numbers_at t.lines port))) (weighted (381 + 32 * port) (line_numbers l))
+    (weighted 381 (lines_numbers t.lines)) (weighted 381 (lines_numbers (with_numbers t.lines port l))) change (line_set t.lines port l here) fits adds)
   where
     three : (f s c l : ℕ) → f + (s + (c + l)) ≡ f + (s + c) + l
     three f s c l = omega arith
 
     whole : (t : IrigTimekeeper) → weighted 3 (fixed_numbers t) + weighted 279 (changing_numbers t)
-        ≡ weighted 3 (fixed_numbers t) + (weighted 279 (state_numbers t.state) + weighted 291 (clock_numbers t)) + weighted 363 (lines_numbers t.lines)
+        ≡ weighted 3 (fixed_numbers t) + (weighted 279 (state_numbers t.state) + weighted 291 (clock_numbers t)) + weighted 381 (lines_numbers t.lines)
     whole t = ap (λ (n : ℕ). weighted 3 (fixed_numbers t) + n) (by_parts t)
-        ∙ three (weighted 3 (fixed_numbers t)) (weighted 279 (state_numbers t.state)) (weighted 291 (clock_numbers t)) (weighted 363 (lines_numbers t.lines))
+        ∙ three (weighted 3 (fixed_numbers t)) (weighted 279 (state_numbers t.state)) (weighted 291 (clock_numbers t)) (weighted 381 (lines_numbers t.lines))

@@ -6,14 +6,14 @@ use Rattle.irig_time.specs.declared.rules.Rules.{Rules}
 use Rattle.irig_time.specs.declared.rules.Sense.{Sense}
 use Rattle.irig_vote.specs.declared.redundancy.Redundancy.{Redundancy}
 use Rattle.irig_timekeeper.specs.declared.clock.Beat.{Beat}
-use Rattle.irig_timekeeper.specs.declared.setup.ClockRules.{ClockRules}
+use Rattle.irig_lines.specs.declared.setup.ClockRules.{ClockRules}
 use Rattle.irig_timekeeper.specs.declared.clock.ClockState.{ClockState}
-use Rattle.irig_timekeeper.specs.declared.lines.Vote.{Vote}
+use Rattle.irig_lines.specs.declared.lines.Vote.{Vote}
 use Rattle.irig_timekeeper.specs.Clock.{claim_voted, vote_of_lines}
 use Rattle.irig_timekeeper.specs.Keeping.{place_told, Keeping, after_pulse, after_tick, answer_at, new_keeping, new_state, restarted, vote_at, wait_at}
 use Rattle.irig_timekeeper.specs.Life.{device_of, life_of}
 use Rattle.irig_timekeeper.specs.Lived.{MadeOf, made_with}
-use Rattle.irig_timekeeper.specs.Steps.{AreNewLines}
+use Rattle.irig_lines.specs.Steps.{AreNewLines}
 use Rattle.irig_timekeeper.proofs.LivedLaws.{as_made}
 use Rattle.c_numbers.specs.declared.voices.Voices.{Voices}
 use Rattle.c_numbers.specs.Reports.{voices_in}
@@ -21,7 +21,7 @@ use Rattle.c_numbers.proofs.NoVoteLaws.{none_agrees}
 use Rattle.c_numbers.specs.Voices.{voices_to}
 use Rattle.c_keeper.specs.declared.second.IrigSecond.{IrigSecond}
 use Rattle.c_keeper.specs.declared.timekeeper.IrigTimekeeper.{IrigTimekeeper}
-use Rattle.c_keeper.specs.Lines.{lines_in}
+use Rattle.c_lines.specs.Lines.{lines_in}
 use Rattle.c_keeper.specs.Lives.{Moment, HasLived, calls_of}
 use Rattle.c_keeper.specs.Lives.Moment.{Pulsed, Ticked, Waited}
 use Rattle.c_keeper.specs.Seconds.{IsSecondOf}

@@ -8,25 +8,27 @@ use Rattle.irig_vote.specs.Vote.{f_of}
 use Rattle.irig_reader.specs.declared.report.Cause.TheVariants as cause
 use Rattle.irig_reader.specs.declared.report.Report.{Report}
 use Rattle.irig_timekeeper.specs.declared.clock.Beat.{Beat}
-use Rattle.irig_timekeeper.specs.declared.lines.Lines.{Lines}
-use Rattle.irig_timekeeper.specs.declared.within.Within.{Within}
+use Rattle.irig_lines.specs.declared.lines.Lines.{Lines}
+use Rattle.irig_lines.specs.declared.within.Within.{Within}
 use Rattle.irig_timekeeper.specs.Clock.{lasted}
-use Rattle.irig_timekeeper.specs.Exactness.{most_drift_us, vote_us, fault_early_us, fault_late_us}
-use Rattle.irig_timekeeper.specs.Edges.{IsQuartz}
+use Rattle.irig_lines.specs.Exactness.{most_drift_us, vote_us, fault_early_us, fault_late_us}
+use Rattle.irig_lines.specs.Edges.{IsQuartz}
 use Rattle.irig_timekeeper.specs.Keeping.{Keeping, answer_at}
 use Rattle.irig_timekeeper.specs.Life.{Call, AreInOrder, AreTrueLately, AreTrueAtTicks, AreTrueOver, after_calls, device_of}
 use Rattle.irig_timekeeper.specs.Life.Call.{Hear, Tick}
-use Rattle.irig_timekeeper.specs.Lines.{IsTrueLately, IsTrueOrFaulty}
+use Rattle.irig_lines.specs.Lines.{IsTrueLately, IsTrueOrFaulty}
 use Rattle.irig_timekeeper.specs.Lived.{MadeOf, made_with}
-use Rattle.irig_timekeeper.specs.Steps.{AreNewLines}
+use Rattle.irig_lines.specs.Steps.{AreNewLines}
 use Rattle.irig_timekeeper.specs.Truth.{IsToldInHoldover, IsLaterSecond, AreApartBeats}
 use Rattle.irig_timekeeper.specs.Healing as device
 use Rattle.irig_timekeeper.proofs.FaultLines.{either_tells_truly, fault_small}
 use Rattle.irig_timekeeper.proofs.HealLaws.{healed, in_order, calm_since}
 use Rattle.irig_timekeeper.proofs.LifeLaws.{TellAlwaysTruly, begins, device_calm, device_in_order, device_true}
-use Rattle.irig_timekeeper.proofs.LineLaws.{true_lately}
+use Rattle.irig_lines.proofs.LineLaws.{true_lately}
 use Rattle.irig_timekeeper.proofs.OrderLaws.{edges_apart}
 use Rattle.c_numbers.specs.Reports.{report_in}
+use Rattle.irig_lines.specs.Clocks.{IsTrueByItsClock}
+use Rattle.irig_timekeeper.proofs.ClockLines.{clocks_tell_truly}
 use Rattle.c_keeper.specs.declared.second.IrigSecond.{IrigSecond}
 use Rattle.c_keeper.specs.declared.timekeeper.IrigTimekeeper.{IrigTimekeeper}
 use Rattle.c_keeper.specs.Lives.{Moment, HasLived, HaveTold, HasHealed, GoesOnTruly, beat_in, calls_of}
@@ -103,6 +105,13 @@ pub faulty_lines : (within : Within) (d : ℕ) → AreLinesSo within d (IsTrueOr
 faulty_lines within d = record {
   room = λ few. (let most = fault_small within d few in omega (arith, most.0, most.1));
   truly = λ rules t edges steady. either_tells_truly within rules t d edges steady;
+}
+
+-- they may be so by clocks that are off
+pub clock_lines : (off : ℕ) (within : Within) (d : ℕ) → off ≤ 1000 → AreLinesSo within d (IsTrueByItsClock off within.us d) off off
+clock_lines off within d few = record {
+  room = λ low. omega (arith, few);
+  truly = λ rules t edges steady. clocks_tell_truly off within rules t d edges;
 }
 
 module _ (IsTrue : Rules → TimelineValue → (ℕ → ℕ) → ℕ → List Pulse → Type 0) (t : TimelineValue) (edges : ℕ → ℕ) (made : MadeOf) (start : ℕ) (lines : Lines) (fresh : AreNewLines lines) where

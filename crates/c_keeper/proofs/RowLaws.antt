@@ -5,13 +5,13 @@ use Rattle.irig_time.specs.declared.rules.Rules.{Rules}
 use Rattle.irig_time.specs.declared.second.UtcSecond.{UtcSecond}
 use Rattle.irig_time.specs.Timelines.{TimelineValue}
 use Rattle.irig_reader.specs.declared.report.Report.{Report}
-use Rattle.irig_timekeeper.specs.Exactness.{fault_early_us, fault_late_us}
+use Rattle.irig_lines.specs.Exactness.{fault_early_us, fault_late_us}
 use Rattle.irig_timekeeper.specs.declared.clock.Beat.{Beat}
 use Rattle.irig_timekeeper.specs.declared.stamp.Stamp.{Stamp}
 use Rattle.irig_timekeeper.specs.Keeping.{Keeping, answer_at, stamp_at}
 use Rattle.irig_timekeeper.specs.Life.{Call, AreInOrder, after_calls, device_of, life_of}
 use Rattle.irig_timekeeper.specs.Life.Call.{Tick}
-use Rattle.irig_timekeeper.specs.Lines.{IsTrueLately, IsTrueOrFaulty}
+use Rattle.irig_lines.specs.Lines.{IsTrueLately, IsTrueOrFaulty}
 use Rattle.irig_timekeeper.specs.Lived.{MadeOf, made_with}
 use Rattle.irig_timekeeper.specs.Rows.{AreToldLast, TellNothing}
 use Rattle.irig_timekeeper.proofs.LifeLaws.{device_true}

@@ -12,8 +12,8 @@ use Rattle.irig_timekeeper.specs.Clock.{lasted}
 use Rattle.irig_timekeeper.specs.Keeping.{Keeping, answer_at, stamp_at}
 use Rattle.irig_timekeeper.specs.Life.{Call, AreInOrder, after_calls, device_of, life_of}
 use Rattle.irig_timekeeper.specs.Life.Call.{Tick}
-use Rattle.irig_timekeeper.specs.Edges.{IsQuartz}
-use Rattle.irig_timekeeper.specs.Lines.{IsTrueLately, IsTrueOrFaulty}
+use Rattle.irig_lines.specs.Edges.{IsQuartz}
+use Rattle.irig_lines.specs.Lines.{IsTrueLately, IsTrueOrFaulty}
 use Rattle.irig_timekeeper.specs.Lived.{MadeOf, made_with}
 use Rattle.irig_timekeeper.specs.Since.{since_answer, unless_voted}
 use Rattle.irig_timekeeper.specs.Since as device
@@ -22,17 +22,18 @@ use Rattle.irig_timekeeper.specs.Truth.{IsDevice, IsInstant, IsStampedTruly}
 use Rattle.irig_timekeeper.proofs.HealedStamps.{stamped_since}
 use Rattle.irig_timekeeper.proofs.LifeLaws.{order_before}
 use Rattle.irig_timekeeper.proofs.SinceLaws.{has_its_bound, lasts_since}
-use Rattle.irig_timekeeper.specs.Exactness.{vote_us, fault_early_us, fault_late_us}
+use Rattle.irig_lines.specs.Exactness.{vote_us, fault_early_us, fault_late_us}
 use Rattle.irig_timekeeper.proofs.FaultLines.{late_below}
 use Rattle.irig_timekeeper.proofs.StampLaws.{near_instant, stamped}
 use Rattle.c_numbers.specs.Reports.{report_in}
+use Rattle.irig_lines.specs.Clocks.{IsTrueByItsClock}
 use Rattle.c_keeper.specs.declared.second.IrigSecond.{IrigSecond}
 use Rattle.c_keeper.specs.declared.timekeeper.IrigTimekeeper.{IrigTimekeeper}
 use Rattle.c_keeper.specs.Lives.{Moment, AreTogether, HasLived, HaveTold, HasHealedBefore, HasItsBound, StampsTruly, calls_of, since_vote}
 use Rattle.c_keeper.specs.Lives.Moment.{Pulsed, Ticked, Waited}
 use Rattle.c_keeper.specs.Seconds.{IsSecondOf}
 use Rattle.c_keeper.specs.Timekeepers.{stamp_for, IsTimekeeperOf}
-use Rattle.c_keeper.proofs.LivesLaws.{AreLinesSo, as_device, announced_beat, faulty_lines, told_before, whole_lines}
+use Rattle.c_keeper.proofs.LivesLaws.{AreLinesSo, as_device, announced_beat, clock_lines, faulty_lines, told_before, whole_lines}
 use Rattle.c_keeper.proofs.ValueLaws.{beat_of}
 
 -- the stamp of an event is that of the value
@@ -71,6 +72,9 @@ module _ (q : IrigTimekeeper) (t : TimelineValue) (edges : ℕ → ℕ) (made : 
 
   pub stamped_faulty : StampsTruly (IsTrueOrFaulty made.clock.within.us) t edges made start time now past → IsStampedTruly t edges (fault_early_us made.clock.within.us made.clock.drift_us) time stamp
   stamped_faulty = stamped_so (IsTrueOrFaulty made.clock.within.us) (fault_early_us made.clock.within.us made.clock.drift_us) (fault_late_us made.clock.within.us made.clock.drift_us) (fault_early_us made.clock.within.us made.clock.drift_us) (omega arith) (late_below made.clock.within.us made.clock.drift_us) q t edges made (faulty_lines made.clock.within made.clock.drift_us) start time now past stamp h e
+
+  pub stamped_off : (off : ℕ) → off ≤ 1000 → StampsTruly (IsTrueByItsClock off made.clock.within.us made.clock.drift_us) t edges made start time now past → IsStampedTruly t edges off time stamp
+  stamped_off off few = stamped_so (IsTrueByItsClock off made.clock.within.us made.clock.drift_us) off off off (omega arith) (omega arith) q t edges made (clock_lines off made.clock.within made.clock.drift_us few) start time now past stamp h e
 
 -- the device of such a life
 pub sound_device : (t : TimelineValue) (edges : ℕ → ℕ) (made : MadeOf) (start time now : ℕ) (past : List Moment) → StampsTruly (IsTrueLately made.clock.within.us) t edges made start time now past → IsDevice t made.clock.drift_us edges made.clock.reader_rules made.table

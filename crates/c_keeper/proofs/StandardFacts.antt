@@ -2,16 +2,16 @@
 use Rattle.std.proofs.Common.{◌≡◌, ℕ, List, [], ◌∷◌, Some, None, refl, arith}
 use Rattle.c_numbers.specs.CheckWord.{weighted}
 use Rattle.c_numbers.specs.Tallies.{no_tally}
-use Rattle.c_keeper.specs.declared.announced.IrigAnnounced.{IrigAnnounced}
-use Rattle.c_keeper.specs.declared.line.IrigLine.{IrigLine}
-use Rattle.c_keeper.specs.declared.line.IrigLines.{IrigLines}
+use Rattle.c_lines.specs.declared.announced.IrigAnnounced.{IrigAnnounced}
+use Rattle.c_lines.specs.declared.line.IrigLine.{IrigLine}
+use Rattle.c_lines.specs.declared.line.IrigLines.{IrigLines}
 use Rattle.c_keeper.specs.Announcing.{AreAsked, GoesByWait}
-use Rattle.c_keeper.specs.CheckWord.{announced_numbers, lines_numbers}
-use Rattle.c_keeper.specs.Lines.{numbers_at, with_numbers}
+use Rattle.c_lines.specs.CheckWord.{announced_numbers, lines_numbers}
+use Rattle.c_lines.specs.Lines.{numbers_at, with_numbers}
 use Rattle.c_keeper.specs.Lives.{Moment}
 use Rattle.c_keeper.specs.Lives.Moment.{Pulsed, Ticked, Waited}
 use Rattle.c_keeper.specs.Seconds.{nothing_told, stamp_in}
-use Rattle.c_keeper.specs.Timekeepers.{announced_in}
+use Rattle.c_lines.specs.Announced.{announced_in}
 
 abbrev silent : IrigLine
 silent = record { sync = record { rise_us = 0; place = 0; was_marker = 0 }; port = no_tally; frame = no_tally; begin_us = 0; end_us = 0; is_uneven = 0; has_frame = 0; is_seen = 0; is_heard = 0 }
@@ -20,8 +20,8 @@ abbrev all_silent : IrigLines
 all_silent = record { a = silent; b = silent; c = silent; d = silent; e = silent }
 
 -- the weights of the first number of the first line, of the last one of the last, and of a second's
-pub known_weights : (weighted 363 (lines_numbers (record all_silent { a = record silent { sync = record { rise_us = 1000; place = 0; was_marker = 0 } } })) ≡ 363000)
-    × (weighted 363 (lines_numbers (record all_silent { e = record silent { is_uneven = 1 } })) ≡ 521)
+pub known_weights : (weighted 381 (lines_numbers (record all_silent { a = record silent { sync = record { rise_us = 1000; place = 0; was_marker = 0 } } })) ≡ 381000)
+    × (weighted 381 (lines_numbers (record all_silent { e = record silent { is_uneven = 1 } })) ≡ 539)
     × (weighted 311 (announced_numbers (record { day = 1; sod = 0; edge_us = 0; bound_us = 0; is_told = 1000 })) ≡ 319311)
 known_weights = (refl, refl, refl)
 

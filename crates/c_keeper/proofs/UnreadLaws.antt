@@ -2,15 +2,15 @@
 use Rattle.std.proofs.Common.{◌≡◌, ◌∙◌, ◌==◌, ℕ, ◌+◌, ◌-◌, ◌%◌, ◌^◌, Bool, true, false, if◌then◌else◌, Option, Some, None, refl, ap}
 use Rattle.irig_time.specs.Tables.{TableValue}
 use Rattle.irig_timekeeper.specs.declared.clock.ClockState.{ClockState}
-use Rattle.irig_timekeeper.specs.declared.lines.KeptFrame.{KeptFrame}
-use Rattle.irig_timekeeper.specs.declared.lines.Line.{Line}
-use Rattle.irig_timekeeper.specs.declared.lines.Lines.{Lines}
-use Rattle.irig_timekeeper.specs.declared.lines.Vote.{Vote}
-use Rattle.irig_timekeeper.specs.declared.setup.ClockRules.{ClockRules}
-use Rattle.irig_timekeeper.specs.Counting.{edges_own, edges_to_vote, is_gone}
+use Rattle.irig_lines.specs.declared.lines.KeptFrame.{KeptFrame}
+use Rattle.irig_lines.specs.declared.lines.Line.{Line}
+use Rattle.irig_lines.specs.declared.lines.Lines.{Lines}
+use Rattle.irig_lines.specs.declared.lines.Vote.{Vote}
+use Rattle.irig_lines.specs.declared.setup.ClockRules.{ClockRules}
+use Rattle.irig_lines.specs.Counting.{edges_own, edges_to_vote, is_gone}
 use Rattle.irig_timekeeper.specs.Clock.{answer_by, beaten, clock_after, clock_answer, clock_by, knowing, knowing_vote, own_edge, settled_at, step_to, vote_of_lines}
-use Rattle.irig_timekeeper.specs.Steps.{line_settled, settled, still_seen, taken}
-use Rattle.c_keeper.specs.Lines.{unread_frame, unread_line, unread_lines}
+use Rattle.irig_lines.specs.Steps.{line_settled, settled, still_seen, taken}
+use Rattle.c_lines.specs.Lines.{unread_frame, unread_line, unread_lines}
 use Rattle.c_keeper.specs.Timekeepers.{unread}
 
 -- ---- what is seen goes by its end

@@ -1,25 +1,26 @@
 -- What calls make of the numbers of a timekeeper is what they make of the value that it is.
 use Rattle.std.specs.Prelude.{IfSome}
-use Rattle.std.proofs.Common.{◌≡◌, ◌∙◌, ℕ, Option, Some, None, refl, sym, ap, subst, arith}
+use Rattle.std.proofs.Common.{◌≡◌, ◌∙◌, ◌==◌, not, ℕ, Option, Some, None, refl, sym, ap, subst, arith}
 use Rattle.irig_time.specs.Tables.{TableValue}
 use Rattle.irig_timekeeper.specs.declared.clock.Beat.{Beat}
-use Rattle.irig_timekeeper.specs.declared.setup.ClockRules.{ClockRules}
+use Rattle.irig_lines.specs.declared.setup.ClockRules.{ClockRules}
 use Rattle.irig_timekeeper.specs.declared.clock.ClockState.{ClockState}
 use Rattle.irig_time.specs.Seconds.{IsValid}
 use Rattle.irig_reader.specs.declared.report.Report.{Report}
 use Rattle.irig_timekeeper.specs.Clock.{clock_after, clock_answer, clock_wait, SaysOfUtc}
-use Rattle.irig_timekeeper.specs.Refusals.{clock_fault, within_of}
+use Rattle.irig_lines.specs.Refusals.{clock_fault, within_of}
 use Rattle.c_numbers.specs.declared.setup.IrigSetup.{IrigSetup}
 use Rattle.c_numbers.specs.Reports.{report_in}
 use Rattle.c_numbers.specs.Setups.{reader_rules_in, redundancy_in}
-use Rattle.c_keeper.specs.declared.announced.IrigAnnounced.{IrigAnnounced}
+use Rattle.c_lines.specs.declared.announced.IrigAnnounced.{IrigAnnounced}
 use Rattle.irig_timekeeper.specs.Keeping.{Keeping, after_tick, answer_at, wait_at}
 use Rattle.c_numbers.specs.LeapTables.{table_in}
 use Rattle.c_keeper.specs.declared.second.IrigSecond.{IrigSecond}
 use Rattle.c_keeper.specs.declared.timekeeper.IrigTimekeeper.{IrigTimekeeper}
 use Rattle.c_keeper.specs.declared.timekeeper.IrigWires.{IrigWires}
 use Rattle.c_keeper.specs.Seconds.{IsSecondOf, IsToldOf}
-use Rattle.c_keeper.specs.Timekeepers.{answer_in, clock_in, clock_state_in, delays_in, state_behind, wait_in, IsAnnounced, IsSmall, IsTimekeeperOf}
+use Rattle.c_lines.specs.Announced.{IsAnnounced, IsSmall}
+use Rattle.c_keeper.specs.Timekeepers.{answer_in, clock_in, clock_state_in, delays_in, state_behind, wait_in, IsTimekeeperOf}
 
 pub answers_as : (t : IrigTimekeeper) (k : Keeping) (now : ℕ) → IsTimekeeperOf t k → answer_in t now ≡ answer_at k now
 answers_as t k now h =
@@ -60,7 +61,7 @@ clock_as t q setup wires =
     ap (λ (s : IrigSetup). clock_of s q.wires) setup ∙ ap (λ (w : IrigWires). clock_of t.setup w) wires
   where
     clock_of : IrigSetup → IrigWires → ClockRules
-    clock_of s w = record { reader_rules = reader_rules_in s; redundancy = redundancy_in s; within = within_of w.within_us; drift_us = w.drift_us; delays = delays_in w.delays }
+    clock_of s w = record { reader_rules = reader_rules_in s; redundancy = redundancy_in s; within = within_of w.within_us; drift_us = w.drift_us; delays = delays_in w.delays; prefers_frames = not (w.prefers_frames == 0) }
 
 pub steady_as : (t q : IrigTimekeeper) → q.setup ≡ t.setup → q.wires ≡ t.wires → clock_fault (reader_rules_in t.setup) t.wires.drift_us ≡ None
     → clock_fault (reader_rules_in q.setup) q.wires.drift_us ≡ None

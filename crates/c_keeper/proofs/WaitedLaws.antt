@@ -1,15 +1,15 @@
 -- How long a timekeeper says to wait in a life, and what a tick then finds.
 use Rattle.std.proofs.Common.{◌≡◌, ◌∙◌, ◌∷◌, ◌+◌, ◌-◌, ◌%◌, ◌^◌, ◌≤◌, ℕ, List, Option, Some, None, sym, ap, subst, arith}
-use Rattle.irig_timekeeper.specs.declared.setup.ClockRules.{ClockRules}
+use Rattle.irig_lines.specs.declared.setup.ClockRules.{ClockRules}
 use Rattle.irig_timekeeper.specs.declared.clock.ClockState.{ClockState}
-use Rattle.irig_timekeeper.specs.declared.lines.Vote.{Vote}
+use Rattle.irig_lines.specs.declared.lines.Vote.{Vote}
 use Rattle.irig_timekeeper.specs.Clock.{claim_voted, vote_of_lines}
-use Rattle.irig_timekeeper.specs.Counting.{edges_own}
+use Rattle.irig_lines.specs.Counting.{edges_own}
 use Rattle.irig_timekeeper.specs.Keeping.{Keeping, wait_at}
 use Rattle.irig_timekeeper.specs.Life.{Made, AreInOrder, device_of, last_tick, life_of}
 use Rattle.irig_timekeeper.specs.Life.Call.{Tick}
 use Rattle.irig_timekeeper.specs.Lived.{MadeOf, made_with}
-use Rattle.irig_timekeeper.specs.Steps.{agreed, settled, wait_by}
+use Rattle.irig_lines.specs.Steps.{agreed, settled, wait_by}
 use Rattle.irig_timekeeper.specs.Truth.{IfEdgeAt}
 use Rattle.irig_timekeeper.proofs.AgreedLaws.{vote_when_come, waits_for}
 use Rattle.irig_timekeeper.proofs.LifeLaws.{begins}

@@ -1,4 +1,3 @@
-pub mod Lines
 pub mod Timekeepers
 pub mod CheckWord
 pub mod Seconds
@@ -7,3 +6,6 @@ pub mod Said
 pub mod Lives
 pub mod Announcing
 pub mod Rows
+pub mod Anchors
+pub mod Quiet
+pub mod Rates

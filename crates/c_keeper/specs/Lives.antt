@@ -2,23 +2,23 @@
 -- ticks answered, and how long it said to wait. Times are local ones, by a clock that does not wrap; C gives them by one of 32
 -- bits.
 -- Source: this library's own.
-use Rattle.std.specs.Prelude.{◌≡◌, ◌≤◌, ◌⊎◌, ◌+◌, ◌*◌, ◌%◌, ◌^◌, ◌==◌, if◌then◌else◌, ℕ, List, [], ◌∷◌, ◌++◌, Option, Some, None, ⊤}
+use Rattle.std.specs.Prelude.{◌≡◌, ◌≤◌, ◌⊎◌, ◌+◌, ◌*◌, ◌%◌, ◌^◌, ◌==◌, not, if◌then◌else◌, ℕ, List, [], ◌∷◌, ◌++◌, Option, Some, None, ⊤}
 use Rattle.irig_sync.specs.Lines.{Pulse}
 use Rattle.irig_time.specs.declared.rules.Rules.{Rules}
 use Rattle.irig_time.specs.Timelines.{TimelineValue, IsSecond}
 use Rattle.irig_port.specs.declared.told.Told.TheVariants.{Silence}
 use Rattle.irig_vote.specs.Vote.{f_of}
 use Rattle.irig_timekeeper.specs.declared.clock.Beat.{Beat}
-use Rattle.irig_timekeeper.specs.declared.lines.Vote.{Vote}
-use Rattle.irig_timekeeper.specs.declared.lines.Lines.{Lines}
+use Rattle.irig_lines.specs.declared.lines.Vote.{Vote}
+use Rattle.irig_lines.specs.declared.lines.Lines.{Lines}
 use Rattle.irig_timekeeper.specs.declared.stamp.Stamp.{Stamp}
 use Rattle.irig_timekeeper.specs.Keeping.{Keeping, answer_at, place_told, vote_at, wait_at}
-use Rattle.irig_timekeeper.specs.Exactness.{vote_us}
+use Rattle.irig_lines.specs.Exactness.{vote_us}
 use Rattle.irig_timekeeper.specs.Life.{Call, AreInOrder, AreTrueLately, AreTrueOver, after_calls, device_of, life_of}
 use Rattle.irig_timekeeper.specs.Life.Call.{Hear, Tick}
 use Rattle.irig_timekeeper.specs.Lived.{MadeOf, LivesWell, made_with}
 use Rattle.irig_timekeeper.specs.Since.{unless_voted}
-use Rattle.irig_timekeeper.specs.Steps.{AreNewLines, agreed, settled}
+use Rattle.irig_lines.specs.Steps.{AreNewLines, agreed, settled}
 use Rattle.irig_timekeeper.specs.Truth.{IsDevice, IsEdgeAt}
 use Rattle.c_numbers.specs.declared.setup.IrigSetup.{IrigSetup}
 use Rattle.c_numbers.specs.declared.table.IrigTable.{IrigTable}
@@ -28,7 +28,7 @@ use Rattle.c_numbers.specs.Setups.{limits_in, reader_rules_in, redundancy_in, ru
 use Rattle.c_keeper.specs.declared.second.IrigSecond.{IrigSecond}
 use Rattle.c_keeper.specs.declared.timekeeper.IrigTimekeeper.{IrigTimekeeper}
 use Rattle.c_keeper.specs.declared.timekeeper.IrigWires.{IrigWires}
-use Rattle.irig_timekeeper.specs.Refusals.{within_of}
+use Rattle.irig_lines.specs.Refusals.{within_of}
 use Rattle.c_keeper.specs.Seconds.{IsSecondOf}
 use Rattle.c_keeper.specs.Timekeepers.{clock_in, clock_state_in, delays_in, IsTimekeeperOf}
 
@@ -57,6 +57,7 @@ made_in setup table wires = record {
     within = within_of wires.within_us;
     drift_us = wires.drift_us;
     delays = delays_in wires.delays;
+    prefers_frames = not (wires.prefers_frames == 0);
   };
   table = table_in table;
 }
@@ -70,6 +71,7 @@ beat_in s = record {
   bound_us = s.bound_us;
   missed = s.missed;
   moved = s.moved;
+  against_table = not (s.against_table == 0);
 }
 
 -- ---- what nobody has to read: it is given by `irig_c_timekeeper_init`, and handed on by each call

@@ -5,16 +5,16 @@ use Rattle.irig_time.specs.declared.second.UtcSecond.{UtcSecond}
 use Rattle.irig_time.specs.Seconds.{same_second}
 use Rattle.irig_port.specs.declared.told.Told.{Told}
 use Rattle.irig_port.specs.declared.told.Told.TheVariants as tells
-use Rattle.irig_timekeeper.specs.declared.lines.KeptFrame.{KeptFrame}
-use Rattle.irig_timekeeper.specs.declared.lines.Lines.{Lines}
-use Rattle.irig_timekeeper.specs.declared.setup.ClockRules.{ClockRules}
+use Rattle.irig_lines.specs.declared.lines.KeptFrame.{KeptFrame}
+use Rattle.irig_lines.specs.declared.lines.Lines.{Lines}
+use Rattle.irig_lines.specs.declared.setup.ClockRules.{ClockRules}
 use Rattle.irig_timekeeper.specs.declared.stamp.Announced.{Announced}
 use Rattle.irig_timekeeper.specs.declared.clock.ClockState.{ClockState}
 use Rattle.irig_timekeeper.specs.States.{state_of}
-use Rattle.irig_timekeeper.specs.Steps.{line_at}
+use Rattle.irig_lines.specs.Steps.{line_at}
 use Rattle.c_numbers.specs.Reports.{told_in}
 use Rattle.c_keeper.specs.declared.said.IrigLineSaid.{IrigLineSaid}
-use Rattle.c_keeper.specs.States.{number_of}
+use Rattle.c_lines.specs.States.{number_of}
 
 -- the second that a claim is of
 abbrev pub second_told : Told → Option UtcSecond

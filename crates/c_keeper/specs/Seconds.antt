@@ -17,6 +17,7 @@ pub record IsToldOf (s : IrigSecond) (beat : Beat) : Type 0 where
   pub bound_us : s.bound_us ≡ beat.bound_us
   pub missed : s.missed ≡ beat.missed
   pub moved : s.moved ≡ beat.moved
+  pub against_table : s.against_table ≡ (if beat.against_table then 1 else 0)
   pub report : report_in s.report ≡ beat.report
 
 -- nothing is told
@@ -43,6 +44,7 @@ nothing_reported = record {
 abbrev pub nothing_told : IrigSecond
 nothing_told = record {
   is_told = 0;
+  against_table = 0;
   edge_us = 0;
   bound_us = 0;
   missed = 0;

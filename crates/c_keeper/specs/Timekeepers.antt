@@ -1,52 +1,32 @@
 -- What it is for the numbers that C holds to be those of a timekeeper.
-use Rattle.std.specs.Prelude.{◌≡◌, ◌⊎◌, ℕ, ℤ, unsigned_abs, ◌<◌, ◌≤◌, ◌+◌, ◌*◌, ◌==◌, if◌then◌else◌, Bool, false, List, count_by, Option, Some, None, IfSome}
+use Rattle.std.specs.Prelude.{◌≡◌, ◌⊎◌, ℕ, ℤ, unsigned_abs, ◌<◌, ◌≤◌, ◌*◌, ◌==◌, not, if◌then◌else◌, Bool, false, List, count_by, Option, Some, None}
 use Rattle.std.specs.List.{range_with_len}
-use Rattle.std.specs.Option.{ForSome}
-use Rattle.irig_timekeeper.specs.declared.delay.Delays.{Delays}
+use Rattle.irig_lines.specs.declared.delay.Delays.{Delays}
 use Rattle.irig_sync.specs.Lines.{Pulse}
 use Rattle.irig_time.specs.declared.claim.Claim.{Claim}
-use Rattle.irig_time.specs.Seconds.{IsValid}
 use Rattle.irig_vote.specs.Vote.{f_of, ports_in}
 use Rattle.irig_timekeeper.specs.declared.clock.Beat.{Beat}
-use Rattle.irig_timekeeper.specs.declared.setup.ClockRules.{ClockRules}
+use Rattle.irig_lines.specs.declared.setup.ClockRules.{ClockRules}
 use Rattle.irig_timekeeper.specs.declared.clock.ClockState.{ClockState}
-use Rattle.irig_timekeeper.specs.declared.interval.Interval.{Interval}
-use Rattle.irig_timekeeper.specs.declared.stamp.Announced.{Announced}
+use Rattle.irig_lines.specs.declared.interval.Interval.{Interval}
 use Rattle.irig_timekeeper.specs.declared.stamp.Stamp.{Stamp}
 use Rattle.irig_timekeeper.specs.Clock.{clock_after, clock_answer, clock_vote, clock_wait}
 use Rattle.irig_timekeeper.specs.Keeping.{Keeping}
-use Rattle.irig_timekeeper.specs.Refusals.{clock_fault, within_of}
-use Rattle.irig_timekeeper.specs.Exactness.{most_within_us, most_drift_us, most_vote_us, most_held_us}
+use Rattle.irig_lines.specs.Refusals.{clock_fault, within_of}
+use Rattle.irig_lines.specs.Exactness.{most_within_us, most_drift_us, most_vote_us, most_held_us}
 use Rattle.irig_timekeeper.specs.Stamps.{stamp_of}
-use Rattle.irig_timekeeper.specs.Lines.{IfKept, IsInTurnOf}
-use Rattle.irig_timekeeper.specs.Steps.{claim_kept, line_at}
+use Rattle.irig_lines.specs.Lines.{IfKept, IsInTurnOf}
+use Rattle.irig_lines.specs.Steps.{claim_kept, line_at}
 use Rattle.c_numbers.specs.Setups.{rules_in, limits_in, reader_rules_in, redundancy_in, IsSetup}
 use Rattle.c_numbers.specs.LeapTables.{table_in}
 use Rattle.c_numbers.specs.States.{state_in, IsState}
-use Rattle.c_keeper.specs.declared.announced.IrigAnnounced.{IrigAnnounced}
 use Rattle.c_keeper.specs.declared.timekeeper.IrigTimekeeper.{IrigTimekeeper}
 use Rattle.c_keeper.specs.declared.timekeeper.IrigDelays.{IrigDelays}
 use Rattle.c_keeper.specs.declared.timekeeper.IrigWires.{IrigWires}
-use Rattle.c_keeper.specs.Lines.{lines_in, unread_lines, HaveHeard, KeepNoMore}
+use Rattle.c_lines.specs.Lines.{lines_in, unread_lines, HaveHeard, KeepNoMore}
+use Rattle.c_keeper.specs.Anchors.{anchors_in}
 use Rattle.c_keeper.specs.CheckWord.{IsSealed}
-
--- the second that was announced, if there is one
-abbrev pub announced_in : IrigAnnounced → Option Announced
-announced_in a =
-    if a.is_told == 0 then None
-    else Some (record {
-      second = record { day = a.day; sod = a.sod };
-      edge_us = a.edge_us;
-      bound_us = a.bound_us;
-    })
-
--- if there is one, it is of UTC
-abbrev pub IsAnnounced : IrigAnnounced → Type 0
-IsAnnounced a = IfSome (announced_in a) (λ announced. IsValid announced.second)
-
--- if there is one, its bound is no greater than that of a held one may be
-abbrev pub IsSmall : IrigAnnounced → Type 0
-IsSmall a = ForSome (announced_in a) (λ announced. announced.bound_us ≤ most_vote_us + most_held_us)
+use Rattle.c_lines.specs.Announced.{announced_in, IsAnnounced, IsSmall}
 
 -- how late its lines are
 abbrev pub delays_in : IrigDelays → Delays
@@ -60,6 +40,7 @@ clock_in t = record {
   within = within_of t.wires.within_us;
   drift_us = t.wires.drift_us;
   delays = delays_in t.wires.delays;
+  prefers_frames = not (t.wires.prefers_frames == 0);
 }
 
 -- its last edge, if there was one
@@ -80,6 +61,7 @@ clock_state_in t = record {
   edge_us = edge_in t;
   bound_us = t.bound_us;
   interval = interval_in t;
+  anchors = anchors_in t.anchors;
   strays = t.strays;
   doubt = t.doubt;
   moved = t.moved;

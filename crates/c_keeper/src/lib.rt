@@ -5,25 +5,28 @@
 //! numbers of a value. There is no memory to ask for.
 #![tactic(auto)]
 
-mod announced;
+mod anchors;
 mod check_word;
 mod laws;
-mod line;
+mod pulse;
+mod quiet;
+mod rate;
 mod said;
 mod second;
 mod stamp;
 mod states;
 mod timekeeper;
 
-pub use announced::IrigAnnounced;
+pub use anchors::{IrigAnchor, IrigAnchors};
 pub use check_word::{check_of, set_line};
 pub use laws::another_number_is_told;
-pub use line::{IrigLine, IrigLines, hear, line_at};
+pub use pulse::hear;
+pub use quiet::is_quiet;
+pub use rate::{IrigRate, rate_at, rate_for_c};
 pub use said::{IrigLineSaid, said_of};
-pub use second::{IrigSecond, second_of};
+pub use second::{IrigSecond, nothing_told, second_of};
 pub use stamp::{IrigStamp, stamp_for_c};
-pub use states::{IrigMasks, number_of};
 pub use timekeeper::{
-    IrigDelays, IrigTimekeeper, IrigWires, are_wires, clock_rules_of, clock_state_of, delay_of,
-    forget, is_accepted, keep, restart, stamp_at, unread_state_of,
+    IrigDelays, IrigTimekeeper, IrigWires, are_wires, clock_rules_of, delay_of, forget,
+    is_accepted, keep, restart, stamp_at, unread_state_of,
 };

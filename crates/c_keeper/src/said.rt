@@ -1,15 +1,17 @@
 //! What is said of a line, in numbers.
 
-ghost use Rattle.std.specs.Prelude.{◌≡◌, ◌≤◌};
-ghost use Rattle.irig_timekeeper.specs.Clock.{AreSmall};
-ghost use Rattle.irig_timekeeper.specs.Exactness.{most_drift_us};
+ghost use Rattle.std.specs.Prelude.{◌≡◌};
 ghost use Rattle.c_keeper.specs.Said.{edge_for, end_beside, first_end, off_by, off_from, said_by, said_of, second_claimed};
+ghost use Rattle.c_keeper.specs.Timekeepers.{clock_in, clock_state_in, IsAccepted};
 
-use crate::states::number_of;
+use crate::states::state_at;
+use crate::timekeeper::{IrigTimekeeper, clock_rules_of, seen_at};
+use c_lines::{announced_of, number_of};
 use c_numbers::{IrigTold, told_for_c};
+use irig_lines::KeptFrame;
 use irig_port::Told;
 use irig_time::UtcSecond;
-use irig_timekeeper::{Announced, ClockRules, ClockState, KeptFrame, Lines, line_at, state_of};
+use irig_timekeeper::Announced;
 
 /// What is said of a line.
 #[repr(C)]
@@ -51,13 +53,14 @@ fn edge_for(second: UtcSecond, told: Option<Announced>) -> Option<u32>
 }
 
 // Where another line's frame of this second ends.
-fn end_beside(lines: &Lines, port: u8, other: u8, second: UtcSecond) -> Option<u32>
-    ensures { result ≡ end_beside lines.now port other second }
+fn end_beside(timekeeper: &IrigTimekeeper, port: u8, other: u8, second: UtcSecond) -> Option<u32>
+    ensures { result
+        ≡ end_beside (clock_state_in timekeeper.now).lines port other second }
 {
     if other == port {
         return None;
     }
-    let seen = line_at(*lines, other).seen;
+    let seen = seen_at(timekeeper, other);
     match (seen, second_claimed(seen)) {
         (Some(kept), Some(claimed)) if claimed == second => Some(kept.end_us),
         _ => None,
@@ -65,14 +68,14 @@ fn end_beside(lines: &Lines, port: u8, other: u8, second: UtcSecond) -> Option<u
 }
 
 // Where the first other line's frame of this second ends.
-fn first_end(lines: &Lines, port: u8, second: UtcSecond) -> Option<u32>
-    ensures { result ≡ first_end lines.now port second }
+fn first_end(timekeeper: &IrigTimekeeper, port: u8, second: UtcSecond) -> Option<u32>
+    ensures { result ≡ first_end (clock_state_in timekeeper.now).lines port second }
 {
-    end_beside(lines, port, 0, second)
-        .or(end_beside(lines, port, 1, second))
-        .or(end_beside(lines, port, 2, second))
-        .or(end_beside(lines, port, 3, second))
-        .or(end_beside(lines, port, 4, second))
+    end_beside(timekeeper, port, 0, second)
+        .or(end_beside(timekeeper, port, 1, second))
+        .or(end_beside(timekeeper, port, 2, second))
+        .or(end_beside(timekeeper, port, 3, second))
+        .or(end_beside(timekeeper, port, 4, second))
 }
 
 // How far an end lies behind a time, if that is known and less than two seconds off.
@@ -94,19 +97,25 @@ fn off_from(time_us: Option<u32>, end_us: u32) -> i32
 }
 
 // By the told edge of its second, or while none is told by another line's end.
-fn off_by(state: &ClockState, port: u8, second: UtcSecond, end_us: u32) -> i32
-    ensures { result ≡ off_by state.now port second end_us }
+fn off_by(timekeeper: &IrigTimekeeper, port: u8, second: UtcSecond, end_us: u32) -> i32
+    ensures { result ≡ off_by (clock_state_in timekeeper.now) port second end_us }
 {
-    let told = edge_for(second, state.ended).or(edge_for(second, state.ended_before));
-    if told.is_some() || state.ended.is_some() {
+    let ended = announced_of(&timekeeper.ended);
+    let told = edge_for(second, ended).or(edge_for(second, announced_of(&timekeeper.ended_before)));
+    if told.is_some() || ended.is_some() {
         off_from(told, end_us)
     } else {
-        off_from(first_end(&state.lines, port, second), end_us)
+        off_from(first_end(timekeeper, port, second), end_us)
     }
 }
 
-fn said_by(state: &ClockState, port: u8, number: u8, frame: Option<KeptFrame>) -> IrigLineSaid
-    ensures { result ≡ said_by state.now port number frame }
+fn said_by(
+    timekeeper: &IrigTimekeeper,
+    port: u8,
+    number: u8,
+    frame: Option<KeptFrame>,
+) -> IrigLineSaid
+    ensures { result ≡ said_by (clock_state_in timekeeper.now) port number frame }
 {
     let Some(kept) = frame else {
         return IrigLineSaid {
@@ -117,7 +126,7 @@ fn said_by(state: &ClockState, port: u8, number: u8, frame: Option<KeptFrame>) -
         };
     };
     let off_us = match second_claimed(frame) {
-        Some(second) => off_by(state, port, second, kept.end_us),
+        Some(second) => off_by(timekeeper, port, second, kept.end_us),
         None => 0,
     };
     IrigLineSaid {
@@ -129,11 +138,10 @@ fn said_by(state: &ClockState, port: u8, number: u8, frame: Option<KeptFrame>) -
 }
 
 /// What is said of the line of a port, as of the last tick.
-pub fn said_of(rules: &ClockRules, state: &ClockState, port: u8) -> IrigLineSaid
-    requires steady { rules.now.drift_us ≤ most_drift_us }
-    requires small { AreSmall state.now }
-    ensures { result ≡ said_of rules.now state.now port }
+pub fn said_of(timekeeper: &IrigTimekeeper, port: u8) -> IrigLineSaid
+    requires { IsAccepted timekeeper.now }
+    ensures { result ≡ said_of (clock_in timekeeper.now) (clock_state_in timekeeper.now) port }
 {
-    let number = number_of(state_of(rules, state, port));
-    said_by(state, port, number, line_at(state.lines, port).seen)
+    let number = number_of(state_at(timekeeper, &clock_rules_of(timekeeper), port));
+    said_by(timekeeper, port, number, seen_at(timekeeper, port))
 }

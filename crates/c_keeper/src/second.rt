@@ -1,24 +1,26 @@
 //! What a timekeeper says at a tick, in numbers.
 
-ghost use Rattle.std.specs.Prelude.{◌≡◌, ◌≤◌, ◌==◌, if◌then◌else◌, Some};
+ghost use Rattle.std.specs.Prelude.{◌≡◌, ◌≤◌, ◌==◌, if◌then◌else◌, Some, None};
 ghost use Rattle.c_numbers.specs.Numbers.{sense_in};
 ghost use Rattle.c_numbers.specs.Reports.{report_in, voices_in};
-ghost use Rattle.c_numbers.specs.Setups.{limits_in, redundancy_in, rules_in};
+ghost use Rattle.c_numbers.specs.Setups.{redundancy_in};
 ghost use Rattle.c_numbers.specs.Voices.{voices_to};
-ghost use Rattle.c_keeper.specs.Lines.{frames_in, lines_in};
-ghost use Rattle.irig_timekeeper.specs.Clock.{AreSmall};
-ghost use Rattle.irig_timekeeper.specs.Exactness.{most_drift_us};
+ghost use Rattle.c_lines.specs.Lines.{frames_in};
+ghost use Rattle.irig_lines.specs.Exactness.{most_drift_us};
 ghost use Rattle.c_keeper.specs.Seconds.{against_at, IsSecondOf, IsToldOf};
 ghost use Rattle.c_keeper.specs.States.{masks_of};
+ghost use Rattle.c_lines.specs.Announced.{IsSmall};
+ghost use Rattle.c_keeper.specs.Timekeepers.{clock_state_in};
 
-use crate::line::frames_of;
-use crate::states::{IrigMasks, NO_LINES, masks_of};
-use crate::timekeeper::{IrigTimekeeper, read_lines};
+use crate::states::masks_of;
+use crate::timekeeper::IrigTimekeeper;
+use c_lines::{IrigMasks, NO_LINES, frames_of};
 use c_numbers::{
     IrigReport, Voices, against_hold, redundancy_of, report_for_c, sense_of, voices_of,
 };
+use irig_lines::ClockRules;
 use irig_time::UtcSecond;
-use irig_timekeeper::{Beat, ClockRules, ClockState, Ticked};
+use irig_timekeeper::{Beat, Ticked};
 use irig_vote::Redundancy;
 
 /// What a timekeeper says at a tick.
@@ -28,6 +30,8 @@ pub struct IrigSecond {
     /// 1 if a second was counted, of which the rest is; 0 if there is nothing to tell, with zeros
     /// behind it.
     pub is_told: u8,
+    /// 1 if the lines that have the vote contradict the leap table at the end of its day, else 0.
+    pub against_table: u8,
     /// Where the second begins.
     pub edge_us: u32,
     /// How far from its true edge that may lie, if it is announced.
@@ -66,6 +70,7 @@ const NOTHING_REPORTED: IrigReport = IrigReport {
 
 const NOTHING_TOLD: IrigSecond = IrigSecond {
     is_told: 0,
+    against_table: 0,
     edge_us: 0,
     bound_us: 0,
     missed: 0,
@@ -76,24 +81,30 @@ const NOTHING_TOLD: IrigSecond = IrigSecond {
     report: NOTHING_REPORTED,
 };
 
+/// What a tick says that has nothing to tell.
+pub fn nothing_told() -> IrigSecond
+    ensures { IsSecondOf result None }
+{
+    NOTHING_TOLD
+}
+
 /// What a tick answers, as C is given it, with what lines told by the frames that they kept, which of
-/// them were against what was held, and where the clock then stands, its lines read or not.
+/// them were against what was held, and what each line then is. The timekeeper is as the tick leaves
+/// it.
 pub fn second_of(
     timekeeper: &IrigTimekeeper,
     ticked: &Ticked,
     held: Option<UtcSecond>,
     rules: &ClockRules,
-    state: &mut ClockState,
 ) -> IrigSecond
     requires steady { rules.now.drift_us ≤ most_drift_us }
-    requires small { AreSmall state.old }
-    ensures strays { result.strays ≡ (if result.is_told == 0 then 0 else state.old.strays) }
-    ensures doubt { result.doubt ≡ (if result.is_told == 0 then 0 else state.old.doubt) }
+    requires ended { IsSmall timekeeper.now.ended }
+    requires ended_before { IsSmall timekeeper.now.ended_before }
+    ensures strays { result.strays
+        ≡ (if result.is_told == 0 then 0 else timekeeper.now.strays) }
+    ensures doubt { result.doubt ≡ (if result.is_told == 0 then 0 else timekeeper.now.doubt) }
     ensures lines { (beat : Beat) → ticked.now.beat ≡ Some beat
-        → result.lines ≡ masks_of rules.now (record state.old {
-          lines = lines_in (limits_in timekeeper.now.setup) (rules_in timekeeper.now.setup)
-              timekeeper.now.lines;
-        }) }
+        → result.lines ≡ masks_of rules.now (clock_state_in timekeeper.now) }
     ensures told { IsSecondOf result ticked.now.beat }
     ensures against { (beat : Beat) → ticked.now.beat ≡ Some beat → result.report.against_hold
         ≡ against_at held beat (redundancy_in timekeeper.now.setup) }
@@ -101,7 +112,7 @@ pub fn second_of(
         ≡ voices_to ticked.now.vote beat.told (redundancy_in timekeeper.now.setup)
         (sense_in timekeeper.now.setup.sense) (frames_in timekeeper.now.lines) }
 {
-    let Some(beat) = ticked.beat else {
+    let Some(beat) = &ticked.beat else {
         return NOTHING_TOLD;
     };
     let voices = voices_of(
@@ -111,9 +122,14 @@ pub fn second_of(
         sense_of(timekeeper.setup.sense),
         &frames_of(&timekeeper.lines),
     );
-    let against = against_at(held, &beat, redundancy_of(&timekeeper.setup));
-    state.lines = read_lines(timekeeper);
-    second_for_c(&beat, &voices, against, masks_of(rules, state), state)
+    let against = against_at(held, beat, redundancy_of(&timekeeper.setup));
+    second_for_c(
+        beat,
+        &voices,
+        against,
+        masks_of(timekeeper, rules),
+        timekeeper,
+    )
 }
 
 // Behind seconds that were missed nothing is said of what was held before them.
@@ -132,10 +148,10 @@ fn second_for_c(
     voices: &Voices,
     against: u8,
     lines: IrigMasks,
-    state: &ClockState,
+    timekeeper: &IrigTimekeeper,
 ) -> IrigSecond
-    ensures strays { result.strays ≡ state.now.strays }
-    ensures doubt { result.doubt ≡ state.now.doubt }
+    ensures strays { result.strays ≡ timekeeper.now.strays }
+    ensures doubt { result.doubt ≡ timekeeper.now.doubt }
     ensures lines { result.lines ≡ lines }
     ensures is_told { result.is_told ≡ 1 }
     ensures told { IsToldOf result beat.now }
@@ -144,12 +160,13 @@ fn second_for_c(
 {
     IrigSecond {
         is_told: 1,
+        against_table: u8::from(beat.against_table),
         edge_us: beat.edge_us,
         bound_us: beat.bound_us,
         missed: beat.missed,
         moved: beat.moved,
-        strays: state.strays,
-        doubt: state.doubt,
+        strays: timekeeper.strays,
+        doubt: timekeeper.doubt,
         lines,
         report: report_for_c(&beat.report, voices, against),
     }

@@ -9,35 +9,34 @@ ghost use Rattle.irig_reader.specs.Rule.{count_of};
 ghost use Rattle.irig_timekeeper.specs.Clock.{AnnouncedOfUtc, AreSmall};
 ghost use Rattle.irig_timekeeper.specs.Keeping.{Heard, new_state, nothing_heard};
 ghost use Rattle.irig_timekeeper.specs.Stamps.{stamp_of};
-ghost use Rattle.irig_timekeeper.specs.declared.lines.Lines.{Lines};
-ghost use Rattle.irig_timekeeper.specs.Steps.{AreKeptOfUtc, AreNewLines};
+ghost use Rattle.irig_lines.specs.declared.lines.Lines.{Lines};
+ghost use Rattle.irig_lines.specs.Steps.{line_at, AreKeptOfUtc, AreNewLines};
 ghost use Rattle.c_numbers.specs.CheckWord.{setup_numbers, table_numbers, weighted};
 ghost use Rattle.c_numbers.specs.Setups.{rules_in, limits_in, reader_rules_in, redundancy_in, IsSetup};
 ghost use Rattle.c_numbers.specs.States.{state_in, IsState};
-ghost use Rattle.c_keeper.specs.Lines.{frames_in, lines_in, unread_lines, AreKeptFrom, HaveHeard, KeepNoMore};
+ghost use Rattle.c_lines.specs.Lines.{frames_in, lines_in, unread_lines, AreKeptFrom, HaveHeard, KeepNoMore};
 ghost use Rattle.c_numbers.specs.declared.state.TheConstants.{IDLE};
 ghost use Rattle.c_keeper.specs.CheckWord.{IsSealed};
-ghost use Rattle.irig_timekeeper.specs.Delays.{delay_at};
-ghost use Rattle.irig_timekeeper.specs.Exactness.{most_drift_us, most_vote_us};
-ghost use Rattle.irig_timekeeper.specs.Intervals.{IsShort};
-ghost use Rattle.irig_timekeeper.specs.Refusals.{clock_fault};
-ghost use Rattle.c_keeper.specs.Timekeepers.{announced_in, clock_in, clock_state_in, delays_in, edge_in, interval_in, unread, AreDelays, AreWires, HasShortInterval, IsAccepted, IsAnnounced, IsDelay, IsSmall};
+ghost use Rattle.irig_lines.specs.Delays.{delay_at};
+ghost use Rattle.irig_lines.specs.Exactness.{most_drift_us, most_vote_us};
+ghost use Rattle.irig_lines.specs.Intervals.{IsShort};
+ghost use Rattle.irig_lines.specs.Refusals.{clock_fault};
+ghost use Rattle.c_lines.specs.Announced.{announced_in, IsAnnounced, IsSmall};
+ghost use Rattle.c_keeper.specs.Timekeepers.{clock_in, clock_state_in, delays_in, edge_in, interval_in, unread, AreDelays, AreWires, HasShortInterval, IsAccepted, IsDelay};
 
-use crate::announced::{
-    IrigAnnounced, NOTHING_ANNOUNCED, announced_for_c, announced_of, is_announced,
-};
+use crate::anchors::{IrigAnchors, NOTHING_MEASURED, anchors_for_c, anchors_of};
 use crate::check_word::{changing_sum, check_of};
-use crate::line::{
-    IrigLines, keep_lines, keep_no_more, lines_of, lines_of_nothing, unread_lines_of,
+use c_lines::{
+    IrigAnnounced, IrigLines, NOTHING_ANNOUNCED, announced_for_c, announced_of, is_announced,
+    is_small, keep_lines, keep_no_more, line_at, lines_of_nothing, seen_of, unread_lines_of,
 };
 use c_numbers::{
     IDLE, IrigSetup, IrigState, IrigTable, is_setup, limits_of, reader_rules_of, redundancy_of,
     rules_of, state_for_c, state_of,
 };
+use irig_lines::{ClockRules, Delays, Interval, KeptFrame, clock_fault, nearest_within};
 use irig_reader::State;
-use irig_timekeeper::{
-    ClockRules, ClockState, Delays, Interval, Lines, Stamp, clock_fault, nearest_within, stamp_of,
-};
+use irig_timekeeper::{ClockState, Stamp, stamp_of};
 
 /// How exact a timekeeper's lines and its counter are.
 #[repr(C)]
@@ -49,6 +48,9 @@ pub struct IrigWires {
     pub drift_us: u16,
     /// How late each line is, in microseconds, -4,000 to 4,000: what is taken off.
     pub delays: IrigDelays,
+    /// 0 if a vote that contradicts the leap table is held back at a month's end; any other, if it is
+    /// followed.
+    pub prefers_frames: u8,
 }
 
 /// How late five lines are, one behind another.
@@ -82,6 +84,8 @@ pub struct IrigTimekeeper {
     pub moved: u32,
     /// 0 if no second was counted yet; any other, if one was.
     pub has_edge: u8,
+    /// 0 if there is no interval in which the true edge lies by all votes; any other, if there is.
+    pub has_interval: u8,
     /// How far from its true edge that of the last vote may lie, at most 899 us.
     pub bound_us: u16,
     /// The last second that was counted, if it was announced.
@@ -92,7 +96,7 @@ pub struct IrigTimekeeper {
     pub ended: IrigAnnounced,
     /// The one that ended at the edge before, if that was told.
     pub ended_before: IrigAnnounced,
-    /// Where the interval begins in which the true edge lies by all votes.
+    /// Where that interval begins, if there is one.
     pub begin_us: u32,
     /// How long that is, at most 980,000 us.
     pub long_us: u32,
@@ -101,8 +105,8 @@ pub struct IrigTimekeeper {
     /// How many seconds have to be voted yet, behind the last of these, before one is announced
     /// again without a vote.
     pub doubt: u32,
-    /// 0 if there is no such interval; any other, if there is.
-    pub has_interval: u8,
+    /// From which the length of a second is measured.
+    pub anchors: IrigAnchors,
     /// What all other numbers add up to, each times a weight of its own: it tells if one of them is
     /// changed by anything but the calls of the library.
     pub check: u64,
@@ -118,6 +122,7 @@ pub fn clock_rules_of(timekeeper: &IrigTimekeeper) -> ClockRules
         within: nearest_within(u32::from(timekeeper.wires.within_us)),
         drift_us: u32::from(timekeeper.wires.drift_us),
         delays: delays_of(&timekeeper.wires.delays),
+        prefers_frames: timekeeper.wires.prefers_frames != 0,
     }
 }
 
@@ -174,12 +179,6 @@ fn are_delays(delays: &IrigDelays) -> bool
         && is_delay(delays.e)
 }
 
-fn is_small(announced: &IrigAnnounced) -> bool
-    ensures { IsTrue result ↔ IsSmall announced.now }
-{
-    announced.is_told == 0 || announced.bound_us <= 490_899
-}
-
 /// Whether lines may be so exact and so late, and a counter so wrong.
 pub fn are_wires(wires: &IrigWires) -> bool
     ensures { IsTrue result ↔ AreWires wires.now }
@@ -231,17 +230,8 @@ pub fn is_accepted(fixed: u64, timekeeper: &IrigTimekeeper) -> bool
         && state_of(&timekeeper.state, timekeeper.setup.lock_after).is_some()
 }
 
-/// Where the clock of a timekeeper stands whose calls accept its numbers.
-pub fn clock_state_of(timekeeper: &IrigTimekeeper) -> ClockState
-    requires { IsAccepted timekeeper.now }
-    ensures is { result ≡ clock_state_in timekeeper.now }
-    ensures ended { AreSmall result }
-{
-    state_with(timekeeper, read_lines(timekeeper))
-}
-
-/// The same, but for what frames tell that have no vote, which is not read: neither a vote nor how long
-/// to wait asks for it.
+/// Where the clock of a timekeeper stands whose calls accept its numbers, but for what frames tell that
+/// have no vote, which is not read: neither a vote nor how long to wait asks for it.
 pub fn unread_state_of(timekeeper: &IrigTimekeeper) -> ClockState
     requires { IsAccepted timekeeper.now }
     ensures is { result ≡ unread (clock_state_in timekeeper.now) }
@@ -252,38 +242,17 @@ pub fn unread_state_of(timekeeper: &IrigTimekeeper) -> ClockState
     ensures valid { AreKeptOfUtc result.lines }
     ensures announced { AnnouncedOfUtc result }
 {
-    let limits = limits_of(&timekeeper.setup);
-    let lines = unread_lines_of(limits, &rules_of(&timekeeper.setup), &timekeeper.lines);
-    state_with(timekeeper, lines)
-}
-
-/// Where its lines stand.
-pub fn read_lines(timekeeper: &IrigTimekeeper) -> Lines
-    ensures { result ≡ lines_in (limits_in timekeeper.now.setup) (rules_in timekeeper.now.setup)
-        timekeeper.now.lines }
-{
-    lines_of(
-        limits_of(&timekeeper.setup),
-        &rules_of(&timekeeper.setup),
-        &timekeeper.lines,
-    )
-}
-
-fn state_with(timekeeper: &IrigTimekeeper, lines: Lines) -> ClockState
-    requires { IsAccepted timekeeper.now }
-    ensures is { result ≡ record (clock_state_in timekeeper.now) { lines = lines } }
-    ensures counting { count_of result.reader < timekeeper.now.setup.lock_after }
-    ensures small { result.bound_us ≤ most_vote_us }
-    ensures known { IsShort result.interval }
-    ensures ended { AreSmall result }
-    ensures announced { AnnouncedOfUtc result }
-{
     ClockState {
-        lines,
+        lines: unread_lines_of(
+            limits_of(&timekeeper.setup),
+            &rules_of(&timekeeper.setup),
+            &timekeeper.lines,
+        ),
         reader: reader_of(timekeeper),
         edge_us: edge_of(timekeeper),
         bound_us: u32::from(timekeeper.bound_us),
         interval: interval_of(timekeeper),
+        anchors: anchors_of(&timekeeper.anchors),
         strays: timekeeper.strays,
         doubt: timekeeper.doubt,
         moved: timekeeper.moved,
@@ -292,6 +261,17 @@ fn state_with(timekeeper: &IrigTimekeeper, lines: Lines) -> ClockState
         ended: announced_of(&timekeeper.ended),
         ended_before: announced_of(&timekeeper.ended_before),
     }
+}
+
+/// The last whole frame of the line of a port, if that is not gone.
+pub(crate) fn seen_at(timekeeper: &IrigTimekeeper, port: u8) -> Option<KeptFrame>
+    ensures { result ≡ (line_at (clock_state_in timekeeper.now).lines port).seen }
+{
+    seen_of(
+        limits_of(&timekeeper.setup),
+        &rules_of(&timekeeper.setup),
+        line_at(&timekeeper.lines, port),
+    )
 }
 
 fn reader_of(timekeeper: &IrigTimekeeper) -> State
@@ -312,7 +292,7 @@ fn is_short(timekeeper: &IrigTimekeeper) -> bool
     timekeeper.has_interval == 0 || timekeeper.long_us <= 980_000
 }
 
-fn interval_of(timekeeper: &IrigTimekeeper) -> Option<Interval>
+pub(crate) fn interval_of(timekeeper: &IrigTimekeeper) -> Option<Interval>
     ensures { result ≡ interval_in timekeeper.now }
 {
     if timekeeper.has_interval == 0 {
@@ -347,7 +327,7 @@ fn set_interval(timekeeper: &mut IrigTimekeeper, interval: Option<Interval>)
     }
 }
 
-fn edge_of(timekeeper: &IrigTimekeeper) -> Option<u32>
+pub(crate) fn edge_of(timekeeper: &IrigTimekeeper) -> Option<u32>
     ensures { result ≡ edge_in timekeeper.now }
 {
     if timekeeper.has_edge == 0 {
@@ -413,6 +393,7 @@ pub fn keep(timekeeper: &mut IrigTimekeeper, state: &ClockState)
     set_edge(timekeeper, state.edge_us);
     timekeeper.bound_us = state.bound_us as u16;
     set_interval(timekeeper, state.interval);
+    timekeeper.anchors = anchors_for_c(&state.anchors);
     timekeeper.strays = state.strays;
     timekeeper.doubt = state.doubt;
     timekeeper.moved = state.moved;
@@ -448,6 +429,7 @@ pub fn forget(timekeeper: &mut IrigTimekeeper)
     set_edge(timekeeper, None);
     timekeeper.bound_us = 0;
     set_interval(timekeeper, None);
+    timekeeper.anchors = NOTHING_MEASURED;
     timekeeper.strays = 0;
     timekeeper.doubt = 0;
     timekeeper.moved = 0;

@@ -1,26 +1,61 @@
 -- What the numbers of a reader add up to, by 64 bits.
-use Rattle.std.proofs.Common.{◌≡◌, ℕ, ◌+◌, ◌*◌, ◌%◌, ◌-◌, List, [], ◌∷◌, ◌++◌, length, refl, sym, ap, ◌∙◌, arith, length-append}
+use Rattle.std.proofs.Common.{◌≡◌, ◌<◌, ℕ, ◌+◌, ◌*◌, ◌%◌, ◌-◌, List, [], ◌∷◌, ◌++◌, length, refl, sym, ap, subst, ◌∙◌, arith, length-append}
 use Rattle.std.proofs.lemmas.Nat.{mul-mod_second}
-use Rattle.irig_port.specs.declared.tally.Tally.{Tally}
 use Rattle.c_numbers.specs.declared.table.IrigLeap.{IrigLeap}
 use Rattle.c_numbers.specs.declared.reader.IrigReader.{IrigReader}
-use Rattle.c_numbers.specs.CheckWord.{leap_numbers, numbers_of, plain_of, port_numbers, setup_numbers, slope_of, state_numbers, table_numbers, tally_numbers, weighted}
+use Rattle.c_numbers.specs.declared.sums.Sums.{Sums}
+use Rattle.c_numbers.specs.CheckWord.{leap_numbers, numbers_of, port_numbers, setup_numbers, state_numbers, table_numbers, total, weighted, AreSumsOf}
 
--- ---- one port, by one product
+-- ---- numbers by their sum and their places
 
-spread : (w : ℕ) (t : Tally) → w * plain_of t + slope_of t ≡ weighted w (tally_numbers t)
-spread w t = grind arith
+-- a first weight that is w greater makes the sum of the numbers, w times, more
+more_weight : (w v : ℕ) (ns : List ℕ) → w * total ns + weighted v ns ≡ weighted (w + v) ns
+more_weight w v [] = omega arith
+more_weight w v (n ∷ ns) =
+    let rest : w * total ns + weighted (v + 2) ns ≡ weighted (w + v + 2) ns = more_weight w (v + 2) ns ∙ ap (λ (x : ℕ). weighted x ns) (same w v) in
+    step w v n (total ns) (weighted (v + 2) ns) (weighted (w + v + 2) ns) rest
+  where
+    same : (w v : ℕ) → w + (v + 2) ≡ w + v + 2
+    same w v = omega arith
 
--- a product of what is left of a number
-of_rest : (w p s : ℕ) → ((w * (p % 18446744073709551616)) % 18446744073709551616 + s % 18446744073709551616) % 18446744073709551616 ≡ (w * p + s) % 18446744073709551616
-of_rest w p s = omega (arith, mul-mod_second w p 18446744073709551616)
+    step : (w v n s a b : ℕ) → w * s + a ≡ b → w * (n + s) + (v * n + a) ≡ (w + v) * n + b
+    step w v n s a b is = grind arith
 
-pub by_one_product : (w : ℕ) (t : Tally)
-    → ((w * (plain_of t % 18446744073709551616)) % 18446744073709551616 + slope_of t % 18446744073709551616) % 18446744073709551616 ≡ weighted w (tally_numbers t) % 18446744073709551616
-by_one_product w t = of_rest w (plain_of t) (slope_of t) ∙ ap (λ (n : ℕ). n % 18446744073709551616) (spread w t)
+spread : (w : ℕ) (ns : List ℕ) → w * total ns + weighted 0 ns ≡ weighted w ns
+spread w ns = more_weight w 0 ns ∙ ap (λ (x : ℕ). weighted x ns) (zero-more w)
+  where
+    zero-more : (w : ℕ) → w + 0 ≡ w
+    zero-more w = omega arith
+
+-- a first number moves the others by one place
+pub first_sums : (s : Sums) (n : ℕ) (ns : List ℕ) → AreSumsOf s ns
+    → AreSumsOf (record { sum = (s.sum + n) % 18446744073709551616; places = (s.places + s.sum) % 18446744073709551616 }) (n ∷ ns)
+first_sums s n ns h = record {
+  sum = plain s.sum (total ns) n h.sum;
+  places = moved s.places s.sum (total ns) (weighted 0 ns) (weighted 2 ns) n h.sum h.places (spread 2 ns);
+}
+  where
+    plain : (s t n : ℕ) → s ≡ t % 18446744073709551616 → (s + n) % 18446744073709551616 ≡ (n + t) % 18446744073709551616
+    plain s t n is = omega (arith, is)
+
+    moved : (p s t w v n : ℕ) → s ≡ t % 18446744073709551616 → (p * 2) % 18446744073709551616 ≡ w % 18446744073709551616 → 2 * t + w ≡ v
+        → (((p + s) % 18446744073709551616) * 2) % 18446744073709551616 ≡ (0 * n + v) % 18446744073709551616
+    moved p s t w v n sum places is = omega (arith, sum, places, is)
+
+pub led : {s : Sums} {n m : ℕ} {ns : List ℕ} → n ≡ m → AreSumsOf s (n ∷ ns) → AreSumsOf s (m ∷ ns)
+led {s} {n} {m} {ns} same h = subst (λ (k : ℕ). AreSumsOf s (k ∷ ns)) same h
+
+-- by one product
+pub by_one_product : (w : ℕ) (s : Sums) (ns : List ℕ) → AreSumsOf s ns
+    → ((w * s.sum) % 18446744073709551616 + (s.places * 2) % 18446744073709551616) % 18446744073709551616 ≡ weighted w ns % 18446744073709551616
+by_one_product w s ns h =
+    rw (h.sum, h.places) (of_rest w (total ns) (weighted 0 ns)) ∙ ap (λ (n : ℕ). n % 18446744073709551616) (spread w ns)
+  where
+    of_rest : (w p s : ℕ) → ((w * (p % 18446744073709551616)) % 18446744073709551616 + s % 18446744073709551616) % 18446744073709551616 ≡ (w * p + s) % 18446744073709551616
+    of_rest w p s = omega (arith, mul-mod_second w p 18446744073709551616)
 
 -- what is added to the one sum to give the other
-pub change_adds : (w p s p2 s2 y z : ℕ) → (p + y) % 18446744073709551616 ≡ p2 % 18446744073709551616 → (s + z) % 18446744073709551616 ≡ s2 % 18446744073709551616
+change_adds : (w p s p2 s2 y z : ℕ) → (p + y) % 18446744073709551616 ≡ p2 % 18446744073709551616 → (s + z) % 18446744073709551616 ≡ s2 % 18446744073709551616
     → (w * p + s + ((w * y) % 18446744073709551616 + z) % 18446744073709551616) % 18446744073709551616 ≡ (w * p2 + s2) % 18446744073709551616
 change_adds w p s p2 s2 y z plain more =
     let product : (w * p + w * y) % 18446744073709551616 ≡ (w * p2) % 18446744073709551616 =
@@ -31,20 +66,25 @@ change_adds w p s p2 s2 y z plain more =
     mul-distrib : (w p y : ℕ) → w * p + w * y ≡ w * (p + y)
     mul-distrib w p y = grind arith
 
--- 64 bits of what is above another number
-pub difference : (a b : ℕ) → (a + (b % 18446744073709551616 + (18446744073709551616 - a % 18446744073709551616)) % 18446744073709551616) % 18446744073709551616 ≡ b % 18446744073709551616
-difference a b = omega arith
+-- by how much other numbers add up to more
+pub change_is : (w : ℕ) (s u : Sums) (ms ns : List ℕ) → s.places < 18446744073709551616 → AreSumsOf s ms → AreSumsOf u ns
+    → (weighted w ms + ((w * ((u.sum + (18446744073709551616 - s.sum)) % 18446744073709551616)) % 18446744073709551616
+    + (((u.places + (18446744073709551616 - s.places)) % 18446744073709551616) * 2) % 18446744073709551616) % 18446744073709551616) % 18446744073709551616
+    ≡ weighted w ns % 18446744073709551616
+change_is w s u ms ns fits was is =
+    let y : ℕ = (u.sum + (18446744073709551616 - s.sum)) % 18446744073709551616 in
+    let z : ℕ = (((u.places + (18446744073709551616 - s.places)) % 18446744073709551616) * 2) % 18446744073709551616 in
+    ap (λ (n : ℕ). (n + ((w * y) % 18446744073709551616 + z) % 18446744073709551616) % 18446744073709551616) (sym (spread w ms))
+    ∙ (change_adds w (total ms) (weighted 0 ms) (total ns) (weighted 0 ns) y z (sums s.sum u.sum (total ms) (total ns) was.sum is.sum) (places s.places u.places (weighted 0 ms) (weighted 0 ns) fits was.places is.places)
+    ∙ ap (λ (n : ℕ). n % 18446744073709551616) (spread w ns))
+  where
+    sums : (a b t q : ℕ) → a ≡ t % 18446744073709551616 → b ≡ q % 18446744073709551616
+        → (t + (b + (18446744073709551616 - a)) % 18446744073709551616) % 18446744073709551616 ≡ q % 18446744073709551616
+    sums a b t q was is = omega (arith, was, is)
 
-pub change_is : (w : ℕ) (t u : Tally)
-    → (weighted w (tally_numbers t) + ((w * ((plain_of u % 18446744073709551616 + (18446744073709551616 - plain_of t % 18446744073709551616)) % 18446744073709551616)) % 18446744073709551616
-    + (slope_of u % 18446744073709551616 + (18446744073709551616 - slope_of t % 18446744073709551616)) % 18446744073709551616) % 18446744073709551616) % 18446744073709551616
-    ≡ weighted w (tally_numbers u) % 18446744073709551616
-change_is w t u =
-    let y : ℕ = (plain_of u % 18446744073709551616 + (18446744073709551616 - plain_of t % 18446744073709551616)) % 18446744073709551616 in
-    let z : ℕ = (slope_of u % 18446744073709551616 + (18446744073709551616 - slope_of t % 18446744073709551616)) % 18446744073709551616 in
-    ap (λ (n : ℕ). (n + ((w * y) % 18446744073709551616 + z) % 18446744073709551616) % 18446744073709551616) (sym (spread w t))
-    ∙ (change_adds w (plain_of t) (slope_of t) (plain_of u) (slope_of u) y z (difference (plain_of t) (plain_of u)) (difference (slope_of t) (slope_of u))
-    ∙ ap (λ (n : ℕ). n % 18446744073709551616) (spread w u))
+    places : (a b t q : ℕ) → a < 18446744073709551616 → (a * 2) % 18446744073709551616 ≡ t % 18446744073709551616 → (b * 2) % 18446744073709551616 ≡ q % 18446744073709551616
+        → (t + (((b + (18446744073709551616 - a)) % 18446744073709551616) * 2) % 18446744073709551616) % 18446744073709551616 ≡ q % 18446744073709551616
+    places a b t q fits was is = omega (arith, fits, was, is)
 
 -- ---- parts
 

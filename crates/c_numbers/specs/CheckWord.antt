@@ -5,6 +5,7 @@ use Rattle.irig_port.specs.declared.tally.Tally.{Tally}
 use Rattle.c_numbers.specs.declared.reader.IrigReader.{IrigReader}
 use Rattle.c_numbers.specs.declared.setup.IrigSetup.{IrigSetup}
 use Rattle.c_numbers.specs.declared.state.IrigState.{IrigState}
+use Rattle.c_numbers.specs.declared.sums.Sums.{Sums}
 use Rattle.c_numbers.specs.declared.table.IrigLeap.{IrigLeap}
 use Rattle.c_numbers.specs.declared.table.IrigTable.{IrigTable}
 use Rattle.c_numbers.specs.Tallies.{tally_at}
@@ -32,14 +33,6 @@ state_numbers s = s.kind ∷ s.count ∷ s.heard ∷ s.day ∷ s.sod ∷ s.age �
 abbrev pub tally_numbers : Tally → List ℕ
 tally_numbers t = t.count ∷ t.wrong.kind ∷ t.wrong.element ∷ t.time ∷ t.control ∷ []
 
--- the same numbers, added up
-abbrev pub plain_of : Tally → ℕ
-plain_of t = t.count + t.wrong.kind + t.wrong.element + t.time + t.control
-
--- what they add, each by its place behind the first
-abbrev pub slope_of : Tally → ℕ
-slope_of t = 2 * t.wrong.kind + 4 * t.wrong.element + 6 * t.time + 8 * t.control
-
 -- the numbers of five ports
 abbrev pub port_numbers : List Tally → List ℕ
 port_numbers ports =
@@ -56,6 +49,16 @@ numbers_of r =
 abbrev pub weighted : ℕ → List ℕ → ℕ
 weighted weight [] = 0
 weighted weight (n ∷ ns) = weight * n + weighted (weight + 2) ns
+
+-- what numbers add up to
+abbrev pub total : List ℕ → ℕ
+total [] = 0
+total (n ∷ ns) = n + total ns
+
+-- two sums of numbers, by 64 bits: as they are, and each times its place, the first one times 0
+pub record AreSumsOf (s : Sums) (ns : List ℕ) : Type 0 where
+  pub sum : s.sum ≡ total ns % 2 ^ 64
+  pub places : (s.places * 2) % 2 ^ 64 ≡ weighted 0 ns % 2 ^ 64
 
 -- the check word that belongs to these numbers
 unfoldable pub check_of : IrigReader → ℕ

@@ -1,11 +1,12 @@
 //! The check word of a reader: what its numbers add up to, each times an odd weight of its own.
 
-ghost use Rattle.std.specs.Prelude.{◌≡◌, ◌+◌, ◌*◌, ◌%◌, ◌^◌, ◌<◌, ◌≤◌, length};
-ghost use Rattle.c_numbers.specs.CheckWord.{check_of, leap_numbers, plain_of, port_numbers, setup_numbers, slope_of, state_numbers, table_numbers, tally_numbers, weighted};
+ghost use Rattle.std.specs.Prelude.{◌≡◌, ◌+◌, ◌*◌, ◌%◌, ◌^◌, ◌<◌, List, ◌∷◌, ◌++◌, ℕ};
+ghost use Rattle.c_numbers.specs.CheckWord.{check_of, leap_numbers, port_numbers, setup_numbers, state_numbers, table_numbers, tally_numbers, weighted, AreSumsOf};
 
 use crate::reader::IrigReader;
 use crate::setup::IrigSetup;
 use crate::state::IrigState;
+use crate::sums::Sums;
 use crate::table::{IrigLeap, IrigTable};
 use irig_port::Tally;
 
@@ -14,117 +15,98 @@ pub fn fixed_sum(setup: &IrigSetup, table: &IrigTable) -> u64
     ensures { result ≡ (weighted 3 (setup_numbers setup.now)
         + weighted 19 (table_numbers table.now)) % 2 ^ 64 }
 {
-    setup_sum(setup).wrapping_add(table_sum(table))
+    with_setup(table_sums(table), setup).weighed(3)
 }
 
-fn setup_sum(setup: &IrigSetup) -> u64
-    ensures value { result ≡ weighted 3 (setup_numbers setup.now) }
-    ensures few { result < 2 ^ 60 }
+fn with_setup(sums: Sums, setup: &IrigSetup) -> Sums
+    ensures { (ns : List ℕ) → AreSumsOf sums ns
+        → AreSumsOf result (setup_numbers setup.now ++ ns) }
 {
-    3 * u64::from(setup.parity)
-        + 5 * u64::from(setup.sense)
-        + 7 * u64::from(setup.sbs)
-        + 9 * u64::from(setup.redundancy)
-        + 11 * u64::from(setup.lock_after)
-        + 13 * u64::from(setup.holdover)
-        + 15 * u64::from(setup.not_before)
-        + 17 * u64::from(setup.poor_from)
+    sums.with_first(u64::from(setup.poor_from))
+        .with_first(u64::from(setup.not_before))
+        .with_first(u64::from(setup.holdover))
+        .with_first(u64::from(setup.lock_after))
+        .with_first(u64::from(setup.redundancy))
+        .with_first(u64::from(setup.sbs))
+        .with_first(u64::from(setup.sense))
+        .with_first(u64::from(setup.parity))
 }
 
-fn table_sum(table: &IrigTable) -> u64
-    ensures { result ≡ weighted 19 (table_numbers table.now) % 2 ^ 64 }
+fn table_sums(table: &IrigTable) -> Sums
+    ensures { AreSumsOf result (table_numbers table.now) }
 {
-    let numbers = 19 * u64::from(table.until) + 21 * u64::from(table.len);
-    numbers.wrapping_add(leaps_sum(&table.leaps))
+    leaps_sums(&table.leaps)
+        .with_first(u64::from(table.len))
+        .with_first(u64::from(table.until))
 }
 
 #[inline(never)]
-fn leaps_sum(leaps: &[IrigLeap]) -> u64
-    requires { length leaps.now ≤ 64 }
-    ensures { result ≡ weighted 23 (leap_numbers leaps.now) % 2 ^ 64 }
+fn leaps_sums(leaps: &[IrigLeap]) -> Sums
+    ensures { AreSumsOf result (leap_numbers leaps.now) }
 {
-    let mut sum: u64 = 0;
-    let mut weight: u64 = 23;
-    for leap in leaps {
-        sum = sum.wrapping_add(leap_sum(weight, leap));
-        weight += 4;
+    let mut sums = Sums::none();
+    let mut left = leaps.len();
+    while left > 0 {
+        left -= 1;
+        sums = with_leap(sums, &leaps[left]);
     }
-    sum
+    sums
 }
 
-fn leap_sum(weight: u64, leap: &IrigLeap) -> u64
-    requires { weight < 2 ^ 9 }
-    ensures { result ≡ weight * leap.now.day + (weight + 2) * leap.now.kind }
+#[inline]
+fn with_leap(sums: Sums, leap: &IrigLeap) -> Sums
+    ensures { (ns : List ℕ) → AreSumsOf sums ns
+        → AreSumsOf result (leap.now.day ∷ leap.now.kind ∷ ns) }
 {
-    weight * u64::from(leap.day) + (weight + 2) * u64::from(leap.kind)
+    sums.with_first(u64::from(leap.kind))
+        .with_first(u64::from(leap.day))
 }
 
-/// What a state adds.
-pub fn state_sum(state: &IrigState) -> u64
-    ensures value { result ≡ weighted 279 (state_numbers state.now) }
-    ensures few { result < 2 ^ 60 }
+/// The numbers of a state, before others.
+pub fn with_state(sums: Sums, state: &IrigState) -> Sums
+    ensures { (ns : List ℕ) → AreSumsOf sums ns
+        → AreSumsOf result (state_numbers state.now ++ ns) }
 {
-    279 * u64::from(state.kind)
-        + 281 * u64::from(state.count)
-        + 283 * u64::from(state.heard)
-        + 285 * u64::from(state.day)
-        + 287 * u64::from(state.sod)
-        + 289 * u64::from(state.age)
+    sums.with_first(u64::from(state.age))
+        .with_first(u64::from(state.sod))
+        .with_first(u64::from(state.day))
+        .with_first(u64::from(state.heard))
+        .with_first(u64::from(state.count))
+        .with_first(u64::from(state.kind))
 }
 
-#[inline(never)]
-fn tally_sum(port: u8, tally: &Tally) -> u64
-    requires { port < 5 }
-    ensures { result ≡ weighted (291 + 10 * port) (tally_numbers tally.now) % 2 ^ 64 }
+/// The numbers of what a port heard, before others.
+#[inline]
+pub fn with_tally(sums: Sums, tally: &Tally) -> Sums
+    ensures { (ns : List ℕ) → AreSumsOf sums ns
+        → AreSumsOf result (tally_numbers tally.now ++ ns) }
 {
-    let weight = 291 + 10 * u64::from(port);
-    weight
-        .wrapping_mul(plain_sum(tally))
-        .wrapping_add(slope(tally))
+    sums.with_first(tally.control)
+        .with_first(tally.time)
+        .with_first(u64::from(tally.wrong.element))
+        .with_first(u64::from(tally.wrong.kind))
+        .with_first(u64::from(tally.count))
 }
 
 /// By how much a port adds more to the check word, if it has heard `after` and no longer `before`.
-/// One product of 64 bits, since small processors have none, for each pulse.
 #[inline]
 pub fn tally_change(port: u8, before: &Tally, after: &Tally) -> u64
     requires { port < 5 }
     ensures { (weighted (291 + 10 * port) (tally_numbers before.now) + result) % 2 ^ 64
         ≡ weighted (291 + 10 * port) (tally_numbers after.now) % 2 ^ 64 }
 {
-    let weight = 291 + 10 * u64::from(port);
-    let all = plain_sum(after).wrapping_sub(plain_sum(before));
-    let more = slope(after).wrapping_sub(slope(before));
-    weight.wrapping_mul(all).wrapping_add(more)
+    let sums = with_tally(Sums::none(), before);
+    sums.change(291 + 10 * u64::from(port), with_tally(Sums::none(), after))
 }
 
-// The numbers of a port weigh a first weight and 0, 2, 4, 6 and 8 more: so many times their sum, and
-// what they add beside it.
-#[inline]
-fn plain_sum(tally: &Tally) -> u64
-    ensures { result ≡ plain_of tally.now % 2 ^ 64 }
+fn ports_sums(ports: &[Tally; 5]) -> Sums
+    ensures { AreSumsOf result (port_numbers ports.now) }
 {
-    (u64::from(tally.count) + u64::from(tally.wrong.kind) + u64::from(tally.wrong.element))
-        .wrapping_add(tally.time)
-        .wrapping_add(tally.control)
-}
-
-#[inline]
-fn slope(tally: &Tally) -> u64
-    ensures { result ≡ slope_of tally.now % 2 ^ 64 }
-{
-    (2 * u64::from(tally.wrong.kind) + 4 * u64::from(tally.wrong.element))
-        .wrapping_add(tally.time.wrapping_mul(6))
-        .wrapping_add(tally.control.wrapping_mul(8))
-}
-
-fn ports_sum(ports: &[Tally; 5]) -> u64
-    ensures { result ≡ weighted 291 (port_numbers ports.now) % 2 ^ 64 }
-{
-    tally_sum(0, &ports[0])
-        .wrapping_add(tally_sum(1, &ports[1]))
-        .wrapping_add(tally_sum(2, &ports[2]))
-        .wrapping_add(tally_sum(3, &ports[3]))
-        .wrapping_add(tally_sum(4, &ports[4]))
+    let last = with_tally(with_tally(Sums::none(), &ports[4]), &ports[3]);
+    with_tally(
+        with_tally(with_tally(last, &ports[2]), &ports[1]),
+        &ports[0],
+    )
 }
 
 /// What state and ports add to the check word, beside setup and table.
@@ -132,7 +114,7 @@ pub fn changing_sum(reader: &IrigReader) -> u64
     ensures { check_of reader.now ≡ (weighted 3 (setup_numbers reader.now.setup)
         + weighted 19 (table_numbers reader.now.table) + result) % 2 ^ 64 }
 {
-    state_sum(&reader.state).wrapping_add(ports_sum(&reader.ports))
+    with_state(ports_sums(&reader.ports), &reader.state).weighed(279)
 }
 
 /// The check word that belongs to a reader's numbers, if `fixed` is what its setup and its table

@@ -17,13 +17,14 @@ mod report;
 mod setup;
 mod standing;
 mod state;
+mod sums;
 mod symbols;
 mod table;
 mod voices;
 mod zone;
 
 pub use against::{against_hold, held_by};
-pub use check_word::{changing_sum, check_of, fixed_sum, state_sum, tally_change};
+pub use check_word::{changing_sum, check_of, fixed_sum, tally_change, with_state, with_tally};
 pub use claim::{IrigClaim, NO_CLAIM, claim_for_c};
 pub use control::{IrigControl, control_for_c, control_of_c};
 pub use fault::{OUT_OF_RANGE, fault_code};
@@ -37,6 +38,7 @@ pub use setup::{
     sense_of,
 };
 pub use state::{IDLE, IrigState, mark_of, state_for_c, state_of};
+pub use sums::Sums;
 pub use symbols::{numbers_of, symbol_number, symbol_of, symbols_of};
 pub use table::{IrigLeap, IrigTable, has_kinds, table_fault};
 pub use voices::{Voices, voices_of};

@@ -3,16 +3,17 @@ use Rattle.std.specs.Prelude.{if◌then◌else◌, nat_lt, ◌==◌}
 use Rattle.std.proofs.Common.{◌≡◌, ℕ, zero, suc, ◌+◌, ◌*◌, ◌<◌, ◌≤◌, Bool, true, false, cond, Option, Some, None, refl, ap, ◌∙◌, arith}
 use Rattle.irig_vote.specs.Vote.{ports_in}
 use Rattle.irig_timekeeper.specs.declared.clock.Beat.{Beat}
-use Rattle.irig_timekeeper.specs.declared.setup.ClockRules.{ClockRules}
+use Rattle.irig_lines.specs.declared.setup.ClockRules.{ClockRules}
 use Rattle.irig_timekeeper.specs.declared.clock.ClockState.{ClockState}
 use Rattle.irig_timekeeper.specs.declared.states.LineState.{LineState}
 use Rattle.irig_timekeeper.specs.declared.states.LineState.TheVariants as is
 use Rattle.irig_timekeeper.specs.LineTruths.{is_untrue}
 use Rattle.irig_timekeeper.specs.States.{state_of}
 use Rattle.c_keeper.specs.declared.second.IrigSecond.{IrigSecond}
-use Rattle.c_keeper.specs.declared.states.IrigMasks.{IrigMasks}
+use Rattle.c_lines.specs.declared.masks.IrigMasks.{IrigMasks}
 use Rattle.c_keeper.specs.Seconds.{IsSecondOf}
-use Rattle.c_keeper.specs.States.{bit_at, bit_of, mask_of, masks_of, number_of, state_if, states_of}
+use Rattle.c_lines.specs.States.{bit_at, bit_of, mask_of, number_of}
+use Rattle.c_keeper.specs.States.{masks_of, state_if, states_of}
 
 -- ---- a mask of five bits
 

@@ -4,8 +4,7 @@
 //! docs/FAULTS.md know it: 1 to 10, 17 and 18 of a frame, with 256 times the element, the field or
 //! the count beside it; 26 for a value out of its range; 31 to 34 of a leap table. A call that
 //! answers a fault changes nothing. None asks anything of its arguments: whatever lies in a
-//! structure, a call returns. There is no memory to ask for, and nothing is kept between calls but
-//! what C holds.
+//! structure, a call returns. No call asks for memory, or keeps anything but in what C holds.
 #![tactic(auto)]
 
 mod control;
@@ -17,7 +16,8 @@ mod second;
 mod symbols;
 mod timekeeper;
 
-pub use c_keeper::{IrigAnnounced, IrigLine, IrigLines, IrigSecond, IrigStamp, IrigTimekeeper};
+pub use c_keeper::{IrigSecond, IrigStamp, IrigTimekeeper};
+pub use c_lines::{IrigAnnounced, IrigLine, IrigLines};
 pub use c_numbers::{
     IrigClaim, IrigControl, IrigLeap, IrigReader, IrigReport, IrigSetup, IrigState, IrigTable,
     IrigTold, another_number_is_told,

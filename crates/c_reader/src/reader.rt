@@ -139,8 +139,7 @@ pub extern "C" fn irig_c_reader_tick(reader: &mut IrigReader, report: &mut IrigR
     ensures answer { (result ≡ 0) ↔ IsAccepted reader.old }
     ensures refused { (result ≡ 0 → ⊥) → (reader.new ≡ reader.old) × (report.new ≡ report.old) }
     ensures valid { result ≡ 0 → IfSome (report_in report.new).announce IsValid }
-    // of a reader that has a history: it is never refused, reports what the rule gives, and goes on
-    // to the next history
+    // of a reader with a history: it is never refused, reports what the rule gives, and goes on
     ensures answered { (h : ReaderHistory) → IsReaderOf reader.old h → result ≡ 0 }
     ensures report { (h : ReaderHistory) → IsReaderOf reader.old h
         → report_in report.new ≡ report_at_tick h }

@@ -1,6 +1,6 @@
 //! A timekeeper that C holds.
 
-ghost use Rattle.std.specs.Prelude.{false, ◌-◌, ◌==◌, ◌≡◌, ◌↔◌, ◌%◌, ◌^◌, ◌<◌, ◌≤◌, ◌+◌, ◌*◌, ◌⊎◌, if◌then◌else◌, ℕ, List, [], ◌∷◌, ◌++◌, IfSome, IsTrue, Option, None, Some, is_some};
+ghost use Rattle.std.specs.Prelude.{false, not, ◌-◌, ◌==◌, ◌≡◌, ◌↔◌, ◌%◌, ◌^◌, ◌<◌, ◌≤◌, ◌+◌, ◌*◌, ◌⊎◌, if◌then◌else◌, ℕ, List, [], ◌∷◌, ◌++◌, IfSome, IsTrue, Option, None, Some, is_some};
 ghost use Rattle.irig_sync.specs.Lines.{Pulse};
 ghost use Rattle.irig_sync.specs.Sync.{place_of};
 ghost use Rattle.irig_time.specs.declared.rules.Rules.{Rules};
@@ -12,52 +12,61 @@ ghost use Rattle.irig_time.specs.Timelines.{TimelineValue, IsSecond};
 ghost use Rattle.irig_time.specs.TimelineFaults.{IsTimeline};
 ghost use Rattle.irig_vote.specs.Vote.{ports_in};
 ghost use Rattle.irig_reader.specs.declared.report.Cause.TheVariants as Cause;
-ghost use Rattle.irig_timekeeper.specs.Exactness.{most_drift_us, most_vote_us, fault_early_us, fault_late_us, vote_us};
+ghost use Rattle.irig_lines.specs.Exactness.{most_drift_us, most_vote_us, fault_early_us, fault_late_us, vote_us};
 ghost use Rattle.irig_timekeeper.specs.declared.clock.Beat.{Beat};
 ghost use Rattle.irig_timekeeper.specs.declared.stamp.Stamp.{Stamp};
-ghost use Rattle.irig_timekeeper.specs.declared.lines.Vote.{Vote};
+ghost use Rattle.irig_lines.specs.declared.lines.Vote.{Vote};
+ghost use Rattle.irig_lines.specs.declared.rate.Rate.{Rate};
+ghost use Rattle.irig_timekeeper.specs.Measures.{IsMeasured};
 ghost use Rattle.irig_timekeeper.specs.Clock.{lasted};
-ghost use Rattle.irig_timekeeper.specs.Counting.{edges_own};
-ghost use Rattle.irig_timekeeper.specs.Edges.{IsQuartz};
+ghost use Rattle.irig_lines.specs.Counting.{edges_own};
+ghost use Rattle.irig_lines.specs.Clocks.{IsTrueByItsClock};
+ghost use Rattle.irig_lines.specs.Edges.{IsQuartz};
 ghost use Rattle.irig_timekeeper.specs.Life.{AreInOrder, last_tick, pulses_on};
 ghost use Rattle.irig_timekeeper.specs.Life.Call.{Tick};
 ghost use Rattle.irig_timekeeper.specs.Lived.{MadeOf, LivesWell};
-ghost use Rattle.irig_timekeeper.specs.Lines.{IsTrueLately, IsTrueOrFaulty};
+ghost use Rattle.irig_lines.specs.Lines.{IsTrueLately, IsTrueOrFaulty};
 ghost use Rattle.irig_timekeeper.specs.Loops.{AreMadeInTurn, AreToldInTime, TicksEach};
-ghost use Rattle.irig_timekeeper.specs.Keeping.{Heard, Keeping, new_keeping, place_told, one_pulse_more, after_pulse, after_tick, answer_at, wait_at, stamp_at, restarted};
-ghost use Rattle.irig_timekeeper.specs.Refusals.{clock_fault, within_of};
-ghost use Rattle.irig_timekeeper.specs.Steps.{is_pulse, AreNewLines};
-ghost use Rattle.irig_timekeeper.specs.Truth.{IsToldTruly, IsToldInHoldover, IsLaterSecond, IsEdgeAt, IsInstant, IsStampedTruly, AreApartBeats};
+ghost use Rattle.irig_timekeeper.specs.Keeping.{Heard, Keeping, new_keeping, place_told, one_pulse_more, after_pulse, after_tick, answer_at, wait_at, stamp_at, rate_at, restarted};
+ghost use Rattle.irig_lines.specs.Refusals.{clock_fault, within_of};
+ghost use Rattle.irig_lines.specs.Steps.{is_pulse, AreNewLines};
+ghost use Rattle.irig_timekeeper.specs.Truth.{FollowsTruth, IsToldTruly, IsToldInHoldover, IsLaterSecond, IsEdgeAt, IsInstant, IsStampedTruly, AreApartBeats};
 ghost use Rattle.c_numbers.specs.LeapTables.{table_in, HasKinds, IsTable, code_of_table};
 ghost use Rattle.c_numbers.specs.Numbers.{sense_in};
 ghost use Rattle.c_numbers.specs.Reports.{report_in, voices_in};
 ghost use Rattle.c_numbers.specs.Setups.{rules_in, limits_in, reader_rules_in, redundancy_in, IsPort, IsSetup};
 ghost use Rattle.c_numbers.specs.States.{state_in, IsState};
 ghost use Rattle.c_numbers.specs.Against.{held_by};
+ghost use Rattle.c_numbers.specs.CheckWord.{setup_numbers, table_numbers, weighted};
 ghost use Rattle.c_numbers.specs.Voices.{voices_to};
 ghost use Rattle.c_keeper.specs.Announcing.{AreAsked, ComeInARow, GoesByWait, HasAnnounced};
 ghost use Rattle.c_keeper.specs.CheckWord.{IsSealed};
-ghost use Rattle.c_keeper.specs.Lines.{frames_in, lines_in, numbers_at, HaveHeard, KeepNoMore};
+ghost use Rattle.c_lines.specs.Lines.{frames_in, lines_in, numbers_at, HaveHeard, KeepNoMore};
 ghost use Rattle.c_keeper.specs.Lives.{Moment, AreTogether, HasLived, HasHealed, HasItsBound, GoesOnTruly, StampsTruly, agreed_in, beat_in, calls_of, made_in, since_vote};
 ghost use Rattle.c_keeper.specs.Lives.Moment.{Pulsed, Ticked, Waited};
+ghost use Rattle.c_keeper.specs.Rates.{rate_in, rate_told};
 ghost use Rattle.c_keeper.specs.Rows.{AreGivenLast};
 ghost use Rattle.c_keeper.specs.Seconds.{against_at, stamp_in, IsSecondOf, IsToldOf};
-ghost use Rattle.c_keeper.specs.Timekeepers.{answer_in, clock_in, clock_state_in, edge_in, delays_in, stamp_for, state_behind, vote_in, wait_in, AreWires, HasShortInterval, HeardTruly, IsAccepted, IsAnnounced, IsSmall, IsTimekeeperOf};
-ghost use Rattle.c_keeper.specs.States.{bit_at, is_untrue_number, masks_of};
+ghost use Rattle.c_lines.specs.Announced.{IsAnnounced, IsSmall};
+ghost use Rattle.c_keeper.specs.Timekeepers.{answer_in, clock_in, clock_state_in, edge_in, delays_in, stamp_for, state_behind, vote_in, wait_in, AreWires, HasShortInterval, HeardTruly, IsAccepted, IsTimekeeperOf};
+ghost use Rattle.c_lines.specs.States.{bit_at, is_untrue_number};
+ghost use Rattle.c_keeper.specs.States.{masks_of};
 ghost use Rattle.c_keeper.specs.Said.{said_of};
-ghost use Rattle.irig_timekeeper.specs.Delays.{corrected, delay_at};
+ghost use Rattle.irig_lines.specs.Delays.{corrected, delay_at};
 
 use crate::line::NO_PORT;
 use c_keeper::{
-    IrigLineSaid, IrigSecond, IrigStamp, IrigTimekeeper, IrigWires, are_wires, check_of,
-    clock_rules_of, clock_state_of, delay_of, forget, hear, is_accepted, keep, line_at, restart,
-    said_of, second_of, set_line, stamp_at, stamp_for_c, unread_state_of,
+    IrigLineSaid, IrigRate, IrigSecond, IrigStamp, IrigTimekeeper, IrigWires, are_wires, check_of,
+    clock_rules_of, delay_of, forget, hear, is_accepted, is_quiet, keep, nothing_told, rate_at,
+    rate_for_c, restart, said_of, second_of, set_line, stamp_at, stamp_for_c, unread_state_of,
 };
+use c_lines::line_at;
 use c_numbers::{
     IrigSetup, IrigTable, OUT_OF_RANGE, fixed_sum, has_kinds, held_by, is_port, is_setup,
     reader_rules_of, table_fault,
 };
-use irig_timekeeper::{clock_fault, corrected, is_pulse, tick, wait_of};
+use irig_lines::{clock_fault, corrected, is_pulse};
+use irig_timekeeper::{tick, wait_of};
 
 /// The holdover is longer than the device's counter can count.
 const DRIFT: u32 = 35;
@@ -93,6 +102,7 @@ pub extern "C" fn irig_c_timekeeper_init(
       within = within_of wires.now.within_us;
       drift_us = wires.now.drift_us;
       delays = delays_in wires.now.delays;
+      prefers_frames = not (wires.now.prefers_frames == 0);
     } }
     ensures exact { result ≡ 0
         → (clock_in timekeeper.new).within.us ≡ wires.now.within_us }
@@ -172,7 +182,7 @@ fn hear_pulse(timekeeper: &mut IrigTimekeeper, port: u8, rise_us: u32, width_us:
         → IsTimekeeperOf timekeeper.new (one_pulse_more k port rise_us width_us) }
     ensures sealed { IsSealed timekeeper.new ↔ IsSealed timekeeper.old }
 {
-    let mut line = line_at(&timekeeper.lines, port);
+    let mut line = *line_at(&timekeeper.lines, port);
     let place = hear(timekeeper, &mut line, rise_us, width_us);
     set_line(timekeeper, port, &line);
     place
@@ -224,8 +234,7 @@ pub extern "C" fn irig_c_timekeeper_tick(
         → (report_in second.new.report).announce ≡ Some u
         → (beat : Beat) × IsToldOf second.new beat
         × IsToldTruly t edges second.new.bound_us second.new.bound_us now beat u }
-    // So it is by any counter, whatever the wires say of it: its edge lies no further off than a vote does
-    // by that counter.
+    // So it is by any counter: its edge lies no further off than a vote does by that counter.
     ensures any_counter { (t : TimelineValue) (d : ℕ) (edges : ℕ → ℕ) (now : ℕ)
         (pulses : ℕ → List Pulse) (u : UtcSecond) → result ≡ 0 → now_us ≡ now % 2 ^ 32
         → IsQuartz d edges → IsTimeline t
@@ -316,12 +325,39 @@ pub extern "C" fn irig_c_timekeeper_tick(
         (past : List Moment) → HasLived timekeeper.old made past → now_us ≡ now % 2 ^ 32
         → GoesOnTruly (IsTrueOrFaulty made.clock.within.us) t edges made start now [] past
         → ¬ ((report_in second.new.report).cause ≡ Cause.Jump) }
+    // So it is in both lives by clocks that are at most `off` us off UTC: the edge lies no further off than
+    // the bound and `off`, and so in order (the law `clocks_off_tell_truly`).
+    ensures clocks_off { (t : TimelineValue) (edges : ℕ → ℕ) (made : MadeOf) (off start now : ℕ)
+        (past : List Moment) (u : UtcSecond) → off ≤ 1000 → HasLived timekeeper.old made past
+        → now_us ≡ now % 2 ^ 32
+        → GoesOnTruly (IsTrueByItsClock off made.clock.within.us made.clock.drift_us) t edges made
+        start now [] past
+        → (report_in second.new.report).announce ≡ Some u
+        → IsToldInHoldover t edges off off made.clock.within.us made.clock.drift_us
+        made.clock.reader_rules.holdover now (beat_in second.new) u }
+    ensures clocks_off_order { (t : TimelineValue) (edges : ℕ → ℕ) (made : MadeOf)
+        (off start before now : ℕ) (earlier later : List Moment) (first : IrigSecond)
+        (u v : UtcSecond) → off ≤ 1000
+        → HasLived timekeeper.old made (later ++ (Ticked before first ∷ earlier))
+        → now_us ≡ now % 2 ^ 32
+        → GoesOnTruly (IsTrueByItsClock off made.clock.within.us made.clock.drift_us) t edges made
+        start now later (Ticked before first ∷ earlier)
+        → (report_in first.report).announce ≡ Some u
+        → (report_in second.new.report).announce ≡ Some v → IsLaterSecond t u v }
+    ensures clocks_off_calm { (t : TimelineValue) (edges : ℕ → ℕ) (made : MadeOf)
+        (off start now : ℕ) (past : List Moment) → off ≤ 1000
+        → HasLived timekeeper.old made past → now_us ≡ now % 2 ^ 32
+        → GoesOnTruly (IsTrueByItsClock off made.clock.within.us made.clock.drift_us) t edges made
+        start now [] past
+        → ¬ ((report_in second.new.report).cause ≡ Cause.Jump) }
     // Ticked at least each 95 ms it has announced by a vote, once as many seconds as it locks after, and
-    // two more, came whole on more than f lines (the law `a_polling_device_announces`).
+    // two more, came whole on more than f lines, and the table is true or frames are preferred (the law
+    // `a_polling_device_announces`).
     ensures announces { (t : TimelineValue) (edges : ℕ → ℕ) (made : MadeOf)
         (start m most now : ℕ) (moments before : List Moment) (u : UtcSecond)
         → HasLived timekeeper.old made (moments ++ before) → now_us ≡ now % 2 ^ 32
         → ComeInARow t edges made start m (Ticked now second.new ∷ moments) before
+        → FollowsTruth t made.clock.prefers_frames made.table
         → most ≤ 95000 → TicksEach most start (Tick now ∷ calls_of moments) (calls_of before)
         → AreToldInTime start (Tick now ∷ calls_of moments) (calls_of before)
         → IsSecond t (m + 1 + made.clock.reader_rules.lock_after) u
@@ -334,6 +370,7 @@ pub extern "C" fn irig_c_timekeeper_tick(
         (start m late now : ℕ) (moments before : List Moment) (u : UtcSecond)
         → HasLived timekeeper.old made (moments ++ before) → now_us ≡ now % 2 ^ 32
         → ComeInARow t edges made start m (Ticked now second.new ∷ moments) before
+        → FollowsTruth t made.clock.prefers_frames made.table
         → late ≤ 95000 → AreAsked None moments → GoesByWait late (Ticked now second.new ∷ moments)
         → AreMadeInTurn start (Tick now ∷ calls_of moments) (calls_of before)
         → IsSecond t (m + 1 + made.clock.reader_rules.lock_after) u
@@ -352,13 +389,55 @@ pub extern "C" fn irig_c_timekeeper_tick(
     if !is_accepted(fixed, timekeeper) {
         return OUT_OF_RANGE;
     }
-    *second = tick_accepted(timekeeper, now_us);
-    timekeeper.check = check_of(fixed, timekeeper);
+    *second = tick_accepted(fixed, timekeeper, now_us);
     0
 }
 
-// A tick of numbers that are accepted. The check word stays.
-fn tick_accepted(timekeeper: &mut IrigTimekeeper, now_us: u32) -> IrigSecond
+// A tick of numbers that are accepted, if `fixed` is what setup and table add to the check word.
+fn tick_accepted(fixed: u64, timekeeper: &mut IrigTimekeeper, now_us: u32) -> IrigSecond
+    requires accepted { IsAccepted timekeeper.old }
+    requires fixed { fixed ≡ (weighted 3 (setup_numbers timekeeper.old.setup)
+        + weighted 19 (table_numbers timekeeper.old.table)) % 2 ^ 64 }
+    ensures said { IsSecondOf result (answer_in timekeeper.old now_us) }
+    ensures valid { IfSome (report_in result.report).announce IsValid }
+    ensures voices { (beat : Beat) → answer_in timekeeper.old now_us ≡ Some beat
+        → voices_in result.report ≡ voices_to (vote_in timekeeper.old now_us) beat.told
+        (redundancy_in timekeeper.old.setup) (sense_in timekeeper.old.setup.sense)
+        (frames_in timekeeper.old.lines) }
+    ensures against { (beat : Beat) → answer_in timekeeper.old now_us ≡ Some beat
+        → result.report.against_hold ≡ against_at (held_by (state_in timekeeper.old.state)) beat
+        (redundancy_in timekeeper.old.setup) }
+    ensures stands { clock_state_in timekeeper.new ≡ state_behind timekeeper.old now_us }
+    ensures heard { (heard : Heard) → HaveHeard timekeeper.old.lines heard
+        → HaveHeard timekeeper.new.lines heard }
+    ensures is_state { IsState timekeeper.new.setup.lock_after timekeeper.new.state }
+    ensures last { IsAnnounced timekeeper.new.last }
+    ensures before { IsAnnounced timekeeper.new.before }
+    ensures absent { KeepNoMore (ports_in (redundancy_in timekeeper.new.setup))
+        timekeeper.new.lines }
+    ensures setup { timekeeper.new.setup ≡ timekeeper.old.setup }
+    ensures table { timekeeper.new.table ≡ timekeeper.old.table }
+    ensures wires { timekeeper.new.wires ≡ timekeeper.old.wires }
+    ensures bound { timekeeper.new.bound_us ≤ most_vote_us }
+    ensures known { HasShortInterval timekeeper.new }
+    ensures ended { IsSmall timekeeper.new.ended }
+    ensures ended_before { IsSmall timekeeper.new.ended_before }
+    ensures strays { result.strays ≡ (if result.is_told == 0 then 0 else timekeeper.new.strays) }
+    ensures doubt { result.doubt ≡ (if result.is_told == 0 then 0 else timekeeper.new.doubt) }
+    ensures lines { (beat : Beat) → answer_in timekeeper.old now_us ≡ Some beat
+        → result.lines ≡ masks_of (clock_in timekeeper.old) (clock_state_in timekeeper.new) }
+    ensures sealed { IsSealed timekeeper.new }
+{
+    if is_quiet(timekeeper, now_us) {
+        return nothing_told();
+    }
+    let second = tick_at_work(timekeeper, now_us);
+    timekeeper.check = check_of(fixed, timekeeper);
+    second
+}
+
+// One that may have something to do. The check word stays.
+fn tick_at_work(timekeeper: &mut IrigTimekeeper, now_us: u32) -> IrigSecond
     requires { IsAccepted timekeeper.old }
     ensures said { IsSecondOf result (answer_in timekeeper.old now_us) }
     ensures valid { IfSome (report_in result.report).announce IsValid }
@@ -394,7 +473,7 @@ fn tick_accepted(timekeeper: &mut IrigTimekeeper, now_us: u32) -> IrigSecond
     let held = held_by(&state.reader);
     let ticked = tick(&rules, &timekeeper.table, &mut state, now_us);
     keep(timekeeper, &state);
-    second_of(timekeeper, &ticked, held, &rules, &mut state)
+    second_of(timekeeper, &ticked, held, &rules)
 }
 
 /// How long until a tick has something to do, in microseconds, if no call comes before it; 0 where a
@@ -488,6 +567,14 @@ pub extern "C" fn irig_c_timekeeper_stamp(
         → time_us ≡ time % 2 ^ 32
         → StampsTruly (IsTrueOrFaulty made.clock.within.us) t edges made start time now past
         → stamp_in result stamp.new ≡ Some found → IsStampedTruly t edges (fault_early_us made.clock.within.us made.clock.drift_us) time found }
+    // Of either life, by clocks that are at most `off` us off UTC: to within the bound and `off` (the law
+    // `clocks_off_tell_truly`).
+    ensures clocks_off { (t : TimelineValue) (edges : ℕ → ℕ) (made : MadeOf)
+        (off start time now : ℕ) (past : List Moment) (found : Stamp) → off ≤ 1000
+        → HasLived timekeeper.now made past → time_us ≡ time % 2 ^ 32
+        → StampsTruly (IsTrueByItsClock off made.clock.within.us made.clock.drift_us) t edges made
+        start time now past
+        → stamp_in result stamp.new ≡ Some found → IsStampedTruly t edges off time found }
     // Of either life: another device's stamp of the same instant, of which its own clause `truth` or
     // `healed` holds, names one no further off than the sum of both bounds and the drift of two seconds
     // of each device (the law `stamps_are_true`, clause `together`).
@@ -513,8 +600,7 @@ pub extern "C" fn irig_c_timekeeper_stamp(
         → (report_in one.report).announce ≡ Some u → (report_in other.report).announce ≡ Some v
         → other.missed ≡ 0 → edge ≤ time → time ≤ next + 1000000 + other.bound_us
         → (found : Stamp) × (stamp_in result stamp.new ≡ Some found) }
-    // So it is if a line counts as true that lost any pulses, or had one fault of any kind in each
-    // hundred of them, in the last 1.2 s.
+    // So it is with such faults on lines as the clause `faulty` allows.
     ensures none_lost_faulty { (t : TimelineValue) (edges : ℕ → ℕ) (made : MadeOf)
         (start time edge next : ℕ) (past : List Moment) (one other : IrigSecond)
         (u v : UtcSecond) → HasLived timekeeper.now made past → time_us ≡ time % 2 ^ 32
@@ -536,6 +622,39 @@ pub extern "C" fn irig_c_timekeeper_stamp(
     match stamp_at(timekeeper, time_us) {
         Some(found) => {
             *stamp = stamp_for_c(&found);
+            0
+        }
+        None => OUT_OF_RANGE,
+    }
+}
+
+/// How long seconds are by the device's own counter: the mean of the last so many, which were counted,
+/// lies between the least and the most. 26 if none was counted since a vote, or since one strayed, or
+/// a tick would be refused.
+#[unsafe(no_mangle)]
+pub extern "C" fn irig_c_timekeeper_rate(timekeeper: &IrigTimekeeper, rate: &mut IrigRate) -> u32
+    ensures answer { (result ≡ 0)
+        ↔ (IsAccepted timekeeper.now × IsTrue (is_some (rate_in timekeeper.now))) }
+    ensures refused { (result ≡ 0 → ⊥) → rate.new ≡ rate.old }
+    ensures range { (result ≡ 0 → ⊥) → result ≡ 26 }
+    ensures said { IsAccepted timekeeper.now → rate_told result rate.new ≡ rate_in timekeeper.now }
+    ensures measured { (k : Keeping) → IsTimekeeperOf timekeeper.now k
+        → rate_told result rate.new ≡ rate_at k }
+    // In a life in which all lines but f were true at each tick: so long is the mean of the seconds that
+    // end with the one that was counted last (irig_lives, the law `what_is_measured_is_so`).
+    ensures truth { (t : TimelineValue) (edges : ℕ → ℕ) (made : MadeOf) (start : ℕ)
+        (past : List Moment) (found : Rate) → HasLived timekeeper.now made past
+        → LivesWell (IsTrueLately made.clock.within.us) t edges made start (calls_of past)
+        → rate_told result rate.new ≡ Some found
+        → IsMeasured edges (last_tick start (calls_of past)) (edge_in timekeeper.now) found }
+{
+    let fixed = fixed_sum(&timekeeper.setup, &timekeeper.table);
+    if !is_accepted(fixed, timekeeper) {
+        return OUT_OF_RANGE;
+    }
+    match rate_at(timekeeper) {
+        Some(found) => {
+            *rate = rate_for_c(&found);
             0
         }
         None => OUT_OF_RANGE,
@@ -575,8 +694,7 @@ pub extern "C" fn irig_c_timekeeper_line(
     if !is_accepted(fixed, timekeeper) {
         return OUT_OF_RANGE;
     }
-    let state = clock_state_of(timekeeper);
-    *said = said_of(&clock_rules_of(timekeeper), &state, line);
+    *said = said_of(timekeeper, line);
     0
 }
 

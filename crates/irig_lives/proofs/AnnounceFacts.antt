@@ -28,20 +28,21 @@ use Rattle.irig_reader.specs.Rule.{step_of}
 use Rattle.irig_reader.specs.declared.report.Lock.TheVariants as lock
 use Rattle.irig_reader.specs.declared.report.Cause.TheVariants as cause
 use Rattle.irig_timekeeper.specs.declared.clock.Beat.{Beat}
-use Rattle.irig_timekeeper.specs.Lines.{ArePulsesLately, IsLineOf, IsTrueLately, line_of}
-use Rattle.irig_timekeeper.specs.Steps.{is_pulse}
+use Rattle.irig_lines.specs.Lines.{ArePulsesLately, IsLineOf, IsTrueLately, line_of}
+use Rattle.irig_lines.specs.Steps.{is_pulse}
 use Rattle.irig_timekeeper.specs.Keeping.{Keeping, place_told, vote_at, answer_at, wait_at}
 use Rattle.irig_timekeeper.specs.Life.{Call, pulses_on, last_tick, AreInOrder, AreTrueOver, after_calls, after_call}
 use Rattle.irig_timekeeper.specs.Life.Call.{Hear, Tick}
 use Rattle.irig_timekeeper.specs.Announcing.{LeavesTheFirst, IsWhole, ComesWhole, Announces}
 use Rattle.irig_timekeeper.specs.Loops.{TicksEach, AreToldInTime, made_at, latest, AreMadeInTurn, named, IsSoonEnough, GoesByWait, ComeInARow}
 use Rattle.irig_timekeeper.proofs.LifeLaws.{own_pulses, others_pulses, no_pulse}
-use Rattle.irig_lives.proofs.LifeFacts.{edges, at, noon, is_device, rules, claim_of, device, silence, made, frame_0, frame_1, frame_2, told_0, told_1, told_2, true_claim, width_of}
+use Rattle.irig_lives.proofs.LifeFacts.{edges, at, noon, true_table, is_device, rules, claim_of, device, silence, made, frame_0, frame_1, frame_2, told_0, told_1, told_2, true_claim, width_of}
 use Rattle.irig_lives.specs.Decided.{is_after, have_risen, in_order}
 use Rattle.irig_lives.proofs.DecidedLaws.{order_is}
 use Rattle.irig_timekeeper.proofs.LoopLaws.{polling_announces}
 use Rattle.irig_timekeeper.proofs.WaitLoops.{waiting_announces}
 use Rattle.irig_lives.proofs.SentLines.{sent_is_checked, checked_is_line}
+use Rattle.irig_timekeeper.specs.Rule.{step_checked, goes_against}
 
 -- ---- four frames
 
@@ -236,14 +237,15 @@ beat edge = record {
   bound_us = 850;
   missed = 0;
   moved = 0;
+  against_table = false;
 }
 
 polls_answer : answer_at (after_calls device polled) (polled_now % 2 ^ 32) ≡ Some (beat 2533103)
-unfolding polled polls with_element own others rise_of width_of lie frames step_of told_of frame_told coded_told ones values_of field_at control_of offset_in utc_minute is_month_end four_years
+unfolding polled polls with_element own others rise_of width_of lie frames step_checked goes_against step_of told_of frame_told coded_told ones values_of field_at control_of offset_in utc_minute is_month_end four_years
 polls_answer = refl
 
 waits_answer : answer_at (after_calls device waited) (waited_now % 2 ^ 32) ≡ Some (beat 2533103)
-unfolding waited waits with_element own others rise_of width_of lie frames step_of told_of frame_told coded_told ones values_of field_at control_of offset_in utc_minute is_month_end four_years
+unfolding waited waits with_element own others rise_of width_of lie frames step_checked goes_against step_of told_of frame_told coded_told ones values_of field_at control_of offset_in utc_minute is_month_end four_years
 waits_answer = refl
 
 -- ---- whole frames
@@ -494,14 +496,14 @@ unfolding by_polls polled polls with_element own others rise_of width_of lie fra
 polls_told = refl
 
 polls_announce : Announces edges device 4 (at 43204) (by_polls ++ [])
-polls_announce = polling_announces noon edges made start 1 95000 by_polls [] (at 43204) (in_a_row 405 by_polls (omega arith) polls_pulses polls_rest polls_in_order polls_late) (omega arith) (each_is 95000 by_polls polls_each) (told_is by_polls polls_told) second_4
+polls_announce = polling_announces noon edges made start 1 95000 by_polls [] (at 43204) (in_a_row 405 by_polls (omega arith) polls_pulses polls_rest polls_in_order polls_late) (inr true_table) (omega arith) (each_is 95000 by_polls polls_each) (told_is by_polls polls_told) second_4
 
 waits_late : edges 4 + 3000 ≤ last_tick start by_wait
 unfolding by_wait
 waits_late = omega arith
 
 waits_soon : (run 90000 by_wait).is_soon ≡ true
-unfolding by_wait waited waits with_element own others rise_of width_of lie frames run step names least_of_two step_of told_of frame_told coded_told ones values_of field_at control_of offset_in utc_minute is_month_end four_years
+unfolding by_wait waited waits with_element own others rise_of width_of lie frames run step names least_of_two step_checked goes_against step_of told_of frame_told coded_told ones values_of field_at control_of offset_in utc_minute is_month_end four_years
 waits_soon = refl
 
 waits_in_turn : in_turn by_wait ≡ true
@@ -509,11 +511,11 @@ unfolding by_wait waited waits with_element own others rise_of width_of lie fram
 waits_in_turn = refl
 
 waits_announce : Announces edges device 4 (at 43204) (by_wait ++ [])
-waits_announce = waiting_announces noon edges made start 1 90000 by_wait [] (at 43204) (in_a_row 409 by_wait (omega arith) waits_pulses waits_rest waits_in_order waits_late) (omega arith) (goes_is 90000 by_wait waits_soon) (turn_is by_wait waits_in_turn) second_4
+waits_announce = waiting_announces noon edges made start 1 90000 by_wait [] (at 43204) (in_a_row 409 by_wait (omega arith) waits_pulses waits_rest waits_in_order waits_late) (inr true_table) (omega arith) (goes_is 90000 by_wait waits_soon) (turn_is by_wait waits_in_turn) second_4
 
 -- its ticks come no sooner than 90 ms behind
 waits_no_sooner : (run 89999 by_wait).is_soon ≡ false
-unfolding by_wait waited waits with_element own others rise_of width_of lie frames run step names least_of_two step_of told_of frame_told coded_told ones values_of field_at control_of offset_in utc_minute is_month_end four_years
+unfolding by_wait waited waits with_element own others rise_of width_of lie frames run step names least_of_two step_checked goes_against step_of told_of frame_told coded_told ones values_of field_at control_of offset_in utc_minute is_month_end four_years
 waits_no_sooner = refl
 
 -- ---- what other loops lose
@@ -524,11 +526,11 @@ unfoldable told_late : List Call
 told_late = with_element 399 (Tick (edges 4 + 6000) ∷ polls 399)
 
 late_vote : answer_at (after_calls device told_late) ((edges 4 + 50000) % 2 ^ 32) ≡ None
-unfolding told_late polls with_element own others rise_of width_of lie frames step_of told_of frame_told coded_told ones values_of field_at control_of offset_in utc_minute is_month_end four_years
+unfolding told_late polls with_element own others rise_of width_of lie frames step_checked goes_against step_of told_of frame_told coded_told ones values_of field_at control_of offset_in utc_minute is_month_end four_years
 late_vote = refl
 
 -- a tick 100 ms behind the end of line 1's frame has a vote; a microsecond later that frame is late, and
 -- no two lines agree
 too_late : (vote_at (after_calls device waited) ((edges 4 + 99599) % 2 ^ 32) ≡ Some (record { claim = claim_of 43203; edge_us = 2533103; bound_us = 850 })) × (vote_at (after_calls device waited) ((edges 4 + 99600) % 2 ^ 32) ≡ None)
-unfolding waited waits with_element own others rise_of width_of lie frames step_of told_of frame_told coded_told ones values_of field_at control_of offset_in utc_minute is_month_end four_years
+unfolding waited waits with_element own others rise_of width_of lie frames step_checked goes_against step_of told_of frame_told coded_told ones values_of field_at control_of offset_in utc_minute is_month_end four_years
 too_late = (refl, refl)

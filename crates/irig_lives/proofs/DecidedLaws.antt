@@ -13,8 +13,8 @@ use Rattle.irig_time.specs.declared.rules.Rules.{Rules}
 use Rattle.irig_time.specs.Timelines.{TimelineValue}
 use Rattle.irig_vote.specs.declared.redundancy.Redundancy.{Redundancy}
 use Rattle.irig_vote.specs.Vote.{ports_in}
-use Rattle.irig_timekeeper.specs.Lines.{ArePulsesLately, IsLineOf, IsTrueLately}
-use Rattle.irig_timekeeper.specs.Steps.{is_pulse}
+use Rattle.irig_lines.specs.Lines.{ArePulsesLately, IsLineOf, IsTrueLately}
+use Rattle.irig_lines.specs.Steps.{is_pulse}
 use Rattle.irig_timekeeper.specs.Life.{Call, pulses_on, last_tick, HaveRisen, AreInOrder, AreTrueLately, AreTrueAtTicks, AreTrueOver}
 use Rattle.irig_timekeeper.specs.Life.Call.{Hear, Tick}
 use Rattle.irig_lives.specs.Decided.{is_after, have_risen, in_order, is_same, is_pulse_of, last_before, are_lately, are_true_lately, are_true_at_ticks, are_true_over}
@@ -275,23 +275,21 @@ module _ (IsTrue : ℕ → List Pulse → Type 0) (is_true : ℕ → List Pulse 
   pub over_decided : (calls before : List Call) → AreTrueOver IsTrue f calls before ↔ (are_true_over is_true f calls before ≡ true)
   over_decided calls before = (over_from calls before, over_are calls before)
 
+-- lines that are true so are true in a way that asks no more
+pub still_true : (Is IsTrue : ℕ → List Pulse → Type 0) → ((now : ℕ) (pulses : List Pulse) → Is now pulses → IsTrue now pulses) → (f : ℕ) (calls : List Call) → AreTrueAtTicks Is f calls → AreTrueAtTicks IsTrue f calls
+still_true Is IsTrue weaker f [] h = tt
+still_true Is IsTrue weaker f (Hear port rise width ∷ calls) h = still_true Is IsTrue weaker f calls h
+still_true Is IsTrue weaker f (Tick now ∷ calls) h = (
+  record { untrue = h.0.untrue; few = h.0.few; true_lines = λ i less right. weaker now (pulses_on i calls) (h.0.true_lines i less right) },
+  still_true Is IsTrue weaker f calls h.1,
+)
+
 -- a line that is given is one that is true
 pub truly_is : (within : ℕ) (rules : Rules) (t : TimelineValue) (edges : ℕ → ℕ) (line : ℕ → Symbol) → IsLineOf rules t line → (next f : ℕ) (calls : List Call)
     → are_true_at_ticks (λ now pulses. are_lately within line edges now (Some next) pulses) f calls ≡ true → AreTrueAtTicks (IsTrueLately within rules t edges) f calls
 truly_is within rules t edges line is_line next f calls e =
-    still calls ((ticks_decided IsSo (λ now pulses. are_lately within line edges now (Some next) pulses) f (λ now pulses. lately_decided within line edges now next pulses) calls).1 e)
+    still_true IsSo (IsTrueLately within rules t edges) (λ now pulses are. record { line = line; next = next; is_line = is_line; are = are }) f calls
+    ((ticks_decided IsSo (λ now pulses. are_lately within line edges now (Some next) pulses) f (λ now pulses. lately_decided within line edges now next pulses) calls).1 e)
   where
     IsSo : ℕ → List Pulse → Type 0
     IsSo now pulses = ArePulsesLately within line edges now next pulses
-
-    still : (calls : List Call) → AreTrueAtTicks IsSo f calls → AreTrueAtTicks (IsTrueLately within rules t edges) f calls
-    still [] h = tt
-    still (Hear port rise width ∷ calls) h = still calls h
-    still (Tick now ∷ calls) h = (
-      record {
-        untrue = h.0.untrue;
-        few = h.0.few;
-        true_lines = λ i less right. record { line = line; next = next; is_line = is_line; are = h.0.true_lines i less right };
-      },
-      still calls h.1,
-    )

@@ -17,11 +17,11 @@ use Rattle.irig_reader.specs.declared.report.Lock.TheVariants as lock
 use Rattle.irig_reader.specs.declared.report.Cause.TheVariants as cause
 use Rattle.irig_reader.specs.Rule.{step_of}
 use Rattle.irig_timekeeper.specs.declared.clock.Beat.{Beat}
-use Rattle.irig_timekeeper.specs.declared.lines.Vote.{Vote}
-use Rattle.irig_timekeeper.specs.Refusals.{within_of}
-use Rattle.irig_timekeeper.specs.Rule.{step_behind}
+use Rattle.irig_lines.specs.declared.lines.Vote.{Vote}
+use Rattle.irig_lines.specs.Refusals.{within_of}
+use Rattle.irig_timekeeper.specs.Rule.{step_behind, step_checked, goes_against}
 use Rattle.irig_timekeeper.specs.Clock.{is_unsteady}
-use Rattle.irig_timekeeper.specs.Keeping.{vote_at, answer_at}
+use Rattle.irig_timekeeper.specs.Keeping.{vote_at, answer_at, rate_at}
 use Rattle.irig_timekeeper.specs.Life.{Call, Made, device_of, life_of, AreInOrder, LivesTruly}
 use Rattle.irig_timekeeper.specs.Life.Call.{Hear, Tick}
 use Rattle.irig_timekeeper.specs.Doubts.{voted_since, NoneStrays, SaysTheRule}
@@ -37,7 +37,7 @@ abbrev made_for : ℕ → Made
 made_for holdover = record {
   limits = None;
   rules = rules;
-  clock = record { reader_rules = record { lock_after = 1; holdover = holdover }; redundancy = of.Three; within = within_of 450; drift_us = 100; delays = no_delays };
+  clock = record { reader_rules = record { lock_after = 1; holdover = holdover }; redundancy = of.Three; within = within_of 450; drift_us = 100; delays = no_delays; prefers_frames = false };
   table = no_table;
   lines = new_lines;
   fresh = are_new;
@@ -72,13 +72,13 @@ order = order_is 900000 of.Three (Tick 5010000 ∷ (third ++ (Tick now_of_2 ∷ 
 -- the first one leaves 1,700 us round the edge at 2,000,000, and a second later 1,900 us; the second one
 -- has its edge at 3,003,000, and a bound of 850 us too
 vote_2 : vote_at (life_of (made_for 57) earlier) (now_of_2 % 2 ^ 32) ≡ Some (record { claim = claim_of 43201; edge_us = 3003000; bound_us = 850 })
-unfolding earlier heard told width_of line frame step_of told_of frame_told coded_told ones values_of field_at control_of offset_in utc_minute is_month_end four_years
+unfolding earlier heard told width_of line frame step_checked goes_against step_of told_of frame_told coded_told ones values_of field_at control_of offset_in utc_minute is_month_end four_years
 vote_2 = refl
 
 counted : ((life_of (made_for 57) earlier).state.strays ≡ 0)
     × ((life_of (made_for 57) (Tick now_of_2 ∷ earlier)).state.strays ≡ 1)
     × ((life_of (made_for 57) (Tick now_of_2 ∷ earlier)).state.doubt ≡ 57)
-unfolding earlier heard told width_of line frame step_of told_of frame_told coded_told ones values_of field_at control_of offset_in utc_minute is_month_end four_years
+unfolding earlier heard told width_of line frame step_checked goes_against step_of told_of frame_told coded_told ones values_of field_at control_of offset_in utc_minute is_month_end four_years
 counted = (refl, refl, refl)
 
 strays : ¬ ((life_of (made_for 57) (Tick now_of_2 ∷ earlier)).state.strays ≡ (life_of (made_for 57) earlier).state.strays)
@@ -88,7 +88,7 @@ strays same = let other : 1 ≡ 0 = sym counted.1 ∙ same ∙ counted.0 in absu
 
 -- of such a second a device says that it counts on, but announces nothing
 abbrev nothing_at : (edge : ℕ) → Beat
-nothing_at edge = record { report = record { announce = None; lock = lock.Holdover 1; cause = cause.Held }; told = silence; edge_us = edge; bound_us = 950; missed = 0; moved = 0 }
+nothing_at edge = record { report = record { announce = None; lock = lock.Holdover 1; cause = cause.Held }; told = silence; edge_us = edge; bound_us = 950; missed = 0; moved = 0; against_table = false }
 
 -- what the reader's rule would hold
 abbrev held_by_rule : UtcSecond → Report
@@ -96,8 +96,8 @@ held_by_rule u = record { announce = Some u; lock = lock.Holdover 1; cause = cau
 
 alone : (vote_at (life_of (made_for 57) (Tick now_of_2 ∷ earlier)) (4010000 % 2 ^ 32) ≡ None)
     × (answer_at (life_of (made_for 57) (Tick now_of_2 ∷ earlier)) (4010000 % 2 ^ 32) ≡ Some (nothing_at 4003000))
-    × ((step_behind (made_for 57).clock.reader_rules no_table 0 (life_of (made_for 57) (Tick now_of_2 ∷ earlier)).state.reader None).report ≡ held_by_rule (at 43203))
-unfolding earlier heard told width_of line frame step_of told_of frame_told coded_told ones values_of field_at control_of offset_in utc_minute is_month_end four_years
+    × ((step_behind (made_for 57).clock.prefers_frames (made_for 57).clock.reader_rules no_table 0 (life_of (made_for 57) (Tick now_of_2 ∷ earlier)).state.reader None).report ≡ held_by_rule (at 43203))
+unfolding earlier heard told width_of line frame step_checked goes_against step_of told_of frame_told coded_told ones values_of field_at control_of offset_in utc_minute is_month_end four_years
 alone = (refl, refl, refl)
 
 not_said : (nothing_at 4003000).report.announce ≡ None
@@ -105,12 +105,12 @@ not_said = not_held (device_of (made_for 57)) now_of_2 4010000 earlier [] (nothi
 
 -- nor does it behind one more second that is voted, and does not stray
 voted_one : voted_since (device_of (made_for 57)) third (Tick now_of_2 ∷ earlier) ≡ 1
-unfolding third earlier heard told width_of line frame step_of told_of frame_told coded_told ones values_of field_at control_of offset_in utc_minute is_month_end four_years
+unfolding third earlier heard told width_of line frame step_checked goes_against step_of told_of frame_told coded_told ones values_of field_at control_of offset_in utc_minute is_month_end four_years
 voted_one = refl
 
 later_alone : (vote_at (life_of (made_for 57) (third ++ (Tick now_of_2 ∷ earlier))) (5010000 % 2 ^ 32) ≡ None)
     × (answer_at (life_of (made_for 57) (third ++ (Tick now_of_2 ∷ earlier))) (5010000 % 2 ^ 32) ≡ Some (nothing_at 5003000))
-unfolding third earlier heard told width_of line frame step_of told_of frame_told coded_told ones values_of field_at control_of offset_in utc_minute is_month_end four_years
+unfolding third earlier heard told width_of line frame step_checked goes_against step_of told_of frame_told coded_told ones values_of field_at control_of offset_in utc_minute is_month_end four_years
 later_alone = (refl, refl)
 
 later_not_said : (nothing_at 5003000).report.announce ≡ None
@@ -125,6 +125,7 @@ voted_beat = record {
   bound_us = 850;
   missed = 0;
   moved = 0;
+  against_table = false;
 }
 
 unfoldable third_heard : List Call
@@ -134,11 +135,19 @@ abbrev vote_3 : Vote
 vote_3 = record { claim = claim_of 43202; edge_us = 4003000; bound_us = 850 }
 
 voted : (vote_at (life_of (made_for 57) third_heard) (4005000 % 2 ^ 32) ≡ Some vote_3) × (answer_at (life_of (made_for 57) third_heard) (4005000 % 2 ^ 32) ≡ Some voted_beat)
-unfolding third_heard earlier heard told width_of line frame step_of told_of frame_told coded_told ones values_of field_at control_of offset_in utc_minute is_month_end four_years
+unfolding third_heard earlier heard told width_of line frame step_checked goes_against step_of told_of frame_told coded_told ones values_of field_at control_of offset_in utc_minute is_month_end four_years
 voted = (refl, refl)
 
 said_by_vote : SaysTheRule (life_of (made_for 57) third_heard) (4005000 % 2 ^ 32) voted_beat
 said_by_vote = says_voted (life_of (made_for 57) third_heard) (4005000 % 2 ^ 32) vote_3 voted_beat voted.0 voted.1
+
+-- ---- what is measured begins anew where the second vote strays: its interval lies from 3,002,150 to
+-- 3,003,850, and that at the third one from 4,002,150 to 4,003,850
+
+measured : (rate_at (life_of (made_for 57) (Tick now_of_2 ∷ earlier)) ≡ None)
+    × (rate_at (life_of (made_for 57) (third ++ (Tick now_of_2 ∷ earlier))) ≡ Some (record { seconds = 1; least_ns = 998300000; most_ns = 1001700000 }))
+unfolding third earlier heard told width_of line frame step_checked goes_against step_of told_of frame_told coded_told ones values_of field_at control_of offset_in utc_minute is_month_end four_years
+measured = (refl, refl)
 
 -- ---- frames that tell that the counter is unsteady count as a vote that strays: in the second second it runs
 -- 1,200 us wrong, so that the last pulse of each frame rises 991,188 us behind its first one
@@ -153,16 +162,16 @@ unfoldable unsteady : List Call
 unsteady = uneven 100 100 (Tick 2002000 ∷ heard 0 100 [])
 
 unsteady_strays : ((life_of (made_for 57) unsteady).state.strays ≡ 0) × ((life_of (made_for 57) (Tick 3010000 ∷ unsteady)).state.strays ≡ 1)
-unfolding unsteady uneven heard told width_of line frame step_of told_of frame_told coded_told ones values_of field_at control_of offset_in utc_minute is_month_end four_years
+unfolding unsteady uneven heard told width_of line frame step_checked goes_against step_of told_of frame_told coded_told ones values_of field_at control_of offset_in utc_minute is_month_end four_years
 unsteady_strays = (refl, refl)
 
 abbrev nothing_then : Beat
-nothing_then = record { report = record { announce = None; lock = lock.Holdover 2; cause = cause.Held }; told = silence; edge_us = 4000000; bound_us = 1050; missed = 0; moved = 0 }
+nothing_then = record { report = record { announce = None; lock = lock.Holdover 2; cause = cause.Held }; told = silence; edge_us = 4000000; bound_us = 1050; missed = 0; moved = 0; against_table = false }
 
 unsteady_alone : (vote_at (life_of (made_for 57) (Tick 3010000 ∷ unsteady)) (4010000 % 2 ^ 32) ≡ None)
     × (answer_at (life_of (made_for 57) (Tick 3010000 ∷ unsteady)) (4010000 % 2 ^ 32) ≡ Some nothing_then)
-    × ((step_behind (made_for 57).clock.reader_rules no_table 0 (life_of (made_for 57) (Tick 3010000 ∷ unsteady)).state.reader None).report.announce ≡ Some (at 43203))
-unfolding unsteady uneven heard told width_of line frame step_of told_of frame_told coded_told ones values_of field_at control_of offset_in utc_minute is_month_end four_years
+    × ((step_behind (made_for 57).clock.prefers_frames (made_for 57).clock.reader_rules no_table 0 (life_of (made_for 57) (Tick 3010000 ∷ unsteady)).state.reader None).report.announce ≡ Some (at 43203))
+unfolding unsteady uneven heard told width_of line frame step_checked goes_against step_of told_of frame_told coded_told ones values_of field_at control_of offset_in utc_minute is_month_end four_years
 unsteady_alone = (refl, refl, refl)
 
 not_said_then : nothing_then.report.announce ≡ None
@@ -174,21 +183,56 @@ not_said_then =
 -- voted
 
 abbrev held_beat : Beat
-held_beat = record { report = held_by_rule (at 43204); told = silence; edge_us = 5003000; bound_us = 950; missed = 0; moved = 0 }
+held_beat = record { report = held_by_rule (at 43204); told = silence; edge_us = 5003000; bound_us = 950; missed = 0; moved = 0; against_table = false }
 
 none_strays : NoneStrays (device_of (made_for 1)) third (Tick now_of_2 ∷ earlier)
-unfolding third earlier heard told width_of line frame step_of told_of frame_told coded_told ones values_of field_at control_of offset_in utc_minute is_month_end four_years
+unfolding third earlier heard told width_of line frame step_checked goes_against step_of told_of frame_told coded_told ones values_of field_at control_of offset_in utc_minute is_month_end four_years
 none_strays = (refl, tt)
 
 enough : (voted_since (device_of (made_for 1)) third (Tick now_of_2 ∷ earlier) ≡ 1)
     × ((life_of (made_for 1) (Tick now_of_2 ∷ earlier)).state.strays ≡ 1)
     × (is_unsteady (made_for 1).clock (life_of (made_for 1) (third ++ (Tick now_of_2 ∷ earlier))).state (5010000 % 2 ^ 32) ≡ false)
     × (answer_at (life_of (made_for 1) (third ++ (Tick now_of_2 ∷ earlier))) (5010000 % 2 ^ 32) ≡ Some held_beat)
-unfolding third earlier heard told width_of line frame step_of told_of frame_told coded_told ones values_of field_at control_of offset_in utc_minute is_month_end four_years
+unfolding third earlier heard told width_of line frame step_checked goes_against step_of told_of frame_told coded_told ones values_of field_at control_of offset_in utc_minute is_month_end four_years
 enough = (refl, refl, refl, refl)
 
 said_again : SaysTheRule (life_of (made_for 1) (third ++ (Tick now_of_2 ∷ earlier))) (5010000 % 2 ^ 32) held_beat
 said_again = held_again (device_of (made_for 1)) refl 5010000 third (Tick now_of_2 ∷ earlier) held_beat none_strays (omega (arith, enough.0)) enough.2 enough.3
+
+-- ---- at 10 us and 1 us a second two lines, 9 us before their places and behind them, vote with a bound of
+-- 19 us. A second later the edge lies 20 us round the next million: a vote 39 us late may be, one 40 us late
+-- strays
+
+abbrev exact : Made
+exact = record (made_for 57) { clock = record (made_for 57).clock { within = within_of 10; drift_us = 1 } }
+
+exactly : (late from n : ℕ) → List Call → List Call
+exactly late from zero calls = calls
+exactly late from (suc n) calls =
+    Hear 1 (1000009 + late + 10000 * (from + n)) (width_of (line (from + n)))
+    ∷ Hear 0 (999991 + late + 10000 * (from + n)) (width_of (line (from + n))) ∷ exactly late from n calls
+
+unfoldable late_by : ℕ → List Call
+late_by late = exactly late 100 100 (Tick 2002000 ∷ exactly 0 0 100 [])
+
+exact_strays : ((life_of exact (Tick 3002000 ∷ late_by 39)).state.strays ≡ 0) × ((life_of exact (late_by 40)).state.strays ≡ 0)
+    × ((life_of exact (Tick 3002000 ∷ late_by 40)).state.strays ≡ 1)
+unfolding late_by exactly width_of line frame step_checked goes_against step_of told_of frame_told coded_told ones values_of field_at control_of offset_in utc_minute is_month_end four_years
+exact_strays = (refl, refl, refl)
+
+abbrev nothing_exact : Beat
+nothing_exact = record (nothing_at 4000040) { bound_us = 20 }
+
+exact_alone : (vote_at (life_of exact (Tick 3002000 ∷ late_by 40)) (4007000 % 2 ^ 32) ≡ None)
+    × (answer_at (life_of exact (Tick 3002000 ∷ late_by 40)) (4007000 % 2 ^ 32) ≡ Some nothing_exact)
+    × ((step_behind false exact.clock.reader_rules no_table 0 (life_of exact (Tick 3002000 ∷ late_by 40)).state.reader None).report ≡ held_by_rule (at 43203))
+unfolding late_by exactly width_of line frame step_checked goes_against step_of told_of frame_told coded_told ones values_of field_at control_of offset_in utc_minute is_month_end four_years
+exact_alone = (refl, refl, refl)
+
+not_said_exactly : nothing_exact.report.announce ≡ None
+not_said_exactly =
+    not_held (device_of exact) 3002000 4007000 (late_by 40) [] nothing_exact
+    (λ same. (let other : 1 ≡ 0 = sym exact_strays.2 ∙ same ∙ exact_strays.1 in absurd (omega (arith, other)))) (omega arith) exact_alone.0 exact_alone.1
 
 -- ---- while lines are true nothing is in doubt: the second that is held in the life of LifeFacts
 

@@ -1,6 +1,6 @@
 -- Three lines that are less than 10 us off, by a counter that is 1 us a second fast. Of the first second
 -- all three tell the truth, and of the next one the line lies that ends between the others.
-use Rattle.std.proofs.Common.{◌≡◌, ℕ, zero, suc, ◌+◌, ◌-◌, ◌*◌, ◌/◌, ◌%◌, ◌^◌, ◌<◌, cond, List, [], ◌∷◌, Some, None, refl, arith, inl, inr}
+use Rattle.std.proofs.Common.{◌≡◌, ℕ, zero, suc, ◌+◌, ◌-◌, ◌*◌, ◌/◌, ◌%◌, ◌^◌, ◌<◌, cond, List, [], ◌∷◌, Some, None, refl, arith, inl, inr, false}
 use Rattle.std.specs.Prelude.{◌==◌, get_or}
 use Rattle.irig_frame.specs.declared.symbol.Symbol.{Symbol}
 use Rattle.irig_frame.specs.declared.symbol.Symbol.TheVariants.{Zero}
@@ -8,7 +8,7 @@ use Rattle.irig_frame.specs.Faults.{values_of, field_at}
 use Rattle.irig_control.specs.Parity.{ones}
 use Rattle.irig_control.specs.Control.{control_of, offset_in}
 use Rattle.irig_sync.specs.Edges.{element_at}
-use Rattle.irig_sync.specs.Lines.{pulse_at}
+use Rattle.irig_sync.specs.Lines.{Pulse, pulse_at}
 use Rattle.irig_sync.proofs.EdgeLaws.{even_element}
 use Rattle.irig_time.specs.declared.claim.Claim.{Claim}
 use Rattle.irig_time.specs.Carries.{Carries}
@@ -23,41 +23,47 @@ use Rattle.irig_reader.specs.declared.report.Lock.TheVariants as lock
 use Rattle.irig_reader.specs.declared.report.Cause.TheVariants as cause
 use Rattle.irig_reader.specs.Rule.{step_of}
 use Rattle.irig_timekeeper.specs.declared.clock.Beat.{Beat}
-use Rattle.irig_timekeeper.specs.declared.setup.ClockRules.{ClockRules}
+use Rattle.irig_lines.specs.declared.setup.ClockRules.{ClockRules}
 use Rattle.irig_timekeeper.specs.declared.stamp.Stamp.{Stamp}
-use Rattle.irig_timekeeper.specs.Refusals.{within_of}
-use Rattle.irig_timekeeper.specs.Edges.{IsQuartz}
-use Rattle.irig_timekeeper.specs.Lines.{IsLineOf, IsTrueLately, line_of}
+use Rattle.irig_lines.specs.Refusals.{within_of}
+use Rattle.irig_lines.specs.Clocks.{IsTrueByItsClock}
+use Rattle.irig_lines.specs.Edges.{IsQuartz}
+use Rattle.irig_lines.specs.Lines.{IsLineOf, IsTrueLately, line_of}
 use Rattle.irig_timekeeper.specs.Keeping.{Keeping, new_keeping, vote_at, answer_at, stamp_at}
 use Rattle.irig_timekeeper.specs.Truth.{IsDevice, IsToldInHoldover, IsStampedTruly}
 use Rattle.irig_timekeeper.specs.Life.{Call, Made, life_of, AreInOrder, AreTrueAtTicks, after_calls}
 use Rattle.irig_timekeeper.specs.Life.Call.{Hear, Tick}
-use Rattle.irig_timekeeper.proofs.LineLaws.{true_lately}
+use Rattle.irig_lines.proofs.LineLaws.{true_lately}
 use Rattle.irig_timekeeper.proofs.LifeLaws.{TellAlwaysTruly, device_true}
 use Rattle.irig_timekeeper.proofs.StampLaws.{stamped}
 use Rattle.irig_timekeeper.proofs.StrayLaws.{never_strays}
+use Rattle.irig_timekeeper.proofs.ClockLines.{clocks_tell_truly}
 use Rattle.irig_lives.proofs.SentLines.{sent_is_checked, checked_is_line}
 use Rattle.irig_lives.proofs.LifeFacts.{at, noon, no_delays, no_table, is_device, rules, claim_of, new_lines, are_new, silence, frame_0, frame_1, frame_2, told_0, told_1, true_claim, width_of}
 use Rattle.irig_lives.specs.Decided.{is_after, have_risen, in_order, is_same, is_pulse_of, last_before, are_lately, are_true_lately, are_true_at_ticks}
-use Rattle.irig_lives.proofs.DecidedLaws.{order_is, truly_is}
+use Rattle.irig_lives.proofs.DecidedLaws.{order_is, still_true, truly_is}
+use Rattle.irig_timekeeper.specs.Rule.{step_checked, goes_against}
 
 -- ---- the world
 
-abbrev edges : ℕ → ℕ
-edges n = 1000000 + 1000001 * n
+abbrev pub exact_edges : ℕ → ℕ
+exact_edges n = 1000000 + 1000001 * n
 
-steady : IsQuartz 1 edges
-steady = record { few = omega arith; steady = record { least = λ n. omega arith; most = λ n. omega arith } }
+abbrev edges : ℕ → ℕ
+edges = exact_edges
+
+pub exact_steady : IsQuartz 1 exact_edges
+exact_steady = record { few = omega arith; steady = record { least = λ n. omega arith; most = λ n. omega arith } }
 
 -- lines that are so exact
 abbrev clock_of : ℕ → ClockRules
-clock_of within = record { reader_rules = record { lock_after = 1; holdover = 100 }; redundancy = of.Three; within = within_of within; drift_us = 1; delays = no_delays }
+clock_of within = record { reader_rules = record { lock_after = 1; holdover = 100 }; redundancy = of.Three; within = within_of within; drift_us = 1; delays = no_delays; prefers_frames = false }
 
 abbrev clock : ClockRules
 clock = clock_of 10
 
 by_counter : IsDevice noon 1 edges clock.reader_rules no_table
-by_counter = record { steady = steady; sound = is_device.sound; knows = is_device.knows; short = omega arith }
+by_counter = record { steady = exact_steady; sound = is_device.sound; knows = is_device.knows; short = omega arith }
 
 -- ---- the line that is true: two frames
 
@@ -140,6 +146,7 @@ beat_1 = record {
   bound_us = 10;
   missed = 0;
   moved = 0;
+  against_table = false;
 }
 
 -- without line 1 the frames end 10 us before the edge, at 3,000,002, and 8 us behind it. The lines agree on
@@ -152,10 +159,11 @@ beat_2 = record {
   bound_us = 19;
   missed = 0;
   moved = 0;
+  against_table = false;
 }
 
 answers : (answer_at (after_calls (device clock) calls_1) (now_1 % 2 ^ 32) ≡ Some beat_1) × (answer_at (after_calls (device clock) calls_2) (now_2 % 2 ^ 32) ≡ Some beat_2)
-unfolding calls_1 calls_2 elements with_element with_tick width_of frames lies lie step_of told_of frame_told coded_told ones values_of field_at control_of offset_in utc_minute is_month_end four_years
+unfolding calls_1 calls_2 elements with_element with_tick width_of frames lies lie step_checked goes_against step_of told_of frame_told coded_told ones values_of field_at control_of offset_in utc_minute is_month_end four_years
 answers = (refl, refl)
 
 -- an event a quarter of a second behind the last edge
@@ -163,29 +171,29 @@ abbrev stamp : Stamp
 stamp = record { second = at 43202; offset_us = 250000; bound_us = 19 }
 
 stamp_is : stamp_at (after_calls (device clock) (Tick now_2 ∷ calls_2)) 3250001 ≡ Some stamp
-unfolding calls_2 elements with_element with_tick width_of frames lies lie step_of told_of frame_told coded_told ones values_of field_at control_of offset_in utc_minute is_month_end four_years
+unfolding calls_2 elements with_element with_tick width_of frames lies lie step_checked goes_against step_of told_of frame_told coded_told ones values_of field_at control_of offset_in utc_minute is_month_end four_years
 stamp_is = refl
 
 -- ---- so the laws speak of it
 
-truly : TellAlwaysTruly (IsTrueLately 10 rules noon edges) 10 1 rules noon edges 0 0
-truly now end pulses claim is frame soon = true_lately (within_of 10) rules noon 1 edges now end pulses claim steady is frame soon
+pub exact_truly : TellAlwaysTruly (IsTrueLately 10 rules noon exact_edges) 10 1 rules noon exact_edges 0 0
+exact_truly now end pulses claim is frame soon = true_lately (within_of 10) rules noon 1 exact_edges now end pulses claim exact_steady is frame soon
 
 first_told : IsToldInHoldover noon edges 0 0 10 1 100 now_1 beat_1 (at 43201)
-first_told = device_true None rules clock no_table new_lines 900000 are_new (IsTrueLately 10 rules noon edges) noon edges 0 0 by_counter (omega arith) truly calls_1 now_1 beat_1 (at 43201) order.0 truth.0 answers.0 refl
+first_told = device_true None rules clock no_table new_lines 900000 are_new (IsTrueLately 10 rules noon edges) noon edges 0 0 by_counter (omega arith) exact_truly calls_1 now_1 beat_1 (at 43201) order.0 truth.0 answers.0 refl
 
 next_told : IsToldInHoldover noon edges 0 0 10 1 100 now_2 beat_2 (at 43202)
-next_told = device_true None rules clock no_table new_lines 900000 are_new (IsTrueLately 10 rules noon edges) noon edges 0 0 by_counter (omega arith) truly calls_2 now_2 beat_2 (at 43202) order.1.3 truth.1 answers.1 refl
+next_told = device_true None rules clock no_table new_lines 900000 are_new (IsTrueLately 10 rules noon edges) noon edges 0 0 by_counter (omega arith) exact_truly calls_2 now_2 beat_2 (at 43202) order.1.3 truth.1 answers.1 refl
 
 stamp_true : IsStampedTruly noon edges 0 3250001 stamp
 stamp_true =
-    stamped None rules clock no_table new_lines 900000 are_new noon edges 0 0 0 by_counter (omega arith) (omega arith) (IsTrueLately 10 rules noon edges) (omega arith) truly
+    stamped None rules clock no_table new_lines 900000 are_new noon edges 0 0 0 by_counter (omega arith) (omega arith) (IsTrueLately 10 rules noon edges) (omega arith) exact_truly
     (Tick now_2 ∷ calls_2) 3250001 asked order.1 truth.1 (omega arith) (omega arith) stamp stamp_is
 
 -- the first vote leaves 20 us, from 1,999,990 on; a second later, by a counter that runs 1 us a second
 -- wrong, 22 us from 2,999,989 on, of which the second vote, with 38 us from 2,999,982 on, cuts nothing
 known : (after_calls (device clock) (Tick now_2 ∷ calls_2)).state.interval ≡ Some (record { begin_us = 2999989; long_us = 22 })
-unfolding calls_2 elements with_element with_tick width_of frames lies lie step_of told_of frame_told coded_told ones values_of field_at control_of offset_in utc_minute is_month_end four_years
+unfolding calls_2 elements with_element with_tick width_of frames lies lie step_checked goes_against step_of told_of frame_told coded_told ones values_of field_at control_of offset_in utc_minute is_month_end four_years
 known = refl
 
 made : Made
@@ -206,5 +214,22 @@ off is = elim is.are [
 
 -- and of lines that are to be less than 9 us off, no two agree that end 18 us apart
 apart : vote_at (after_calls (device (clock_of 9)) calls_2) (now_2 % 2 ^ 32) ≡ None
-unfolding calls_2 elements with_element with_tick width_of frames lies lie step_of told_of frame_told coded_told ones values_of field_at control_of offset_in utc_minute is_month_end four_years
+unfolding calls_2 elements with_element with_tick width_of frames lies lie step_checked goes_against step_of told_of frame_told coded_told ones values_of field_at control_of offset_in utc_minute is_month_end four_years
 apart = refl
+
+-- ---- clocks that are all 10 us late: the same pulses, by seconds of UTC that begin so much earlier
+
+abbrev utc : ℕ → ℕ
+utc n = 999990 + 1000001 * n
+
+by_utc : IsDevice noon 1 utc clock.reader_rules no_table
+by_utc = record { steady = record { few = omega arith; steady = record { least = λ n. omega arith; most = λ n. omega arith } }; sound = is_device.sound; knows = is_device.knows; short = omega arith }
+
+by_clocks : (now : ℕ) (pulses : List Pulse) → IsTrueLately 10 rules noon edges now pulses → IsTrueByItsClock 10 10 1 rules noon utc now pulses
+by_clocks now pulses is = record { own = edges; steady = exact_steady; near = λ n. record { least = omega arith; most = omega arith }; truth = is }
+
+-- the edge that is told lies 9 us behind that of UTC, 2,999,992: no more than its bound, 19 us, and 10 us
+told_late : IsToldInHoldover noon utc 10 10 10 1 100 now_2 beat_2 (at 43202)
+told_late =
+    device_true None rules clock no_table new_lines 900000 are_new (IsTrueByItsClock 10 10 1 rules noon utc) noon utc 10 10 by_utc (omega arith) (clocks_tell_truly 10 (within_of 10) rules noon 1 utc) calls_2 now_2 beat_2
+    (at 43202) order.1.3 (still_true (IsTrueLately 10 rules noon edges) (IsTrueByItsClock 10 10 1 rules noon utc) by_clocks 1 (Tick now_2 ∷ calls_2) truth.1) answers.1 refl

@@ -17,10 +17,10 @@ use Rattle.irig_reader.specs.declared.report.Cause.TheVariants as cause
 use Rattle.irig_reader.specs.Rule.{step_of}
 use Rattle.irig_sync.proofs.EdgeLaws.{even_element}
 use Rattle.irig_timekeeper.specs.declared.clock.Beat.{Beat}
-use Rattle.irig_timekeeper.specs.declared.setup.ClockRules.{ClockRules}
-use Rattle.irig_timekeeper.specs.Refusals.{within_of}
+use Rattle.irig_lines.specs.declared.setup.ClockRules.{ClockRules}
+use Rattle.irig_lines.specs.Refusals.{within_of}
 use Rattle.irig_timekeeper.specs.declared.stamp.Stamp.{Stamp}
-use Rattle.irig_timekeeper.specs.Lines.{HasOneFaultInPlace, IsTrueLately, IsTrueButForFaults, IsTrueOrFaulty}
+use Rattle.irig_lines.specs.Lines.{HasOneFaultInPlace, IsTrueLately, IsTrueButForFaults, IsTrueOrFaulty}
 use Rattle.irig_timekeeper.specs.Keeping.{Keeping, new_keeping, answer_at, stamp_at}
 use Rattle.irig_timekeeper.specs.Truth.{IsDevice, IsToldInHoldover, IsStampedTruly}
 use Rattle.irig_timekeeper.specs.Life.{Call, pulses_on, AreInOrder, AreTrueAtTicks, after_calls}
@@ -32,9 +32,10 @@ use Rattle.irig_lives.proofs.LifeFacts.{noon, rules, no_delays, no_table, is_dev
 use Rattle.irig_lives.specs.Decided.{is_after, have_risen, in_order}
 use Rattle.irig_lives.proofs.DecidedLaws.{order_is}
 use Rattle.irig_lives.proofs.FaultLineFacts.{fast, fast_steady, claim, line, is_checked, pulses, are, is_pulse, rest_is}
+use Rattle.irig_timekeeper.specs.Rule.{step_checked, goes_against}
 
 abbrev clock : ClockRules
-clock = record { reader_rules = record { lock_after = 1; holdover = 100 }; redundancy = of.One; within = within_of 450; drift_us = 100; delays = no_delays }
+clock = record { reader_rules = record { lock_after = 1; holdover = 100 }; redundancy = of.One; within = within_of 450; drift_us = 100; delays = no_delays; prefers_frames = false }
 
 by_counter : IsDevice noon 100 fast clock.reader_rules no_table
 by_counter = record { steady = fast_steady; sound = is_device.sound; knows = is_device.knows; short = is_device.short }
@@ -159,10 +160,11 @@ beat = record {
   bound_us = 450;
   missed = 0;
   moved = 0;
+  against_table = false;
 }
 
 answer : answer_at (after_calls device calls) (now % 2 ^ 32) ≡ Some beat
-unfolding calls heard line step_of told_of frame_told coded_told ones values_of field_at control_of offset_in utc_minute is_month_end four_years
+unfolding calls heard line step_checked goes_against step_of told_of frame_told coded_told ones values_of field_at control_of offset_in utc_minute is_month_end four_years
 answer = refl
 
 told : IsToldInHoldover noon fast 1097 1000 450 100 100 now beat second
@@ -174,7 +176,7 @@ abbrev stamp : Stamp
 stamp = record { second = second; offset_us = 250000; bound_us = 450 }
 
 stamp_is : stamp_at (after_calls device (Tick now ∷ calls)) 2250099 ≡ Some stamp
-unfolding calls heard line step_of told_of frame_told coded_told ones values_of field_at control_of offset_in utc_minute is_month_end four_years
+unfolding calls heard line step_checked goes_against step_of told_of frame_told coded_told ones values_of field_at control_of offset_in utc_minute is_month_end four_years
 stamp_is = refl
 
 stamp_true : IsStampedTruly noon fast 1097 2250099 stamp

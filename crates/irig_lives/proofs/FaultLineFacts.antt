@@ -26,9 +26,9 @@ use Rattle.irig_gen.proofs.SentLaws.{frame_of_is}
 use Rattle.irig_gen.proofs.GenLaws.{true_frames}
 use Rattle.irig_port.specs.Told.{told_of}
 use Rattle.irig_port.proofs.CarriesLaws.{carries_is_told}
-use Rattle.irig_timekeeper.specs.Edges.{IsQuartz}
-use Rattle.irig_timekeeper.specs.Refusals.{within_of}
-use Rattle.irig_timekeeper.specs.Lines.{line_of, AreEven, IsLastBefore, IsFrameOf, IsCheckedLineOf, HasOneFaultInPlace, IsTrueButForFaults}
+use Rattle.irig_lines.specs.Edges.{IsQuartz}
+use Rattle.irig_lines.specs.Refusals.{within_of}
+use Rattle.irig_lines.specs.Lines.{line_of, AreEven, IsLastBefore, IsFrameOf, IsCheckedLineOf, HasOneFaultInPlace, IsTrueButForFaults}
 use Rattle.irig_timekeeper.proofs.FaultLines.{faults_are_true, dropped, taken, faultless}
 use Rattle.irig_lives.proofs.LifeFacts.{noon, rules, frame_0, told_0}
 use Rattle.irig_lives.proofs.SentLines.{sent_is_checked}

@@ -1,6 +1,6 @@
 -- Five lines, of which two lie alike: they send the next second's frame. By a counter that is 100 us a
 -- second fast a device announces the second that the other three tell.
-use Rattle.std.proofs.Common.{◌≡◌, ℕ, zero, suc, ◌+◌, ◌-◌, ◌%◌, ◌^◌, Bool, List, [], ◌∷◌, Some, None, refl, subst, arith}
+use Rattle.std.proofs.Common.{◌≡◌, ℕ, zero, suc, ◌+◌, ◌-◌, ◌%◌, ◌^◌, Bool, List, [], ◌∷◌, Some, None, refl, subst, arith, false}
 use Rattle.std.specs.Prelude.{nat_lt, get_or}
 use Rattle.irig_frame.specs.declared.symbol.Symbol.{Symbol}
 use Rattle.irig_frame.specs.declared.symbol.Symbol.TheVariants.{Bad}
@@ -19,22 +19,23 @@ use Rattle.irig_reader.specs.declared.report.Lock.TheVariants as lock
 use Rattle.irig_reader.specs.declared.report.Cause.TheVariants as cause
 use Rattle.irig_reader.specs.Rule.{step_of}
 use Rattle.irig_timekeeper.specs.declared.clock.Beat.{Beat}
-use Rattle.irig_timekeeper.specs.declared.setup.ClockRules.{ClockRules}
-use Rattle.irig_timekeeper.specs.Refusals.{within_of}
-use Rattle.irig_timekeeper.specs.Lines.{IsLineOf, IsTrueLately, line_of}
+use Rattle.irig_lines.specs.declared.setup.ClockRules.{ClockRules}
+use Rattle.irig_lines.specs.Refusals.{within_of}
+use Rattle.irig_lines.specs.Lines.{IsLineOf, IsTrueLately, line_of}
 use Rattle.irig_timekeeper.specs.Keeping.{Keeping, new_keeping, answer_at}
 use Rattle.irig_timekeeper.specs.Truth.{IsDevice, IsToldInHoldover}
 use Rattle.irig_timekeeper.specs.Life.{Call, AreInOrder, AreTrueAtTicks, after_calls}
 use Rattle.irig_timekeeper.specs.Life.Call.{Hear, Tick}
-use Rattle.irig_timekeeper.proofs.LineLaws.{true_lately}
+use Rattle.irig_lines.proofs.LineLaws.{true_lately}
 use Rattle.irig_timekeeper.proofs.LifeLaws.{device_true}
 use Rattle.irig_lives.proofs.SentLines.{sent_is_checked, checked_is_line}
 use Rattle.irig_lives.proofs.LifeFacts.{edges, steady, at, noon, no_delays, no_table, is_device, rules, claim_of, new_lines, are_new, frame_0, frame_1, told_0, true_claim, width_of}
 use Rattle.irig_lives.specs.Decided.{is_after, have_risen, in_order, is_same, is_pulse_of, last_before, are_lately, are_true_lately, are_true_at_ticks}
 use Rattle.irig_lives.proofs.DecidedLaws.{order_is, truly_is}
+use Rattle.irig_timekeeper.specs.Rule.{step_checked, goes_against}
 
 abbrev clock : ClockRules
-clock = record { reader_rules = record { lock_after = 1; holdover = 100 }; redundancy = of.Five; within = within_of 450; drift_us = 100; delays = no_delays }
+clock = record { reader_rules = record { lock_after = 1; holdover = 100 }; redundancy = of.Five; within = within_of 450; drift_us = 100; delays = no_delays; prefers_frames = false }
 
 is_device_of_five : IsDevice noon 100 edges clock.reader_rules no_table
 is_device_of_five = record { steady = steady; sound = is_device.sound; knows = is_device.knows; short = is_device.short }
@@ -93,10 +94,11 @@ beat = record {
   bound_us = 850;
   missed = 0;
   moved = 0;
+  against_table = false;
 }
 
 answer : answer_at (after_calls device calls) (now % 2 ^ 32) ≡ Some beat
-unfolding calls heard true_pulse false_pulse width_of step_of told_of frame_told coded_told ones values_of field_at control_of offset_in utc_minute is_month_end four_years
+unfolding calls heard true_pulse false_pulse width_of step_checked goes_against step_of told_of frame_told coded_told ones values_of field_at control_of offset_in utc_minute is_month_end four_years
 answer = refl
 
 told : IsToldInHoldover noon edges 0 0 450 100 100 now beat (at 43201)

@@ -2,7 +2,7 @@
 -- frame of 23:59:00, which no more speaks of a leap than any before 23:59:01, and then its line is
 -- dark. With a true table it tells a leap second that was inserted, as it was that day, and one that
 -- might have been deleted; without a table it says nothing from 23:59:59 on.
-use Rattle.std.proofs.Common.{◌≡◌, ℕ, zero, suc, ◌+◌, ◌*◌, ◌%◌, ◌^◌, List, [], ◌∷◌, Option, Some, None, refl, subst, arith, inl}
+use Rattle.std.proofs.Common.{◌≡◌, ℕ, zero, suc, ◌+◌, ◌*◌, ◌%◌, ◌^◌, List, [], ◌∷◌, Option, Some, None, refl, subst, arith, inl, false}
 use Rattle.irig_frame.specs.declared.symbol.Symbol.{Symbol}
 use Rattle.irig_frame.specs.declared.symbol.Symbol.TheVariants.{Zero, One, Marker}
 use Rattle.irig_frame.specs.Faults.{values_of, field_at}
@@ -29,20 +29,21 @@ use Rattle.irig_reader.specs.declared.report.Cause.{Cause}
 use Rattle.irig_reader.specs.declared.report.Cause.TheVariants as cause
 use Rattle.irig_reader.specs.Rule.{step_of}
 use Rattle.irig_timekeeper.specs.declared.clock.Beat.{Beat}
-use Rattle.irig_timekeeper.specs.declared.setup.ClockRules.{ClockRules}
-use Rattle.irig_timekeeper.specs.Refusals.{within_of}
-use Rattle.irig_timekeeper.specs.Edges.{IsQuartz}
-use Rattle.irig_timekeeper.specs.Lines.{IsLineOf, IsTrueLately, line_of}
+use Rattle.irig_lines.specs.declared.setup.ClockRules.{ClockRules}
+use Rattle.irig_lines.specs.Refusals.{within_of}
+use Rattle.irig_lines.specs.Edges.{IsQuartz}
+use Rattle.irig_lines.specs.Lines.{IsLineOf, IsTrueLately, line_of}
 use Rattle.irig_timekeeper.specs.Keeping.{Keeping, new_keeping, answer_at}
 use Rattle.irig_timekeeper.specs.Truth.{IsDevice, IsToldInHoldover}
 use Rattle.irig_timekeeper.specs.Life.{Call, AreInOrder, AreTrueAtTicks, after_calls}
 use Rattle.irig_timekeeper.specs.Life.Call.{Hear, Tick}
-use Rattle.irig_timekeeper.proofs.LineLaws.{true_lately}
+use Rattle.irig_lines.proofs.LineLaws.{true_lately}
 use Rattle.irig_timekeeper.proofs.LifeLaws.{device_true}
 use Rattle.irig_lives.proofs.SentLines.{sent_is_checked, checked_is_line}
 use Rattle.irig_lives.proofs.LifeFacts.{rules, no_delays, new_lines, are_new, silence, width_of, no_table}
 use Rattle.irig_lives.specs.Decided.{is_after, have_risen, in_order, is_same, is_pulse_of, last_before, are_lately, are_true_lately, are_true_at_ticks}
 use Rattle.irig_lives.proofs.DecidedLaws.{order_is, truly_is}
+use Rattle.irig_timekeeper.specs.Rule.{step_checked, goes_against}
 
 -- ---- the world
 
@@ -60,7 +61,7 @@ steady : IsQuartz 100 edges
 steady = record { few = omega arith; steady = record { least = λ n. omega arith; most = λ n. omega arith } }
 
 abbrev clock : ClockRules
-clock = record { reader_rules = record { lock_after = 1; holdover = 100 }; redundancy = of.One; within = within_of 450; drift_us = 100; delays = no_delays }
+clock = record { reader_rules = record { lock_after = 1; holdover = 100 }; redundancy = of.One; within = within_of 450; drift_us = 100; delays = no_delays; prefers_frames = false }
 
 -- 23:59:60 is inserted, or 23:59:59 deleted
 abbrev leaps : Leap → List (ℕ × Leap)
@@ -154,7 +155,7 @@ abbrev device : TableValue → Keeping
 device known = new_keeping None rules clock known new_lines
 
 abbrev held : Option UtcSecond → Lock → Cause → ℕ → ℕ → ℕ → Beat
-held announce l c edge bound missed = record { report = record { announce = announce; lock = l; cause = c }; told = silence; edge_us = edge; bound_us = bound; missed = missed; moved = 0 }
+held announce l c edge bound missed = record { report = record { announce = announce; lock = l; cause = c }; told = silence; edge_us = edge; bound_us = bound; missed = missed; moved = 0; against_table = false }
 
 abbrev voted : Beat
 voted = record {
@@ -164,31 +165,32 @@ voted = record {
   bound_us = 450;
   missed = 0;
   moved = 0;
+  against_table = false;
 }
 
 -- 23:59:01 by the vote of its one line, at the end of its frame: the bound is 449 us and the drift of an
 -- element
 answer_1 : answer_at (after_calls (device (knows_leap leap.Insert)) calls_1) now_1 ≡ Some voted
-unfolding calls_1 heard width_of step_of told_of frame_told coded_told ones values_of field_at control_of offset_in utc_minute is_month_end four_years
+unfolding calls_1 heard width_of step_checked goes_against step_of told_of frame_told coded_told ones values_of field_at control_of offset_in utc_minute is_month_end four_years
 answer_1 = refl
 
 -- 23:59:60 and the new year, with a table that has the leap second: the bound is 100 us more for each
 -- second of the holdover
 inserted : (answer_at (after_calls (device (knows_leap leap.Insert)) calls_2) (behind 59) ≡ Some (held (Some (at 86400)) (lock.Holdover 59) cause.Held 61000099 6350 58))
     × (answer_at (after_calls (device (knows_leap leap.Insert)) (calls_3 59)) (behind 60) ≡ Some (held (Some new_year) (lock.Holdover 60) cause.Held 62000099 6450 0))
-unfolding calls_1 heard width_of step_of told_of frame_told coded_told ones values_of field_at control_of offset_in utc_minute is_month_end four_years
+unfolding calls_1 heard width_of step_checked goes_against step_of told_of frame_told coded_told ones values_of field_at control_of offset_in utc_minute is_month_end four_years
 inserted = (refl, refl)
 
 -- 23:59:58 and the new year, with one that has a deletion
 deleted : (answer_at (after_calls (device (knows_leap leap.Delete)) calls_2) (behind 57) ≡ Some (held (Some (at 86398)) (lock.Holdover 57) cause.Held 59000099 6150 56))
     × (answer_at (after_calls (device (knows_leap leap.Delete)) (calls_3 57)) (behind 58) ≡ Some (held (Some new_year) (lock.Holdover 58) cause.Held 60000099 6250 0))
-unfolding calls_1 heard width_of step_of told_of frame_told coded_told ones values_of field_at control_of offset_in utc_minute is_month_end four_years
+unfolding calls_1 heard width_of step_checked goes_against step_of told_of frame_told coded_told ones values_of field_at control_of offset_in utc_minute is_month_end four_years
 deleted = (refl, refl)
 
 -- 23:59:58 and nothing more, without a table: then no holdover lasts, and the bound is the vote's
 unknown : (answer_at (after_calls (device no_table) calls_2) (behind 57) ≡ Some (held (Some (at 86398)) (lock.Holdover 57) cause.Held 59000099 6150 56))
     × (answer_at (after_calls (device no_table) (calls_3 57)) (behind 58) ≡ Some (held None lock.Unlocked cause.LeapGuard 60000099 450 0))
-unfolding calls_1 heard width_of step_of told_of frame_told coded_told ones values_of field_at control_of offset_in utc_minute is_month_end four_years
+unfolding calls_1 heard width_of step_checked goes_against step_of told_of frame_told coded_told ones values_of field_at control_of offset_in utc_minute is_month_end four_years
 unknown = (refl, refl)
 
 -- ---- so the law speaks of it

@@ -11,6 +11,7 @@ pub mod MisledLaws
 pub mod LockedLaws
 pub mod MisledByTable
 pub mod LeapFacts
+pub mod GuardFacts
 pub mod FiveFacts
 pub mod StampFacts
 pub mod FaultLifeFacts

@@ -38,26 +38,29 @@ use Rattle.irig_reader.specs.declared.report.Lock.TheVariants as lock
 use Rattle.irig_reader.specs.declared.report.Cause.TheVariants as cause
 use Rattle.irig_reader.specs.Rule.{step_of}
 use Rattle.irig_sync.proofs.EdgeLaws.{even_element}
-use Rattle.irig_timekeeper.specs.declared.lines.Line.{Line}
-use Rattle.irig_timekeeper.specs.declared.lines.Lines.{Lines}
-use Rattle.irig_timekeeper.specs.declared.lines.Vote.{Vote}
+use Rattle.irig_lines.specs.declared.lines.Line.{Line}
+use Rattle.irig_lines.specs.declared.lines.Lines.{Lines}
+use Rattle.irig_lines.specs.declared.lines.Vote.{Vote}
 use Rattle.irig_timekeeper.specs.declared.clock.Beat.{Beat}
-use Rattle.irig_timekeeper.specs.declared.delay.Delays.{Delays}
-use Rattle.irig_timekeeper.specs.declared.setup.ClockRules.{ClockRules}
-use Rattle.irig_timekeeper.specs.Refusals.{within_of}
-use Rattle.irig_timekeeper.specs.Edges.{IsQuartz}
-use Rattle.irig_timekeeper.specs.Lines.{IsLineOf, IsTrueLately}
-use Rattle.irig_timekeeper.specs.Steps.{IsNewLine, AreNewLines}
+use Rattle.irig_lines.specs.declared.delay.Delays.{Delays}
+use Rattle.irig_lines.specs.declared.setup.ClockRules.{ClockRules}
+use Rattle.irig_lines.specs.Refusals.{within_of}
+use Rattle.irig_lines.specs.Clocks.{IsTrueByItsClock}
+use Rattle.irig_lines.specs.Edges.{IsQuartz}
+use Rattle.irig_lines.specs.Lines.{IsLineOf, IsTrueLately}
+use Rattle.irig_lines.specs.Steps.{IsNewLine, AreNewLines}
 use Rattle.irig_timekeeper.specs.Keeping.{Keeping, new_keeping, restarted, after_pulse, after_tick, vote_at, answer_at, stamp_at}
 use Rattle.irig_timekeeper.specs.Truth.{IsDevice, IsToldInHoldover, IsLaterSecond}
 use Rattle.irig_timekeeper.specs.Life.{Made, life_of, Call, Made, AreTrueLately, last_tick, AreInOrder, AreTrueAtTicks, after_calls}
 use Rattle.irig_timekeeper.specs.Life.Call.{Hear, Tick}
 use Rattle.irig_timekeeper.specs.Healing.{HasHealed}
-use Rattle.irig_timekeeper.proofs.LineLaws.{true_lately}
+use Rattle.irig_lines.proofs.LineLaws.{true_lately}
 use Rattle.irig_timekeeper.proofs.LifeLaws.{TellAlwaysTruly, device_true, device_in_order}
 use Rattle.irig_timekeeper.proofs.StrayLaws.{never_strays}
+use Rattle.irig_timekeeper.proofs.ClockLines.{clocks_tell_truly}
 use Rattle.irig_lives.specs.Decided.{is_after, have_risen, in_order, is_same, is_pulse_of, last_before, are_lately, are_true_lately, are_true_at_ticks}
-use Rattle.irig_lives.proofs.DecidedLaws.{both, order_is, truly_is}
+use Rattle.irig_lives.proofs.DecidedLaws.{both, order_is, still_true, truly_is}
+use Rattle.irig_timekeeper.specs.Rule.{step_checked, goes_against}
 
 -- ---- the world
 
@@ -79,7 +82,7 @@ is_timeline = record { sound = refl }
 abbrev pub no_table : TableValue
 no_table = table 0 []
 
-true_table : IsTrueTable noon no_table
+pub true_table : IsTrueTable noon no_table
 true_table = record { leaps = λ day end from to. absurd (omega (arith, from, to)) }
 
 -- no line is late
@@ -87,7 +90,7 @@ abbrev pub no_delays : Delays
 no_delays = record { a = pos 0; b = pos 0; c = pos 0; d = pos 0; e = pos 0 }
 
 abbrev pub clock : ClockRules
-clock = record { reader_rules = record { lock_after = 2; holdover = 100 }; redundancy = of.Three; within = within_of 450; drift_us = 100; delays = no_delays }
+clock = record { reader_rules = record { lock_after = 2; holdover = 100 }; redundancy = of.Three; within = within_of 450; drift_us = 100; delays = no_delays; prefers_frames = false }
 
 pub is_device : IsDevice noon 100 edges clock.reader_rules no_table
 is_device = record { steady = steady; sound = is_timeline; knows = inl true_table; short = omega arith }
@@ -313,6 +316,7 @@ beat_3 = record {
   bound_us = 850;
   missed = 0;
   moved = 0;
+  against_table = false;
 }
 
 -- a second later by the own counter, which drifts 100 us more
@@ -324,14 +328,15 @@ beat_4 = record {
   bound_us = 950;
   missed = 0;
   moved = 0;
+  against_table = false;
 }
 
 answer_3 : answer_at (after_calls device calls_3) (now_3 % 2 ^ 32) ≡ Some beat_3
-unfolding calls_3 elements_before with_element pulse_told with_tick width_of lie line frame step_of told_of frame_told coded_told ones values_of field_at control_of offset_in utc_minute is_month_end four_years
+unfolding calls_3 elements_before with_element pulse_told with_tick width_of lie line frame step_checked goes_against step_of told_of frame_told coded_told ones values_of field_at control_of offset_in utc_minute is_month_end four_years
 answer_3 = refl
 
 pub answer_4 : answer_at (after_calls device (Tick now_3 ∷ calls_3)) (now_4 % 2 ^ 32) ≡ Some beat_4
-unfolding calls_3 elements_before with_element pulse_told with_tick width_of lie line frame step_of told_of frame_told coded_told ones values_of field_at control_of offset_in utc_minute is_month_end four_years
+unfolding calls_3 elements_before with_element pulse_told with_tick width_of lie line frame step_checked goes_against step_of told_of frame_told coded_told ones values_of field_at control_of offset_in utc_minute is_month_end four_years
 answer_4 = refl
 
 -- so the laws speak of it
@@ -340,6 +345,22 @@ truly_told now end pulses claim is frame soon = true_lately (within_of 450) rule
 
 told_4 : IsToldInHoldover noon edges 0 0 450 100 100 now_4 beat_4 (at 43204)
 told_4 = device_true None rules clock no_table new_lines 4293400000 are_new (IsTrueLately 450 rules noon edges) noon edges 0 0 is_device (omega arith) truly_told (Tick now_3 ∷ calls_3) now_4 beat_4 (at 43204) order_4 truth_4 answer_4 refl
+
+-- clocks that are all 1 ms early: by seconds of UTC that begin so much later the edge that is told lies no
+-- further off than its bound, 950 us, and 1 ms
+abbrev utc : ℕ → ℕ
+utc n = 4293501000 + 1000100 * n
+
+by_utc : IsDevice noon 100 utc clock.reader_rules no_table
+by_utc = record { steady = record { few = omega arith; steady = record { least = λ n. omega arith; most = λ n. omega arith } }; sound = is_timeline; knows = inl true_table; short = omega arith }
+
+by_clocks : (now : ℕ) (pulses : List Pulse) → IsTrueLately 450 rules noon edges now pulses → IsTrueByItsClock 1000 450 100 rules noon utc now pulses
+by_clocks now pulses is = record { own = edges; steady = steady; near = λ n. record { least = omega arith; most = omega arith }; truth = is }
+
+told_early : IsToldInHoldover noon utc 1000 1000 450 100 100 now_4 beat_4 (at 43204)
+told_early =
+    device_true None rules clock no_table new_lines 4293400000 are_new (IsTrueByItsClock 1000 450 100 rules noon utc) noon utc 1000 1000 by_utc (omega arith) (clocks_tell_truly 1000 (within_of 450) rules noon 100 utc)
+    (Tick now_3 ∷ calls_3) now_4 beat_4 (at 43204) order_4 (still_true (IsTrueLately 450 rules noon edges) (IsTrueByItsClock 1000 450 100 rules noon utc) by_clocks 1 life_4 truth_4) answer_4 refl
 
 -- the vote of the tick before leaves 1,700 us, from 851 us before the edge on, and a second later the
 -- counter's drift 100 us more at each end; no vote contradicted another
@@ -361,7 +382,7 @@ abbrev vote_3 : Vote
 vote_3 = record { claim = claim_of 43202; edge_us = 1533003; bound_us = 850 }
 
 voted_3 : vote_at (after_calls device calls_3) (now_3 % 2 ^ 32) ≡ Some vote_3
-unfolding calls_3 elements_before with_element with_tick width_of lie line frame step_of told_of frame_told coded_told ones values_of field_at control_of offset_in utc_minute is_month_end four_years pulse_told
+unfolding calls_3 elements_before with_element with_tick width_of lie line frame step_checked goes_against step_of told_of frame_told coded_told ones values_of field_at control_of offset_in utc_minute is_month_end four_years pulse_told
 voted_3 = refl
 
 healed_4 : HasHealed (IsTrueLately 450) noon edges made 4293400000 life_4
@@ -370,7 +391,7 @@ healed_4 = record { is = is_device; order = order_4; later = Tick now_4 ∷ []; 
 -- an event 0.25 s behind the last edge is stamped with its second, 2 ms before it with the one before
 stamp_4 : (stamp_at (after_tick (after_calls device (Tick now_3 ∷ calls_3)) (now_4 % 2 ^ 32)) 2783003 ≡ Some (record { second = at 43204; offset_us = 250000; bound_us = 950 }))
     × (stamp_at (after_tick (after_calls device (Tick now_3 ∷ calls_3)) (now_4 % 2 ^ 32)) 2531003 ≡ Some (record { second = at 43203; offset_us = 998000; bound_us = 850 }))
-unfolding calls_3 elements_before with_element pulse_told with_tick width_of lie line frame step_of told_of frame_told coded_told ones values_of field_at control_of offset_in utc_minute is_month_end four_years
+unfolding calls_3 elements_before with_element pulse_told with_tick width_of lie line frame step_checked goes_against step_of told_of frame_told coded_told ones values_of field_at control_of offset_in utc_minute is_month_end four_years
 stamp_4 = (refl, refl)
 
 -- ---- the same pulses by a loop that has a queue for each line, and paused for the third second: it
@@ -392,7 +413,7 @@ unfolding by_lines queued elements_before with_element pulse_told with_tick widt
 truth_by_lines = truly_is 450 rules noon edges line is_line 400 1 (Tick now_3 ∷ by_lines) refl
 
 answer_by_lines : answer_at (after_calls device by_lines) (now_3 % 2 ^ 32) ≡ Some beat_3
-unfolding by_lines queued elements_before with_element pulse_told with_tick width_of lie line frame step_of told_of frame_told coded_told ones values_of field_at control_of offset_in utc_minute is_month_end four_years
+unfolding by_lines queued elements_before with_element pulse_told with_tick width_of lie line frame step_checked goes_against step_of told_of frame_told coded_told ones values_of field_at control_of offset_in utc_minute is_month_end four_years
 answer_by_lines = refl
 
 told_by_lines : IsToldInHoldover noon edges 0 0 450 100 100 now_3 beat_3 (at 43203)

@@ -1,6 +1,6 @@
 -- What a tick leaves that announces by a vote, and what a device says that then hears nothing.
 use Rattle.std.specs.Prelude.{◌==◌, ◌&&◌}
-use Rattle.std.proofs.Common.{◌≡◌, ◌∙◌, ℕ, zero, suc, ◌+◌, ◌-◌, ◌*◌, ◌<◌, ◌≤◌, false, Option, Some, None, Ok, refl, sym, ap, subst, arith, inl, inr}
+use Rattle.std.proofs.Common.{◌≡◌, ◌∙◌, ℕ, zero, suc, ◌+◌, ◌-◌, ◌*◌, ◌<◌, ◌≤◌, false, Option, Some, None, Ok, refl, sym, ap, subst, arith, inl, inr, Bool}
 use Rattle.std.proofs.lemmas.Bool.{cases_Bool}
 use Rattle.irig_time.specs.declared.second.UtcSecond.{UtcSecond}
 use Rattle.irig_time.specs.declared.claim.Claim.{Claim}
@@ -22,18 +22,20 @@ use Rattle.irig_reader.specs.Locking.{voted_report}
 use Rattle.irig_reader.specs.Rule.{count_step, holdover_step, step_of}
 use Rattle.irig_reader.proofs.StepCases.{count_cases, vote_cases, none_cases}
 use Rattle.irig_timekeeper.specs.declared.clock.Beat.{Beat}
-use Rattle.irig_timekeeper.specs.declared.setup.ClockRules.{ClockRules}
+use Rattle.irig_lines.specs.declared.setup.ClockRules.{ClockRules}
 use Rattle.irig_timekeeper.specs.declared.clock.ClockState.{ClockState}
-use Rattle.irig_timekeeper.specs.declared.lines.Lines.{Lines}
-use Rattle.irig_timekeeper.specs.declared.lines.Vote.{Vote}
-use Rattle.irig_timekeeper.specs.Counting.{edges_own, edges_to_vote, edge_behind}
-use Rattle.irig_timekeeper.specs.Steps.{settled, taken, agreed, if_come}
-use Rattle.irig_timekeeper.specs.Rule.{missed, step_behind}
+use Rattle.irig_lines.specs.declared.lines.Lines.{Lines}
+use Rattle.irig_lines.specs.declared.lines.Vote.{Vote}
+use Rattle.irig_lines.specs.Counting.{edges_own, edges_to_vote, edge_behind}
+use Rattle.irig_lines.specs.Steps.{settled, taken, agreed, if_come}
+use Rattle.irig_timekeeper.specs.Rule.{missed, step_behind, against_table, step_checked, goes_against}
 use Rattle.irig_timekeeper.specs.Clock.{bound_of, beat_by, step_to, after_vote, answer_to_vote, after_own, answer_alone, own_edge, clock_by, answer_by, settled_at, is_unsteady}
 use Rattle.irig_timekeeper.specs.Keeping.{Keeping, vote_at, after_tick, answer_at}
 use Rattle.irig_timekeeper.proofs.DoubtedSteps.{says_all}
 use Rattle.irig_timekeeper.proofs.EvenLaws.{dark_is_steady}
 use Rattle.irig_timekeeper.proofs.SinceLaws.{begun_age, voted_age}
+use Rattle.irig_timekeeper.proofs.CheckedSteps.{checked_cases, passes}
+use Rattle.irig_timekeeper.proofs.GuardLaws.{on_time_passes}
 
 -- ---- a step that announces by a vote
 
@@ -63,16 +65,23 @@ module _ (rules : ReaderRules) (table : TableValue) where
     | inr other ↦ let jump : turn.Jump ≡ turn.Now w = rw other at e in absurd cc
   ]
 
-  voted_locks : (u : UtcSecond) (s : State) (c : Claim) → IfAnnounced u (step_of rules table s (Some c))
+  rule_locks : (u : UtcSecond) (s : State) (c : Claim) → IfAnnounced u (step_of rules table s (Some c))
   unfolding IfAnnounced
-  voted_locks u s c =
+  rule_locks u s c =
       vote_cases (IfAnnounced u) rules table s c (λ h e. counted u h 1 (begun_age c.at c.mark (next_of c.at (spoken_mark table c.mark c.at.day)) h e)) (λ stop says. absurd cc)
       (λ h count w is e. counted u (voted_by table h c).new (count + 1) (voted_age table h c w e))
       (λ h w is e says. (let same : w ≡ u = cc in record { h = (voted_by table h c).new; is = refl; last = voted_last h c w e ∙ same; age = voted_age table h c w e }))
 
+  voted_locks : (prefers : Bool) (u : UtcSecond) (s : State) (c : Claim) → IfAnnounced u (step_checked prefers rules table s (Some c))
+  unfolding IfAnnounced
+  voted_locks prefers u s c = checked_cases prefers rules table s (Some c) (λ step. step.report.announce ≡ Some u → IsLockedAt u step.state) (rule_locks u s c) (λ says. absurd cc)
+
   -- without a vote none is so
-  never_alone : (s : State) → ¬ ((step_of rules table s None).report.lock ≡ lock.Locked)
-  never_alone s = none_cases (λ step. ¬ (step.report.lock ≡ lock.Locked)) rules table s (λ c e. (let no : lock.Unlocked ≡ lock.Locked = e in cc)) (λ h w is e says. (let other : lock.Holdover (alone_by table h rules.holdover).new.age ≡ lock.Locked = says in cc))
+  rule_never : (s : State) → ¬ ((step_of rules table s None).report.lock ≡ lock.Locked)
+  rule_never s = none_cases (λ step. ¬ (step.report.lock ≡ lock.Locked)) rules table s (λ c e. (let no : lock.Unlocked ≡ lock.Locked = e in cc)) (λ h w is e says. (let other : lock.Holdover (alone_by table h rules.holdover).new.age ≡ lock.Locked = says in cc))
+
+  never_alone : (prefers : Bool) (s : State) → ¬ ((step_checked prefers rules table s None).report.lock ≡ lock.Locked)
+  never_alone prefers s = checked_cases prefers rules table s None (λ step. ¬ (step.report.lock ≡ lock.Locked)) (rule_never s) (λ e. (let no : lock.Unlocked ≡ lock.Locked = e in cc))
 
 -- ---- a tick that does
 
@@ -91,9 +100,9 @@ module _ (c : ClockRules) (table : TableValue) (s : ClockState) (u : UtcSecond) 
   left_alone n e = elim (cases_Bool (n == 0)) [
     | inl none ↦ let no : None ≡ Some beat = rw none at e in absurd cc
     | inr some ↦
-        let is : Some (beat_by c s (step_to c table s n None) (n - 1) (own_edge s.edge_us n) s.bound_us) ≡ Some beat = rw some at e in
-        let same : beat_by c s (step_to c table s n None) (n - 1) (own_edge s.edge_us n) s.bound_us ≡ beat = cc in
-        absurd (never_alone c.reader_rules table (missed c.reader_rules table (n - 1) s.reader) (ap (λ (b : Beat). b.report.lock) same ∙ ap (λ (r : Report). r.lock) says))
+        let is : Some (beat_by c s false (step_to c table s n None) (n - 1) (own_edge s.edge_us n) s.bound_us) ≡ Some beat = rw some at e in
+        let same : beat_by c s false (step_to c table s n None) (n - 1) (own_edge s.edge_us n) s.bound_us ≡ beat = cc in
+        absurd (never_alone c.reader_rules table c.prefers_frames (missed c.prefers_frames c.reader_rules table (n - 1) s.reader) (ap (λ (b : Beat). b.report.lock) same ∙ ap (λ (r : Report). r.lock) says))
   ]
 
   left_voted : (v : Vote) (n : ℕ) → answer_to_vote c table s v n ≡ Some beat → IsLeft u beat (after_vote c table s v n)
@@ -101,9 +110,9 @@ module _ (c : ClockRules) (table : TableValue) (s : ClockState) (u : UtcSecond) 
   left_voted v n e = elim (cases_Bool (n == 0)) [
     | inl none ↦ let no : None ≡ Some beat = rw none at e in absurd cc
     | inr some ↦
-        let is : Some (beat_by c s (step_to c table s n (Some v.claim)) (n - 1) v.edge_us v.bound_us) ≡ Some beat = rw some at e in
-        let same : beat_by c s (step_to c table s n (Some v.claim)) (n - 1) v.edge_us v.bound_us ≡ beat = cc in
-        let locked = voted_locks c.reader_rules table u (missed c.reader_rules table (n - 1) s.reader) v.claim (ap (λ (b : Beat). b.report.announce) same ∙ ap (λ (r : Report). r.announce) says) in
+        let is : Some (beat_by c s (against_table table (Some v.claim)) (step_to c table s n (Some v.claim)) (n - 1) v.edge_us v.bound_us) ≡ Some beat = rw some at e in
+        let same : beat_by c s (against_table table (Some v.claim)) (step_to c table s n (Some v.claim)) (n - 1) v.edge_us v.bound_us ≡ beat = cc in
+        let locked = voted_locks c.reader_rules table c.prefers_frames u (missed c.prefers_frames c.reader_rules table (n - 1) s.reader) v.claim (ap (λ (b : Beat). b.report.announce) same ∙ ap (λ (r : Report). r.announce) says) in
         let none : v.bound_us + 0 * c.drift_us ≡ v.bound_us = omega arith in
         let bound : beat.bound_us ≡ v.bound_us =
         ap (λ (b : Beat). b.bound_us) (sym same)
@@ -144,19 +153,19 @@ pub record SaysAlone (k : Keeping) (clock e n : ℕ) (u : UtcSecond) : Type 0 wh
   pub bound : k.state.bound_us ≤ beat.bound_us
 
 pub says_alone : (k : Keeping) (clock e n : ℕ) (u : UtcSecond) (lines : Lines) → k.state.lines ≡ taken lines → k.state.edge_us ≡ Some e → k.state.doubt ≡ 0 → edges_own (Some e) clock ≡ suc n
-    → (step_behind k.clock.reader_rules k.table n k.state.reader None).report.announce ≡ Some u → SaysAlone k clock e n u
+    → (step_behind k.clock.prefers_frames k.clock.reader_rules k.table n k.state.reader None).report.announce ≡ Some u → SaysAlone k clock e n u
 says_alone k clock e n u lines dark edge certain count says =
     let s : ClockState = settled_at k.clock k.state clock in
     let none : vote_at k clock ≡ None = ap (λ (x : Lines). if_come clock (agreed k.clock (settled clock x))) dark in
     let so_many : edges_own k.state.edge_us clock ≡ suc n = ap (λ (o : Option ℕ). edges_own o clock) edge ∙ count in
     let less : suc n - 1 ≡ n = omega arith in
     let some : (suc n == 0) ≡ false = grind arith in
-    let counted_on : answer_alone k.clock k.table s (suc n) ≡ Some (beat_by k.clock s (step_to k.clock k.table s (suc n) None) (suc n - 1) (own_edge k.state.edge_us (suc n)) k.state.bound_us) = rw some refl in
+    let counted_on : answer_alone k.clock k.table s (suc n) ≡ Some (beat_by k.clock s false (step_to k.clock k.table s (suc n) None) (suc n - 1) (own_edge k.state.edge_us (suc n)) k.state.bound_us) = rw some refl in
     let steady : is_unsteady k.clock k.state clock ≡ false = dark_is_steady k clock lines dark in
     let nothing : s.doubt ≡ 0 = rw steady certain in
-    let step : (step_to k.clock k.table s (suc n) None).report.announce ≡ Some u = says_all s.doubt None (step_behind k.clock.reader_rules k.table (suc n - 1) k.state.reader None).report.announce nothing ∙ ap (λ (m : ℕ). (step_behind k.clock.reader_rules k.table m k.state.reader None).report.announce) less ∙ says in
+    let step : (step_to k.clock k.table s (suc n) None).report.announce ≡ Some u = says_all s.doubt None (step_behind k.clock.prefers_frames k.clock.reader_rules k.table (suc n - 1) k.state.reader None).report.announce nothing ∙ ap (λ (m : ℕ). (step_behind k.clock.prefers_frames k.clock.reader_rules k.table m k.state.reader None).report.announce) less ∙ says in
     record {
-      beat = beat_by k.clock s (step_to k.clock k.table s (suc n) None) (suc n - 1) (own_edge k.state.edge_us (suc n)) k.state.bound_us;
+      beat = beat_by k.clock s false (step_to k.clock k.table s (suc n) None) (suc n - 1) (own_edge k.state.edge_us (suc n)) k.state.bound_us;
       answer = ap (answer_by k.clock k.table s clock) none ∙ ap (answer_alone k.clock k.table s) so_many ∙ counted_on;
       says = step;
       edge = ap (λ (o : Option ℕ). own_edge o (suc n)) edge;
@@ -172,10 +181,10 @@ pub record IsAloneAt (t : TimelineValue) (n age : ℕ) (s : State) : Type 0 wher
   pub age_is : h.age ≡ age
 
 module _ (rules : ReaderRules) (table : TableValue) (t : TimelineValue) (sound : IsTimeline t) (true_table : IsTrueTable t table) where
-  one_alone : (n age : ℕ) (s : State) (v : UtcSecond) → IsAloneAt t n age s → IsSecond t (n + 1) v → age < rules.holdover → ((h : HoldValue) → IsOnTime t n h → h.last.day ≤ table.until)
+  rule_alone : (n age : ℕ) (s : State) (v : UtcSecond) → IsAloneAt t n age s → IsSecond t (n + 1) v → age < rules.holdover → ((h : HoldValue) → IsOnTime t n h → h.last.day ≤ table.until)
       → IsAloneAt t (n + 1) (age + 1) (step_of rules table s None).state × ((step_of rules table s None).report.announce ≡ Some v)
   unfolding step_of
-  one_alone n age s v at second young known =
+  rule_alone n age s v at second young known =
       let h = at.h in
       let goes = alone_goes t table n rules.holdover h v sound true_table at.on_time second (omega (arith, at.age_is, young)) (λ guarded. (let above = guarded.above in omega (arith, above, known h at.on_time))) in
       let step : step_of rules table s None ≡ holdover_step (outcome_of h (Ok (hold_after h.last (h.age + 1) h.heard v))) = ap (λ (x : State). step_of rules table x None) at.is ∙ ap holdover_step goes in
@@ -185,19 +194,26 @@ module _ (rules : ReaderRules) (table : TableValue) (t : TimelineValue) (sound :
         ap (λ (x : Step). x.report.announce) step,
       )
 
+  -- what it has heard does not go against the table
+  one_alone : (prefers : Bool) (n age : ℕ) (s : State) (v : UtcSecond) → IsAloneAt t n age s → IsSecond t (n + 1) v → age < rules.holdover → ((h : HoldValue) → IsOnTime t n h → h.last.day ≤ table.until)
+      → IsAloneAt t (n + 1) (age + 1) (step_checked prefers rules table s None).state × ((step_checked prefers rules table s None).report.announce ≡ Some v)
+  one_alone prefers n age s v at second young known =
+      let with = ap (λ (x : State). goes_against table x None) at.is ∙ on_time_passes t table n at.h true_table at.on_time in
+      subst (λ (step : Step). IsAloneAt t (n + 1) (age + 1) step.state × (step.report.announce ≡ Some v)) (sym (passes prefers rules table s None (inr with))) (rule_alone n age s v at second young known)
+
   -- many
-  pub many_alone : (n j : ℕ) (s : State) (second : ℕ → UtcSecond) → IsAloneAt t n 0 s → j < rules.holdover → ((i : ℕ) → i ≤ suc j → IsSecond t (n + i) (second i))
+  pub many_alone : (prefers : Bool) (n j : ℕ) (s : State) (second : ℕ → UtcSecond) → IsAloneAt t n 0 s → j < rules.holdover → ((i : ℕ) → i ≤ suc j → IsSecond t (n + i) (second i))
       → ((i : ℕ) (h : HoldValue) → i ≤ j → IsOnTime t (n + i) h → h.last.day ≤ table.until)
-      → IsAloneAt t (n + j) j (missed rules table j s) × ((step_behind rules table j s None).report.announce ≡ Some (second (suc j)))
-  many_alone n j s second at young seconds known =
+      → IsAloneAt t (n + j) j (missed prefers rules table j s) × ((step_behind prefers rules table j s None).report.announce ≡ Some (second (suc j)))
+  many_alone prefers n j s second at young seconds known =
       let all = upto j (omega arith) in
       let next : n + suc j ≡ n + j + 1 = omega arith in
-      (all, (one_alone (n + j) j (missed rules table j s) (second (suc j)) all (subst (λ (m : ℕ). IsSecond t m (second (suc j))) next (seconds (suc j) (omega arith))) young (λ h. known j h (omega arith))).1)
+      (all, (one_alone prefers (n + j) j (missed prefers rules table j s) (second (suc j)) all (subst (λ (m : ℕ). IsSecond t m (second (suc j))) next (seconds (suc j) (omega arith))) young (λ h. known j h (omega arith))).1)
     where
-      upto : (i : ℕ) → i ≤ j → IsAloneAt t (n + i) i (missed rules table i s)
+      upto : (i : ℕ) → i ≤ j → IsAloneAt t (n + i) i (missed prefers rules table i s)
       upto zero low = let none : n ≡ n + 0 = omega arith in subst (λ (m : ℕ). IsAloneAt t m 0 s) none at
       upto (suc i) low =
           let next : n + i + 1 ≡ n + suc i = omega arith in
           let one : i + 1 ≡ suc i = omega arith in
-          let step = (one_alone (n + i) i (missed rules table i s) (second (suc i)) (upto i (omega (arith, low))) (subst (λ (m : ℕ). IsSecond t m (second (suc i))) (sym next) (seconds (suc i) (omega (arith, low)))) (omega (arith, low, young)) (λ h. known i h (omega (arith, low)))).0 in
-          subst (λ (m : ℕ). IsAloneAt t m (suc i) (missed rules table (suc i) s)) next (subst (λ (m : ℕ). IsAloneAt t (n + i + 1) m (missed rules table (suc i) s)) one step)
+          let step = (one_alone prefers (n + i) i (missed prefers rules table i s) (second (suc i)) (upto i (omega (arith, low))) (subst (λ (m : ℕ). IsSecond t m (second (suc i))) (sym next) (seconds (suc i) (omega (arith, low)))) (omega (arith, low, young)) (λ h. known i h (omega (arith, low)))).0 in
+          subst (λ (m : ℕ). IsAloneAt t m (suc i) (missed prefers rules table (suc i) s)) next (subst (λ (m : ℕ). IsAloneAt t (n + i + 1) m (missed prefers rules table (suc i) s)) one step)

@@ -22,16 +22,16 @@ use Rattle.irig_vote.specs.Vote.{f_of}
 use Rattle.irig_reader.specs.declared.rule.State.{State}
 use Rattle.irig_reader.specs.declared.rule.State.TheVariants.{Idle, Locked}
 use Rattle.irig_reader.specs.Rules.{IsReaderRules}
-use Rattle.irig_timekeeper.specs.declared.setup.ClockRules.{ClockRules}
-use Rattle.irig_timekeeper.specs.Counting.{edges_own}
-use Rattle.irig_timekeeper.specs.Lines.{IsTrueLately}
+use Rattle.irig_lines.specs.declared.setup.ClockRules.{ClockRules}
+use Rattle.irig_lines.specs.Counting.{edges_own}
+use Rattle.irig_lines.specs.Lines.{IsTrueLately}
 use Rattle.irig_timekeeper.specs.Rule.{step_behind}
 use Rattle.irig_timekeeper.specs.Keeping.{Keeping}
 use Rattle.irig_timekeeper.specs.Truth.{IsDevice, IsEdgeAt, IsOnTrack, StandsAt}
 use Rattle.irig_timekeeper.specs.Life.{Call, Made, pulses_on, AreInOrder, AreTrueLately, AreTrueAtTicks, after_calls, device_of}
 use Rattle.irig_timekeeper.specs.Life.Call.{Tick}
 use Rattle.irig_lives.specs.Misled.{IsMisled}
-use Rattle.irig_timekeeper.proofs.LineLaws.{true_lately}
+use Rattle.irig_lines.proofs.LineLaws.{true_lately}
 use Rattle.irig_timekeeper.proofs.StrayLaws.{never_doubts}
 use Rattle.irig_timekeeper.proofs.LifeLaws.{truth_before, begins, lines_after, ticks}
 use Rattle.irig_lives.proofs.LifeFacts.{new_lines, are_new}
@@ -126,8 +126,8 @@ module _ (rules : Rules) (clock : ClockRules) (range : IsReaderRules clock.reade
 
   -- ---- 23:59:01 is announced
 
-  abbrev told : sent.IsTold rules clock range deletion lie device (sent.frame rules lie lie_is) carried (at (first + (1 + 1 + locks)))
-  told = sent.told rules clock range deletion lie device (sent.frame rules lie lie_is) carried (at (first + (1 + 1 + locks))) (second (1 + 1 + locks) (omega arith))
+  abbrev told : sent.IsTold rules clock range deletion lie device (record { leaps = λ day end from to. refl }) (sent.frame rules lie lie_is) carried (at (first + (1 + 1 + locks)))
+  told = sent.told rules clock range deletion lie device (record { leaps = λ day end from to. refl }) (sent.frame rules lie lie_is) carried (at (first + (1 + 1 + locks))) (second (1 + 1 + locks) (omega arith))
 
   abbrev n : ℕ
   n = 1 + 1 + locks
@@ -176,13 +176,13 @@ module _ (rules : Rules) (clock : ClockRules) (range : IsReaderRules clock.reade
       let track = (ticks None rules clock deletion new_lines 9999000 are_new (IsTrueLately clock.within.us rules lie edges) lie edges 0 0 device (omega arith)
       (λ time end pulses claim is frame soon. true_lately clock.within rules lie clock.drift_us edges time end pulses claim device.steady is frame soon) a.earlier a.now told.order told.truth).track in
       let alone = stands a.now k.state.reader k.state.bound_us k.state.edge_us e left.h left.edge left.reader left.last left.age track in
-      let many = (many_alone clock.reader_rules deletion lie lie_is (record { leaps = λ day end from to. refl }) n 57 k.state.reader then_second alone (omega (arith, long)) then_seconds of_that_day).1 in
+      let many = (many_alone clock.reader_rules deletion lie lie_is (record { leaps = λ day end from to. refl }) clock.prefers_frames n 57 k.state.reader then_second alone (omega (arith, long)) then_seconds of_that_day).1 in
       let late : a.now ≤ now = omega (arith, told.at.soon) in
       let order : AreInOrder 9999000 clock.redundancy (Tick now ∷ calls) = (late, omega (arith, told.at.come), (λ line. still_after (pulses_on line a.earlier) (a.now + 4000) (now + 4000) (omega (arith, late)) (told.order.2 line)), told.order) in
       let setup = (lines_after new 9999000 (begins None rules clock deletion new_lines 9999000 are_new) calls now order).same in
-      let says : (step_behind k.clock.reader_rules k.table 57 k.state.reader None).report.announce ≡ Some new_month =
-      ap (λ (c : ClockRules). (step_behind c.reader_rules k.table 57 k.state.reader None).report.announce) setup.clock
-      ∙ ap (λ (x : TableValue). (step_behind clock.reader_rules x 57 k.state.reader None).report.announce) setup.table ∙ many in
+      let says : (step_behind k.clock.prefers_frames k.clock.reader_rules k.table 57 k.state.reader None).report.announce ≡ Some new_month =
+      ap (λ (c : ClockRules). (step_behind c.prefers_frames c.reader_rules k.table 57 k.state.reader None).report.announce) setup.clock
+      ∙ ap (λ (x : TableValue). (step_behind clock.prefers_frames clock.reader_rules x 57 k.state.reader None).report.announce) setup.table ∙ many in
       let come : own_come told.edge now ≡ 58 = omega arith in
       let count : edges_own (Some e) (now % 2 ^ 32) ≡ 58 = own_count a.now now late (omega (arith, told.at.come)) e told.edge told.at ∙ come in
       let certain = never_doubts lie edges made 9999000 calls (record { is = device; order = told.order; truth = told.truth }) in
@@ -190,7 +190,7 @@ module _ (rules : Rules) (clock : ClockRules) (range : IsReaderRules clock.reade
       let edge = own_edge_at a.now now late (omega (arith, told.at.come)) e told.edge told.at 58 (sym come) (omega arith) in
       let same : told.m ≡ n = omega (arith, told.second.sum, (second n (omega arith)).sum) in
       let truths = truth_before (IsTrueLately clock.within.us rules truth edges) (f_of clock.redundancy) a.later calls
-      (subst (AreTrueAtTicks (IsTrueLately clock.within.us rules truth edges) (f_of clock.redundancy)) a.are (sent.all_true rules clock range deletion lie device (sent.frame rules lie lie_is) carried truth carried_truth)) in
+      (subst (AreTrueAtTicks (IsTrueLately clock.within.us rules truth edges) (f_of clock.redundancy)) a.are (sent.all_true rules clock range deletion lie device (record { leaps = λ day end from to. refl }) (sent.frame rules lie lie_is) carried truth carried_truth)) in
       let lately : AreTrueLately (IsTrueLately clock.within.us rules truth edges) (f_of clock.redundancy) now calls = record {
         untrue = truths.0.untrue;
         few = truths.0.few;

@@ -10,8 +10,8 @@ use Rattle.irig_hold.specs.Truth.{IsTrueTable}
 use Rattle.irig_vote.specs.Vote.{f_of}
 use Rattle.irig_reader.specs.declared.report.Report.{Report}
 use Rattle.irig_reader.specs.Rules.{IsReaderRules}
-use Rattle.irig_timekeeper.specs.declared.setup.ClockRules.{ClockRules}
-use Rattle.irig_timekeeper.specs.Lines.{IsTrueLately}
+use Rattle.irig_lines.specs.declared.setup.ClockRules.{ClockRules}
+use Rattle.irig_lines.specs.Lines.{IsTrueLately}
 use Rattle.irig_timekeeper.specs.Truth.{IsDevice}
 use Rattle.irig_timekeeper.specs.Life.{Made, AreTrueAtTicks}
 use Rattle.irig_timekeeper.specs.Life.Call.{Tick}
@@ -67,9 +67,9 @@ module _ (rules : Rules) (clock : ClockRules) (range : IsReaderRules clock.reade
   pub lines_mislead : IsMisled truth made (f_of clock.redundancy + 1)
   lines_mislead =
       let u : UtcSecond = at (43200 + (1 + 1 + clock.reader_rules.lock_after)) in
-      let told = sent.told rules clock range no_table lie device (sent.frame rules lie lie_is) carried u (second (1 + 1 + clock.reader_rules.lock_after) (omega (arith, range.lock_after.1))) in
+      let told = sent.told rules clock range no_table lie device (true_table 43200) (sent.frame rules lie lie_is) carried u (second (1 + 1 + clock.reader_rules.lock_after) (omega (arith, range.lock_after.1))) in
       let a = told.a in
-      let others = sent.others_true rules clock range no_table lie device (sent.frame rules lie lie_is) carried truth in
+      let others = sent.others_true rules clock range no_table lie device (true_table 43200) (sent.frame rules lie lie_is) carried truth in
       record {
         edges = edges;
         steady = steady clock.drift_us few;

@@ -19,7 +19,7 @@ use Rattle.irig_port.specs.Told.{told_of}
 use Rattle.irig_port.specs.Damage.{IsFaultOr}
 use Rattle.irig_port.proofs.CarriesLaws.{carries_is_told}
 use Rattle.irig_port.proofs.DamageLaws.{damage_told}
-use Rattle.irig_timekeeper.specs.Lines.{IsLineOf, StandButForOne, IsCheckedLineOf, line_of}
+use Rattle.irig_lines.specs.Lines.{IsLineOf, StandButForOne, IsCheckedLineOf, line_of}
 use Rattle.irig_timekeeper.proofs.FaultLines.{same_but}
 
 -- ---- a frame whose digits are all ones is none

@@ -15,9 +15,9 @@ use Rattle.irig_sync.proofs.FaultLaws.{row, of_row}
 use Rattle.irig_vote.specs.declared.redundancy.Redundancy.{Redundancy}
 use Rattle.irig_vote.specs.Vote.{ports_in}
 use Rattle.irig_sync.proofs.EdgeLaws.{even_element}
-use Rattle.irig_timekeeper.specs.Edges.{IsQuartz}
-use Rattle.irig_timekeeper.specs.Lines.{ArePulsesLately}
-use Rattle.irig_timekeeper.specs.Steps.{is_pulse}
+use Rattle.irig_lines.specs.Edges.{IsQuartz}
+use Rattle.irig_lines.specs.Lines.{ArePulsesLately}
+use Rattle.irig_lines.specs.Steps.{is_pulse}
 use Rattle.irig_timekeeper.specs.Announcing.{LeavesTheFirst}
 use Rattle.irig_timekeeper.specs.Life.{Call, pulses_on, last_tick, HaveRisen, AreInOrder, AreTrueLately, AreTrueAtTicks}
 use Rattle.irig_timekeeper.specs.Life.Call.{Hear, Tick}

@@ -24,25 +24,26 @@ use Rattle.irig_gen.proofs.SentLaws.{frame_of_is}
 use Rattle.irig_gen.proofs.GenLaws.{true_frames}
 use Rattle.irig_port.specs.Limits.{told_within}
 use Rattle.irig_port.proofs.CarriesLaws.{carries_is_told}
+use Rattle.irig_hold.specs.Truth.{IsTrueTable}
 use Rattle.irig_vote.specs.declared.redundancy.Redundancy.{Redundancy}
 use Rattle.irig_vote.specs.declared.redundancy.Redundancy.TheVariants.{One, Three, Five}
 use Rattle.irig_vote.specs.Vote.{f_of, ports_in}
 use Rattle.irig_reader.specs.declared.report.Report.{Report}
 use Rattle.irig_reader.specs.Rules.{IsReaderRules}
-use Rattle.irig_timekeeper.specs.declared.setup.ClockRules.{ClockRules}
-use Rattle.irig_timekeeper.specs.Lines.{ArePulsesLately, IsLineOf, IsTrueLately, line_of}
+use Rattle.irig_lines.specs.declared.setup.ClockRules.{ClockRules}
+use Rattle.irig_lines.specs.Lines.{ArePulsesLately, IsLineOf, IsTrueLately, line_of}
 use Rattle.irig_timekeeper.specs.Announcing.{IsWhole, ComesWhole, Announces}
 use Rattle.irig_timekeeper.specs.Truth.{IsDevice, IsEdgeAt}
 use Rattle.irig_timekeeper.specs.Life.{Call, Made, pulses_on, last_tick, AreInOrder, AreTrueAtTicks, device_of}
 use Rattle.irig_timekeeper.specs.Life.Call.{Tick}
 use Rattle.irig_timekeeper.specs.Loops.{ComeInARow}
-use Rattle.irig_timekeeper.proofs.LineLaws.{true_lately}
+use Rattle.irig_lines.proofs.LineLaws.{true_lately}
 use Rattle.irig_timekeeper.proofs.LifeLaws.{device_true, order_before, truth_before, truth_over}
 use Rattle.irig_lives.proofs.LifeFacts.{new_lines, are_new}
 use Rattle.irig_timekeeper.proofs.LoopLaws.{polling_announces}
 use Rattle.irig_lives.proofs.SentLines.{sent_is_checked, checked_is_line}
 use Rattle.irig_lives.proofs.SentPulses.{edges, tick, sent, lately, drop_sent, recent, split, are_recent, so_recent, heard, leaves, elements, sent_on, none_on, last_of, in_order, at_ticks, ticks_each, told_in_time}
-use Rattle.irig_timekeeper.specs.Edges.{IsNear}
+use Rattle.irig_lines.specs.Edges.{IsNear}
 
 -- ---- the frames of a clock
 
@@ -95,7 +96,7 @@ module _ (rules : Rules) (clock : ClockRules) (range : IsReaderRules clock.reade
   abbrev pub seconds : ℕ
   seconds = clock.reader_rules.lock_after + 2
 
-  module _ (frame : ℕ → List Symbol) (carried : (f : ℕ) → f < seconds → Carried rules t f (frame f)) where
+  module _ (right : IsTrueTable t sheet) (frame : ℕ → List Symbol) (carried : (f : ℕ) → f < seconds → Carried rules t f (frame f)) where
     abbrev line : ℕ → Symbol
     line = line_of frame seconds
 
@@ -220,7 +221,7 @@ module _ (rules : Rules) (clock : ClockRules) (range : IsReaderRules clock.reade
     unfolding calls
     announced u second =
         subst (Announces edges (device_of made) (1 + 1 + clock.reader_rules.lock_after) u) (append-nil calls)
-        (polling_announces t edges made 9999000 1 10000 calls [] u in_a_row (omega arith) (ticks_each line is_line.right n (100 * seconds + 2)) (told_in_time line is_line.right n (100 * seconds + 2)) second)
+        (polling_announces t edges made 9999000 1 10000 calls [] u in_a_row (inr right) (omega arith) (ticks_each line is_line.right n (100 * seconds + 2)) (told_in_time line is_line.right n (100 * seconds + 2)) second)
 
     -- a tick that announces a second of the clock, near its edge
     pub record IsTold (u : UtcSecond) : Type 0 where

@@ -3,8 +3,8 @@ use Rattle.std.specs.Prelude.{nat_lt}
 use Rattle.std.proofs.Common.{◌≡◌, ℕ, ◌+◌, ◌*◌, ◌≤◌, Some, None, inl, inr}
 use Rattle.std.proofs.lemmas.Bool.{cases_Bool, ltb-false}
 use Rattle.irig_reader.specs.declared.rules.ReaderRules.{ReaderRules}
-use Rattle.irig_timekeeper.specs.declared.setup.ClockFault.TheVariants.{Drift, Holdover}
-use Rattle.irig_timekeeper.specs.Refusals.{clock_fault}
+use Rattle.irig_lines.specs.declared.setup.ClockFault.TheVariants.{Drift, Holdover}
+use Rattle.irig_lines.specs.Refusals.{clock_fault}
 
 pub setup_is : (rules : ReaderRules) (d : ℕ) → clock_fault rules d ≡ None → (d ≤ 100) × ((rules.holdover + 2) * d ≤ 490000)
 setup_is rules d e = elim (cases_Bool (nat_lt 100 d)) [

@@ -1,7 +1,7 @@
 -- Two devices of one line, by a counter that is 100 us a second fast, and by one that is as slow: they
 -- stamp one instant, a quarter of a second behind 12:00:02. And one of a line that is less than 10 us
 -- off, by the fast counter: each event between two of its seconds has a stamp.
-use Rattle.std.proofs.Common.{◌≡◌, ℕ, zero, suc, ◌+◌, ◌*◌, ◌%◌, ◌^◌, ◌<◌, ◌≤◌, List, [], ◌∷◌, ◌++◌, Option, Some, None, refl, arith}
+use Rattle.std.proofs.Common.{◌≡◌, ℕ, zero, suc, ◌+◌, ◌*◌, ◌%◌, ◌^◌, ◌<◌, ◌≤◌, List, [], ◌∷◌, ◌++◌, Option, Some, None, refl, arith, false}
 use Rattle.irig_frame.specs.declared.symbol.Symbol.{Symbol}
 use Rattle.irig_frame.specs.Faults.{values_of, field_at}
 use Rattle.irig_control.specs.Parity.{ones}
@@ -20,23 +20,24 @@ use Rattle.irig_reader.specs.declared.report.Lock.TheVariants as lock
 use Rattle.irig_reader.specs.declared.report.Cause.TheVariants as cause
 use Rattle.irig_reader.specs.Rule.{step_of}
 use Rattle.irig_timekeeper.specs.declared.clock.Beat.{Beat}
-use Rattle.irig_timekeeper.specs.declared.setup.ClockRules.{ClockRules}
-use Rattle.irig_timekeeper.specs.Refusals.{within_of}
+use Rattle.irig_lines.specs.declared.setup.ClockRules.{ClockRules}
+use Rattle.irig_lines.specs.Refusals.{within_of}
 use Rattle.irig_timekeeper.specs.declared.stamp.Stamp.{Stamp}
-use Rattle.irig_timekeeper.specs.Edges.{IsQuartz}
-use Rattle.irig_timekeeper.specs.Lines.{IsLineOf, IsTrueLately, line_of}
+use Rattle.irig_lines.specs.Edges.{IsQuartz}
+use Rattle.irig_lines.specs.Lines.{IsLineOf, IsTrueLately, line_of}
 use Rattle.irig_timekeeper.specs.Keeping.{Keeping, new_keeping, answer_at, stamp_at}
 use Rattle.irig_timekeeper.specs.Truth.{IsDevice, IsStampedTruly, IsInstant}
 use Rattle.irig_timekeeper.specs.Life.{Call, AreInOrder, AreTrueAtTicks, after_calls}
 use Rattle.irig_timekeeper.specs.Life.Call.{Hear, Tick}
 use Rattle.irig_timekeeper.specs.Rows.{AreToldLast}
-use Rattle.irig_timekeeper.proofs.LineLaws.{true_lately}
+use Rattle.irig_lines.proofs.LineLaws.{true_lately}
 use Rattle.irig_timekeeper.proofs.RowLaws.{in_a_row, none_lost}
 use Rattle.irig_timekeeper.proofs.StampLaws.{stamped, near_instant}
 use Rattle.irig_lives.proofs.SentLines.{sent_is_checked, checked_is_line}
 use Rattle.irig_lives.proofs.LifeFacts.{at, noon, no_delays, no_table, is_device, rules, claim_of, new_lines, are_new, silence, frame_0, frame_1, told_0, told_1, true_claim, width_of}
 use Rattle.irig_lives.specs.Decided.{is_after, have_risen, in_order, is_same, is_pulse_of, last_before, are_lately, are_true_lately, are_true_at_ticks}
 use Rattle.irig_lives.proofs.DecidedLaws.{order_is, truly_is}
+use Rattle.irig_timekeeper.specs.Rule.{step_checked, goes_against}
 
 -- ---- the counters
 
@@ -56,7 +57,7 @@ slow_steady : IsQuartz 100 slow
 slow_steady = record { few = omega arith; steady = record { least = λ n. omega arith; most = λ n. omega arith } }
 
 abbrev clock : ClockRules
-clock = record { reader_rules = record { lock_after = 1; holdover = 100 }; redundancy = of.One; within = within_of 450; drift_us = 100; delays = no_delays }
+clock = record { reader_rules = record { lock_after = 1; holdover = 100 }; redundancy = of.One; within = within_of 450; drift_us = 100; delays = no_delays; prefers_frames = false }
 
 by_counter : (edges : ℕ → ℕ) → IsQuartz 100 edges → IsDevice noon 100 edges clock.reader_rules no_table
 by_counter edges steady = record { steady = steady; sound = is_device.sound; knows = is_device.knows; short = is_device.short }
@@ -132,7 +133,7 @@ abbrev slow_stamp : Stamp
 slow_stamp = record { second = at 43202; offset_us = 249974; bound_us = 450 }
 
 stamps : (stamp_at (after_calls device by_fast) 3250225 ≡ Some fast_stamp) × (stamp_at (after_calls device by_slow) 3249775 ≡ Some slow_stamp)
-unfolding by_fast by_slow heard width_of frames step_of told_of frame_told coded_told ones values_of field_at control_of offset_in utc_minute is_month_end four_years
+unfolding by_fast by_slow heard width_of frames step_checked goes_against step_of told_of frame_told coded_told ones values_of field_at control_of offset_in utc_minute is_month_end four_years
 stamps = (refl, refl)
 
 fast_true : IsStampedTruly noon fast 0 3250225 fast_stamp
@@ -158,7 +159,7 @@ together =
 -- their bound, 10 us: that of a true line's frame, 9 us and 1 us for the drift of an element
 
 abbrev exact : ClockRules
-exact = record { reader_rules = record { lock_after = 1; holdover = 100 }; redundancy = of.One; within = within_of 10; drift_us = 100; delays = no_delays }
+exact = record { reader_rules = record { lock_after = 1; holdover = 100 }; redundancy = of.One; within = within_of 10; drift_us = 100; delays = no_delays; prefers_frames = false }
 
 abbrev exact_device : Keeping
 exact_device = new_keeping None rules exact no_table new_lines
@@ -200,6 +201,7 @@ first_beat = record {
   bound_us = 10;
   missed = 0;
   moved = 0;
+  against_table = false;
 }
 
 abbrev then_beat : Beat
@@ -210,10 +212,11 @@ then_beat = record {
   bound_us = 10;
   missed = 0;
   moved = 0;
+  against_table = false;
 }
 
 answers : (answer_at (after_calls exact_device first_calls) (first_now % 2 ^ 32) ≡ Some first_beat) × (answer_at (after_calls exact_device (between ++ (Tick first_now ∷ first_calls))) (then_now % 2 ^ 32) ≡ Some then_beat)
-unfolding first_calls between pulses_from width_of frames step_of told_of frame_told coded_told ones values_of field_at control_of offset_in utc_minute is_month_end four_years
+unfolding first_calls between pulses_from width_of frames step_checked goes_against step_of told_of frame_told coded_told ones values_of field_at control_of offset_in utc_minute is_month_end four_years
 answers = (refl, refl)
 
 row : AreToldLast exact_device calls first_beat then_beat 2000099 3000199
@@ -242,7 +245,7 @@ abbrev named : (sod offset : ℕ) → Option Stamp
 named sod offset = Some (record { second = at sod; offset_us = offset; bound_us = 10 })
 
 stamps_of_row : (stamp_of_row 3000149 ≡ named 43201 1000050) × (stamp_of_row 3000198 ≡ named 43201 1000099) × (stamp_of_row 3000199 ≡ named 43202 0) × (stamp_of_row 4000209 ≡ named 43202 1000010) × (stamp_of_row 4000210 ≡ None)
-unfolding first_calls between pulses_from width_of frames step_of told_of frame_told coded_told ones values_of field_at control_of offset_in utc_minute is_month_end four_years
+unfolding first_calls between pulses_from width_of frames step_checked goes_against step_of told_of frame_told coded_told ones values_of field_at control_of offset_in utc_minute is_month_end four_years
 stamps_of_row = (refl, refl, refl, refl, refl)
 
 -- by the laws each has one from the first edge on to that last time

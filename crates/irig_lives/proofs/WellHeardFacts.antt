@@ -1,19 +1,19 @@
 -- The loop that polls, second by second: each has a tick 50 to 80 ms behind its edge, and so the law of
 -- seconds that are heard well speaks of it.
-use Rattle.std.proofs.Common.{◌≡◌, ◌∙◌, ℕ, zero, suc, ◌+◌, ◌-◌, ◌*◌, ◌<◌, ◌≤◌, List, [], ◌∷◌, ◌++◌, take, drop, refl, sym, ap, subst, arith, append-nil}
+use Rattle.std.proofs.Common.{◌≡◌, ◌∙◌, ℕ, zero, suc, ◌+◌, ◌-◌, ◌*◌, ◌<◌, ◌≤◌, List, [], ◌∷◌, ◌++◌, take, drop, refl, sym, ap, subst, arith, append-nil, inr}
 use Rattle.std.proofs.lemmas.List.{take-append-drop}
 use Rattle.irig_sync.specs.Edges.{element_at}
 use Rattle.irig_vote.specs.declared.redundancy.Redundancy.TheVariants as of
-use Rattle.irig_timekeeper.specs.Refusals.{within_of}
-use Rattle.irig_timekeeper.specs.Lines.{IsTrueLately}
+use Rattle.irig_lines.specs.Refusals.{within_of}
+use Rattle.irig_lines.specs.Lines.{IsTrueLately}
 use Rattle.irig_timekeeper.specs.Life.{Call, AreInOrder, AreTrueOver, last_tick, pulses_on}
 use Rattle.irig_timekeeper.specs.Life.Call.{Tick}
 use Rattle.irig_timekeeper.specs.Announcing.{ComesWhole, IsWellHeard, AreWellHeard, Announces}
-use Rattle.irig_timekeeper.proofs.LineLaws.{true_lately}
+use Rattle.irig_lines.proofs.LineLaws.{true_lately}
 use Rattle.irig_timekeeper.proofs.LifeLaws.{begins}
 use Rattle.irig_timekeeper.proofs.LoopLaws.{truth_splits}
 use Rattle.irig_timekeeper.proofs.AnnounceLaws.{announces}
-use Rattle.irig_lives.proofs.LifeFacts.{edges, at, noon, is_device, rules, device, made, width_of}
+use Rattle.irig_lives.proofs.LifeFacts.{true_table, edges, at, noon, is_device, rules, device, made, width_of}
 use Rattle.irig_lives.specs.Decided.{in_order, have_risen, is_after}
 use Rattle.irig_lives.proofs.DecidedLaws.{order_is}
 use Rattle.irig_lives.proofs.AnnounceFacts.{comes_whole, truly, all_left, sent, polls, with_element, own, others, rise_of, lie, frames, pulse, start, second_4}
@@ -126,6 +126,6 @@ order = order_is start of.Three (upto 405) refl
 -- so its last tick announces
 announced : Announces edges device 4 (at 43204) (upto 405)
 announced =
-    announces (IsTrueLately 450 rules noon edges) noon edges device start (begins made.limits made.rules made.clock made.table made.lines start made.fresh) is_device
+    announces (IsTrueLately 450 rules noon edges) noon edges device start (begins made.limits made.rules made.clock made.table made.lines start made.fresh) is_device (inr true_table)
     (λ now end pulses claim is_true frame soon. true_lately (within_of 450) rules noon 100 edges now end pulses claim is_device.steady is_true frame soon)
     refl 1 (omega arith) (omega arith) [] start (λ i. tt) (omega arith) (upto 405) four_seconds order (at 43204) second_4

@@ -10,7 +10,7 @@ use Rattle.irig_sync.specs.Edges.{element_at}
 use Rattle.irig_sync.specs.Lines.{Pulse}
 use Rattle.irig_vote.specs.declared.redundancy.Redundancy.{Redundancy}
 use Rattle.irig_vote.specs.Vote.{ports_in}
-use Rattle.irig_timekeeper.specs.Steps.{is_pulse}
+use Rattle.irig_lines.specs.Steps.{is_pulse}
 use Rattle.irig_timekeeper.specs.Life.{Call, pulses_on, last_tick}
 use Rattle.irig_timekeeper.specs.Life.Call.{Hear, Tick}
 

@@ -6,13 +6,13 @@ use Rattle.irig_time.specs.Timelines.{TimelineValue, IsSecond}
 use Rattle.irig_time.specs.TimelineFaults.{IsTimeline}
 use Rattle.irig_time.specs.Tables.{table_fault}
 use Rattle.irig_timekeeper.specs.declared.clock.Beat.{Beat}
-use Rattle.irig_timekeeper.specs.Edges.{IsQuartz, IsNear}
-use Rattle.irig_timekeeper.specs.Lines.{IsTrueLately}
+use Rattle.irig_lines.specs.Edges.{IsQuartz, IsNear}
+use Rattle.irig_lines.specs.Lines.{IsTrueLately}
 use Rattle.irig_timekeeper.specs.Keeping.{answer_at}
 use Rattle.irig_timekeeper.specs.Truth.{IsEdgeAt}
 use Rattle.irig_timekeeper.specs.Life.{Call, Made, AreInOrder, AreTrueAtTicks, life_of}
 use Rattle.irig_timekeeper.specs.Life.Call.{Tick}
-use Rattle.irig_timekeeper.specs.Exactness.{most_held_us}
+use Rattle.irig_lines.specs.Exactness.{most_held_us}
 
 -- a device of a setup and a table that are not refused, with a steady counter on a sound timeline:
 -- its calls are in order, and at each tick all but at most so many lines are true. The last tick

@@ -1,7 +1,7 @@
 //! Laws of a timekeeper over its definitions. They have no code, and speak of values: no call of a
 //! timekeeper takes a timeline.
 
-ghost use Rattle.std.specs.Prelude.{◌≡◌, ◌+◌, ◌-◌, ◌*◌, ◌%◌, ◌^◌, ◌<◌, ◌≤◌, ◌⊎◌, ℕ, suc, List, ◌∷◌, ◌++◌, Option, Some, None, count_by, true, false};
+ghost use Rattle.std.specs.Prelude.{◌≡◌, ◌+◌, ◌-◌, ◌*◌, ◌/◌, ◌%◌, ◌^◌, ◌<◌, ◌≤◌, ◌⊎◌, ℕ, suc, List, ◌∷◌, ◌++◌, Option, Some, None, count_by, true, false};
 ghost use Rattle.irig_frame.specs.declared.symbol.Symbol.{Symbol};
 ghost use Rattle.irig_sync.specs.declared.sync.Sync.{Sync};
 ghost use Rattle.irig_sync.specs.Sync.{place_of};
@@ -12,36 +12,37 @@ ghost use Rattle.irig_reader.specs.declared.rule.State.{State};
 ghost use Rattle.irig_reader.specs.Held.{then_none};
 ghost use Rattle.irig_reader.specs.Locking.{IsSilentAfter, then_true, voted_report};
 ghost use Rattle.irig_reader.specs.Rule.{state_of, step_of};
-ghost use Rattle.irig_timekeeper.specs.Rule.{step_behind};
+ghost use Rattle.irig_timekeeper.specs.Rule.{against_table, step_behind};
 ghost use Rattle.irig_time.specs.TimelineFaults.{IsTimeline};
 ghost use Rattle.irig_time.specs.Tables.{TableValue};
 ghost use Rattle.irig_vote.specs.Vote.{f_of};
 ghost use Rattle.irig_port.specs.Limits.{told_within};
 ghost use Rattle.irig_port.specs.Hearing.{heard_at, IsHearing};
-ghost use Rattle.irig_timekeeper.specs.Edges.{IsQuartz, IsNear, IsTrueNear};
-ghost use Rattle.irig_timekeeper.specs.Lines.{IsTrueLately, KnowsBegin, IsFrameOf, IfKept, IsAnyEnd, HasJustCome};
-ghost use Rattle.irig_timekeeper.specs.Counting.{edges_between, edges_to, edges_own};
-ghost use Rattle.irig_timekeeper.specs.Refusals.{clock_fault};
-ghost use Rattle.irig_timekeeper.specs.Steps.{begin_behind, frame_behind, claim_kept, line_at, all_kept, agrees, agreed, settled, tells_of, wait_by};
+ghost use Rattle.irig_lines.specs.Edges.{IsQuartz, IsNear, IsTrueNear};
+ghost use Rattle.irig_lines.specs.Lines.{IsTrueLately, KnowsBegin, IsFrameOf, IfKept, IsAnyEnd, HasJustCome};
+ghost use Rattle.irig_lines.specs.Counting.{edges_between, edges_to, edges_own};
+ghost use Rattle.irig_lines.specs.Refusals.{clock_fault};
+ghost use Rattle.irig_lines.specs.Steps.{begin_behind, frame_behind, claim_kept, line_at, all_kept, agrees, agreed, settled, tells_of, wait_by};
 ghost use Rattle.irig_timekeeper.specs.Clock.{answer_to_vote, doubted_s, is_unsteady, lasted};
-ghost use Rattle.irig_timekeeper.specs.Keeping.{Keeping, vote_at, after_tick, answer_at, wait_at, stamp_at};
-ghost use Rattle.irig_timekeeper.specs.Truth.{AreHeardTruly, IsTrueVote, IsOnTrack, IsToldTruly, IsToldInHoldover, IsLaterSecond, IsDevice, IsEdgeAt, AreApartBeats, IsStampedTruly, IsInstant};
+ghost use Rattle.irig_timekeeper.specs.Keeping.{Keeping, vote_at, after_tick, answer_at, wait_at, stamp_at, rate_at};
+ghost use Rattle.irig_timekeeper.specs.Truth.{FollowsTruth, AreHeardTruly, IsTrueVote, IsOnTrack, IsToldTruly, IsToldInHoldover, IsLaterSecond, IsDevice, IsEdgeAt, AreApartBeats, IsStampedTruly, IsInstant};
 ghost use Rattle.irig_timekeeper.specs.Announcing.{AreWellHeard, Announces};
-ghost use Rattle.irig_timekeeper.specs.Life.{Call, Made, AreInOrder, AreTrueLately, AreTrueAtTicks, AreTrueOver, LivesTruly, device_of, life_of, HaveRisen};
+ghost use Rattle.irig_timekeeper.specs.Life.{Call, Made, AreInOrder, AreTrueLately, AreTrueAtTicks, AreTrueOver, LivesTruly, device_of, life_of, last_tick, HaveRisen};
 ghost use Rattle.irig_timekeeper.specs.Life.Call.{Tick};
 ghost use Rattle.irig_timekeeper.specs.Rows.{AreToldLast};
 ghost use Rattle.irig_timekeeper.specs.Since.{since_vote, HasItsBound};
 ghost use Rattle.irig_timekeeper.specs.Doubts.{voted_since, NoneStrays, SaysTheRule};
 ghost use Rattle.irig_timekeeper.specs.Healing.{HasHealed};
-ghost use Rattle.irig_timekeeper.specs.Intervals.{by_vote, carried, cut, contradicts, LiesBetween, AreNear};
-ghost use Rattle.irig_timekeeper.specs.Exactness.{most_drift_us, end_off_us, window_us, vote_us, most_vote_us, most_held_us};
+ghost use Rattle.irig_timekeeper.specs.Measures.{IsMeasured};
+ghost use Rattle.irig_lines.specs.Rates.{rate_of};
+ghost use Rattle.irig_lines.specs.Intervals.{by_vote, carried, cut, contradicts, LiesBetween, AreNear};
+ghost use Rattle.irig_lines.specs.Exactness.{most_drift_us, end_off_us, window_us, vote_us, most_vote_us, most_held_us};
 
+use irig_lines::{Anchor, ClockRules, Interval, KeptClaim, KeptFrame, Lines, Rate, Vote, Within};
 use irig_port::Limits;
 use irig_reader::{Cause, ReaderRules};
 use irig_time::{Claim, Rules, UtcSecond};
-use irig_timekeeper::{
-    Beat, ClockRules, Interval, KeptClaim, KeptFrame, Lines, Stamp, Vote, Within,
-};
+use irig_timekeeper::{Beat, Stamp};
 
 /// Counting is right while a device's own edge is: let its last edge lie at most b1 before and b2
 /// behind T(w), and the edge that lines agree on at most c1 before and c2 behind T(w + k). If
@@ -193,6 +194,22 @@ pub fn votes_do_not_stray()
         → (life_of made calls).state.strays ≡ 0 }
 {}
 
+/// What is measured is so: in every life of [`votes_do_not_stray`] the mean length of so many seconds, up to the one that was
+/// counted last, lies by the device's counter between the least and the most that it says.
+pub fn what_is_measured_is_so()
+    ensures mean { (t : TimelineValue) (edges : ℕ → ℕ) (made : Made) (start : ℕ) (calls : List Call)
+        (rate : Rate) → LivesTruly (IsTrueLately made.clock.within.us) t edges made start calls
+        → rate_at (life_of made calls) ≡ Some rate
+        → IsMeasured edges (last_tick start calls) (life_of made calls).state.edge_us rate }
+    // These differ at most by the lengths of the intervals at both ends over the seconds, and by 2 ns.
+    ensures sharp { (interval : Interval) (anchor : Anchor) (rate : Rate)
+        → rate_of (Some interval) (Some anchor) ≡ Some rate → rate.most_ns
+        ≤ rate.least_ns + 1000 * (anchor.long_us + interval.long_us) / rate.seconds + 2 }
+    // Whatever lines carry, nothing is measured right behind a tick that counts a stray.
+    ensures anew { (k : Keeping) (now : ℕ) → ¬ ((after_tick k now).state.strays ≡ k.state.strays)
+        → rate_at (after_tick k now) ≡ None }
+{}
+
 /// What strays is seen, whatever lines carry: as long as no vote contradicted those before it and none
 /// is forgotten, the interval lies in that of each vote since, carried on by the drift, so that a
 /// vote contradicts it that differs from any of them by more than their bounds and the drift between.
@@ -228,8 +245,8 @@ pub fn what_strays_is_not_held()
         → vote_at (life_of made (later ++ (Tick before ∷ earlier))) (now % 2 ^ 32) ≡ None
         → answer_at (life_of made (later ++ (Tick before ∷ earlier))) (now % 2 ^ 32) ≡ Some beat
         → beat.report.announce ≡ None }
-    // Behind so many voted seconds the reader's rule alone says what is announced, but where frames
-    // tell again that the counter is unsteady.
+    // Behind so many voted seconds the reader's rule, which the leap table guards, alone says what is
+    // announced, but where frames tell again that the counter is unsteady.
     ensures over { (made : Made) (now : ℕ) (earlier later : List Call) (beat : Beat)
         → NoneStrays (device_of made) later earlier
         → doubted_s made.clock ≤ voted_since (device_of made) later earlier
@@ -341,17 +358,18 @@ pub fn enough_lines_vote()
         → vote_at k (now % 2 ^ 32) ≡ Some vote }
 {}
 
-/// Beats are votes, as irig_reader counts them: a beat behind some missed seconds is a vote behind
-/// as many that are none. So its laws of votes are laws of beats, as that true votes in a row lock:
-/// at the last of so many as the rules ask, none of them missed, a device announces the second that
-/// begins.
+/// Beats are votes, as irig_reader counts them. Where frames are preferred to the leap table, a beat
+/// behind k missed seconds is a vote behind k edges without one. And true votes in a row lock: at the
+/// last of so many as the rules ask, none of them missed, a device announces the second that begins, if
+/// its table is true or frames are preferred.
 pub fn beats_are_votes()
     ensures step { (rules : ReaderRules) (table : TableValue) (missed : ℕ) (state : State)
         (votes : List (Option Claim)) (vote : Option Claim) → state ≡ state_of rules table votes
-        → step_behind rules table missed state vote
+        → step_behind true rules table missed state vote
         ≡ step_of rules table (state_of rules table (then_none missed votes)) vote }
     ensures lock { (t : TimelineValue) (n : ℕ) (k : Keeping) (vote : Vote)
         (before earlier : List (Option Claim)) (u : UtcSecond) → IsTimeline t
+        → FollowsTruth t k.clock.prefers_frames k.table
         → 1 ≤ k.clock.reader_rules.lock_after
         → IsSilentAfter k.clock.reader_rules k.table earlier
         → IsSecond t (n + k.clock.reader_rules.lock_after) u
@@ -364,6 +382,7 @@ pub fn beats_are_votes()
           bound_us = vote.bound_us;
           missed = 0;
           moved = k.state.moved;
+          against_table = against_table k.table (Some vote.claim);
         }) }
 {}
 
@@ -434,11 +453,13 @@ pub fn stamps_are_true()
 /// row, two more than it locks after, of each of which more than f lines send the frame whole, and
 /// let a tick come behind its edge, by the bound of a vote at least and 98 ms at most, when those
 /// lines have told it, and none before it more than 3 ms behind the edge. Then a tick of the last
-/// of these seconds announces it by a vote, whatever the other lines send.
+/// of these seconds announces it by a vote, whatever the other lines send, if its leap table is
+/// true or frames are preferred to it.
 pub fn a_device_announces()
     ensures { (t : TimelineValue) (edges : ℕ → ℕ) (made : Made) (start m told : ℕ)
         (calls before : List Call) (u : UtcSecond)
         → IsDevice t made.clock.drift_us edges made.clock.reader_rules made.table
+        → FollowsTruth t made.clock.prefers_frames made.table
         → AreInOrder start made.clock.redundancy calls → 1 ≤ m
         → 1 ≤ made.clock.reader_rules.lock_after → HaveRisen told before → told + 11000 < edges m
         → AreWellHeard (IsTrueLately made.clock.within.us made.rules t edges) t edges (device_of made) start m

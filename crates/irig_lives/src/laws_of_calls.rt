@@ -5,7 +5,7 @@ ghost use Rattle.std.specs.Prelude.{◌≡◌, ◌↔◌, ℕ, true, List, Some}
 ghost use Rattle.irig_frame.specs.declared.symbol.Symbol.{Symbol};
 ghost use Rattle.irig_sync.specs.Lines.{Pulse};
 ghost use Rattle.irig_vote.specs.declared.redundancy.Redundancy.{Redundancy};
-ghost use Rattle.irig_timekeeper.specs.Lines.{ArePulsesLately};
+ghost use Rattle.irig_lines.specs.Lines.{ArePulsesLately};
 ghost use Rattle.irig_timekeeper.specs.Life.{Call, AreInOrder, AreTrueLately, AreTrueAtTicks, AreTrueOver};
 ghost use Rattle.irig_lives.specs.Decided.{in_order, are_lately, are_true_lately, are_true_at_ticks, are_true_over};
 

@@ -11,18 +11,19 @@ ghost use Rattle.irig_time.specs.TimelineFaults.{IsTimeline};
 ghost use Rattle.irig_gen.specs.Frames.{GeneratorValue, IsTrueFrame};
 ghost use Rattle.irig_gen.specs.Refusals.{IsGenerator};
 ghost use Rattle.irig_vote.specs.Vote.{f_of};
-ghost use Rattle.irig_timekeeper.specs.Edges.{IsQuartz, IsTrueNear};
-ghost use Rattle.irig_timekeeper.specs.Lines.{IsFrameOf, IsLineOf, line_of, IsCheckedLineOf, IsTrueButForFaults, IsTrueOrFaulty};
+ghost use Rattle.irig_lines.specs.Edges.{IsQuartz, IsTrueNear};
+ghost use Rattle.irig_lines.specs.Lines.{IsFrameOf, IsLineOf, line_of, IsCheckedLineOf, IsTrueButForFaults, IsTrueOrFaulty};
 ghost use Rattle.irig_timekeeper.specs.Keeping.{answer_at, stamp_at};
 ghost use Rattle.irig_timekeeper.specs.Truth.{IsToldInHoldover, IsLaterSecond, IsDevice, IsStampedTruly};
 ghost use Rattle.irig_timekeeper.specs.Life.{Call, Made, AreInOrder, AreTrueAtTicks, LivesTruly, device_of, life_of};
 ghost use Rattle.irig_timekeeper.specs.Life.Call.{Tick};
 ghost use Rattle.irig_timekeeper.specs.Rows.{AreToldLast};
-ghost use Rattle.irig_timekeeper.specs.Exactness.{end_off_us, fault_early_us, fault_late_us, most_drift_us, most_vote_us};
+ghost use Rattle.irig_lines.specs.Exactness.{end_off_us, fault_early_us, fault_late_us, most_drift_us, most_vote_us};
 
+use irig_lines::Within;
 use irig_reader::{Cause, ReaderRules};
 use irig_time::{Claim, Rules, UtcSecond};
-use irig_timekeeper::{Beat, Stamp, Within};
+use irig_timekeeper::{Beat, Stamp};
 
 /// Lines with faults tell truly: what [`a_device_tells_the_truth`](crate::a_device_tells_the_truth)
 /// says holds too if a line counts as true that had one fault of any kind in each hundred pulses of

@@ -5,12 +5,12 @@ ghost use Rattle.irig_time.specs.Timelines.{TimelineValue};
 ghost use Rattle.irig_reader.specs.Rules.{IsReaderRules};
 ghost use Rattle.irig_reader.specs.Lives.{KnowsMonthEnds};
 ghost use Rattle.irig_vote.specs.Vote.{f_of};
-ghost use Rattle.irig_timekeeper.specs.Refusals.{clock_fault};
+ghost use Rattle.irig_lines.specs.Refusals.{clock_fault};
 ghost use Rattle.irig_timekeeper.specs.Life.{Made};
 ghost use Rattle.irig_lives.specs.Misled.{IsMisled};
 
+use irig_lines::ClockRules;
 use irig_time::Rules;
-use irig_timekeeper::ClockRules;
 
 /// A majority misleads: whatever the rules of a device, its redundancy and its drift, there is one
 /// of these rules whose counter, table and calls are as

@@ -2,7 +2,7 @@
 
 ghost use Rattle.std.specs.Prelude.{◌≡◌, ◌-◌, ◌<◌, ℕ, List, ◌∷◌, false};
 ghost use Rattle.irig_time.specs.Timelines.{TimelineValue};
-ghost use Rattle.irig_timekeeper.specs.Lines.{IsTrueLately};
+ghost use Rattle.irig_lines.specs.Lines.{IsTrueLately};
 ghost use Rattle.irig_timekeeper.specs.Life.{Call, Made, AreInOrder, LivesTruly, last_tick, life_of, pulses_on};
 ghost use Rattle.irig_timekeeper.specs.Life.Call.{Tick};
 ghost use Rattle.irig_timekeeper.specs.States.{state_of};

@@ -8,19 +8,7 @@ ghost use Rattle.irig_scene.specs.Faults.{WroteText, failed_write, is_write_faul
 ghost use Rattle.irig_scene.specs.Scene.{Scene, meaning_at_end, meaning_from, step};
 ghost use Rattle.irig_scene.specs.Starts.{noted_at};
 ghost use Rattle.irig_scene.specs.Texts.{closing_of};
-ghost use Rattle.irig_scene.specs.ListenerRuns.{
-  Begins,
-  HeardFor,
-  IsAt,
-  IsFirst,
-  IsPlayerAt,
-  LeavesFor,
-  RestFor,
-  RunsLine,
-  TakesEventLine,
-  TakesLine,
-  WroteStop,
-};
+ghost use Rattle.irig_scene.specs.ListenerRuns.{Begins, HeardFor, IsAt, IsFirst, IsPlayerAt, LeavesFor, RestFor, RunsLine, TakesEventLine, TakesLine, WroteStop};
 
 use crate::fault::SceneFault;
 use crate::listener::Listener;

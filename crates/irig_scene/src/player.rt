@@ -109,8 +109,7 @@ impl<L: Listener, P: Port> Player<L, P> {
     ghost use Rattle.text_faults.specs.Refusals.{IsUnlessMemory};
     ghost use Rattle.scenario_line.specs.EventLine.{command_in_line};
     ghost use Rattle.scenario_line.specs.PlantLine.{plan_of};
-    ghost use Rattle.irig_scene.specs.Scene.{scene, audit_in, events_of};
-    ghost use Rattle.irig_scene.specs.Scene.{second_in};
+    ghost use Rattle.irig_scene.specs.Scene.{scene, audit_in, events_of, second_in};
     ghost use Rattle.irig_scene.specs.ListenerRuns.{IsPlayerAt, PlaysAsked, held_by};
     ghost use Rattle.irig_scene.specs.Starts.{entry_count};
 

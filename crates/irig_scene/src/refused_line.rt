@@ -4,7 +4,7 @@ ghost use Rattle.std.specs.Prelude.{◌≡◌};
 
 use indexmap::IndexSet;
 use irig_gen::Generator;
-use std::alloc::{AllocError, Global};
+use std::alloc::Global;
 use text_faults::Refusal;
 
 /// A line that was refused, and where the plant then stood.
@@ -44,23 +44,21 @@ impl RefusedLine {
     ) -> RefusedLine
         ensures { result.refusal ≡ refusal }
     {
-        let edges = match edges_of(alloc, generators) {
-            Ok(edges) => edges,
-            Err(_) => Vec::new(alloc),
-        };
         RefusedLine {
             refusal,
             line,
             names,
-            edges,
+            edges: edges_of(alloc, generators),
         }
     }
 }
 
-fn edges_of(alloc: Global, generators: &[Generator]) -> Result<Vec<u64>, AllocError> {
+fn edges_of(alloc: Global, generators: &[Generator]) -> Vec<u64> {
     let mut edges = Vec::new(alloc);
     for generator in generators {
-        edges.push(generator.edge())?;
+        if edges.push(generator.edge()).is_err() {
+            return Vec::new(alloc);
+        }
     }
-    Ok(edges)
+    edges
 }

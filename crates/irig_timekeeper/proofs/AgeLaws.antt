@@ -1,6 +1,6 @@
 -- What edges without a vote leave of a reader's rule.
 use Rattle.std.specs.Prelude.{nat_le}
-use Rattle.std.proofs.Common.{◌≡◌, ◌==◌, ◌∙◌, ◌⊎◌, ℕ, zero, suc, ◌+◌, ◌<◌, ◌≤◌, Option, Some, None, Result, Ok, Err, refl, ap, subst, arith, inl, inr}
+use Rattle.std.proofs.Common.{◌≡◌, ◌==◌, ◌∙◌, ◌⊎◌, ℕ, zero, suc, ◌+◌, ◌<◌, ◌≤◌, Option, Some, None, Result, Ok, Err, refl, ap, subst, arith, inl, inr, Bool}
 use Rattle.std.proofs.lemmas.Bool.{cases_Bool, leb-false}
 use Rattle.irig_time.specs.declared.second.UtcSecond.{UtcSecond}
 use Rattle.irig_time.specs.declared.mark.Mark.{Mark}
@@ -19,8 +19,9 @@ use Rattle.irig_reader.specs.Rule.{count_step, first_vote_step, later_vote_step_
 use Rattle.irig_time.specs.declared.claim.Claim.{Claim}
 use Rattle.irig_reader.specs.declared.rule.Step.{Step}
 use Rattle.irig_timekeeper.specs.Clock.{lasted}
-use Rattle.irig_timekeeper.specs.Rule.{missed}
+use Rattle.irig_timekeeper.specs.Rule.{missed, step_checked}
 use Rattle.irig_timekeeper.specs.Truth.{age_of}
+use Rattle.irig_timekeeper.proofs.CheckedSteps.{checked_cases}
 
 -- a step without a vote: silent and with nothing to go on, or locked and one edge older
 pub record IsOlder (limit age : ℕ) (s : State) : Type 0 where
@@ -37,7 +38,7 @@ pub record IsHeld (limit age : ℕ) (step : Step) : Type 0 where
 abbrev pub IsAlone : ℕ → ℕ → Step → Type 0
 IsAlone limit age step = ((step.state ≡ Idle) × (step.report.announce ≡ None)) ⊎ IsHeld limit age step
 
-module _ (rules : ReaderRules) (table : TableValue) where
+module _ (prefers : Bool) (rules : ReaderRules) (table : TableValue) where
   stopped : (age : ℕ) (answer : Turn) (h : HoldValue) → ((u : UtcSecond) → ¬ (answer ≡ turn.Now u)) → IsAlone rules.holdover age (locked_step (lock.Holdover h.age) cause.Held answer h)
   stopped age (turn.Now u) h never = absurd (never u refl)
   stopped age turn.LeapGuard h never = inl (refl, refl)
@@ -56,14 +57,17 @@ module _ (rules : ReaderRules) (table : TableValue) where
   stepped h mark None young = stopped (h.age + 1) (stop_on h.last.day) h (no_step h.last.day)
   stepped h mark (Some u) young = inr (record { locked = record { h = _; is = refl; older = refl; young = omega (arith, young) }; says = refl })
 
-  pub alone_step : (s : State) → IsAlone rules.holdover (age_of s + 1) (step_of rules table s None)
+  rule_alone : (s : State) → IsAlone rules.holdover (age_of s + 1) (step_of rules table s None)
   unfolding step_of
-  alone_step Idle = inl (refl, refl)
-  alone_step (Acquiring h count) = inl (refl, refl)
-  alone_step (Locked h) = elim (cases_Bool (nat_le rules.holdover h.age)) [
+  rule_alone Idle = inl (refl, refl)
+  rule_alone (Acquiring h count) = inl (refl, refl)
+  rule_alone (Locked h) = elim (cases_Bool (nat_le rules.holdover h.age)) [
     | inl long ↦ rw long (inl (refl, refl))
     | inr short ↦ rw short (stepped h h.heard (next_of h.last (spoken_mark table h.heard h.last.day)) (leb-false rules.holdover h.age short))
   ]
+
+  pub alone_step : (s : State) → IsAlone rules.holdover (age_of s + 1) (step_checked prefers rules table s None)
+  alone_step s = checked_cases prefers rules table s None (IsAlone rules.holdover (age_of s + 1)) (rule_alone s) (inl (refl, refl))
 
   -- ---- how long a holdover has lasted, whatever the vote
 
@@ -102,49 +106,52 @@ module _ (rules : ReaderRules) (table : TableValue) where
   stepped_lasts h mark None young = alone_lasts (stop_on h.last.day) h h (λ u e. absurd (no_step h.last.day u e))
   stepped_lasts h mark (Some u) young = omega (arith, young)
 
-  pub step_lasts : (s : State) (vote : Option Claim) → lasted (step_of rules table s vote).report.lock ≤ rules.holdover
+  rule_lasts : (s : State) (vote : Option Claim) → lasted (step_of rules table s vote).report.lock ≤ rules.holdover
   unfolding step_of
-  step_lasts Idle None = omega arith
-  step_lasts (Acquiring h count) None = omega arith
-  step_lasts Idle (Some c) = first_lasts (hold_start table c)
-  step_lasts (Acquiring h count) (Some c) = later_lasts count (first_vote_step rules (hold_start table c)) (voted_by table h c).answer (voted_by table h c).new (first_lasts (hold_start table c))
-  step_lasts (Locked h) (Some c) = voted_lasts (voted_by table h c).answer (voted_by table h c).new
-  step_lasts (Locked h) None = elim (cases_Bool (nat_le rules.holdover h.age)) [
+  rule_lasts Idle None = omega arith
+  rule_lasts (Acquiring h count) None = omega arith
+  rule_lasts Idle (Some c) = first_lasts (hold_start table c)
+  rule_lasts (Acquiring h count) (Some c) = later_lasts count (first_vote_step rules (hold_start table c)) (voted_by table h c).answer (voted_by table h c).new (first_lasts (hold_start table c))
+  rule_lasts (Locked h) (Some c) = voted_lasts (voted_by table h c).answer (voted_by table h c).new
+  rule_lasts (Locked h) None = elim (cases_Bool (nat_le rules.holdover h.age)) [
     | inl long ↦ rw long (omega arith)
     | inr short ↦ rw short (stepped_lasts h h.heard (next_of h.last (spoken_mark table h.heard h.last.day)) (leb-false rules.holdover h.age short))
   ]
+
+  pub step_lasts : (s : State) (vote : Option Claim) → lasted (step_checked prefers rules table s vote).report.lock ≤ rules.holdover
+  step_lasts s vote = checked_cases prefers rules table s vote (λ step. lasted step.report.lock ≤ rules.holdover) (rule_lasts s vote) (omega arith)
 
   -- one more or several
   abbrev IsGone : ℕ → State → Type 0
   IsGone age s = (s ≡ Idle) ⊎ IsOlder rules.holdover age s
 
-  once : (s : State) → IsGone (age_of s + 1) (step_of rules table s None).state
+  once : (s : State) → IsGone (age_of s + 1) (step_checked prefers rules table s None).state
   once s = elim (alone_step s) [ inl stop ↦ inl stop.0 | inr older ↦ inr older.locked ]
 
-  idle_stays : (step_of rules table Idle None).state ≡ Idle
+  idle_stays : (step_checked prefers rules table Idle None).state ≡ Idle
   unfolding step_of
-  idle_stays = refl
+  idle_stays = checked_cases prefers rules table Idle None (λ step. step.state ≡ Idle) refl refl
 
-  then_once : (age next : ℕ) (s : State) → next ≡ age + 1 → IsGone age s → IsGone next (step_of rules table s None).state
-  then_once age next s e (inl idle) = inl (ap (λ (x : State). (step_of rules table x None).state) idle ∙ idle_stays)
+  then_once : (age next : ℕ) (s : State) → next ≡ age + 1 → IsGone age s → IsGone next (step_checked prefers rules table s None).state
+  then_once age next s e (inl idle) = inl (ap (λ (x : State). (step_checked prefers rules table x None).state) idle ∙ idle_stays)
   then_once age next s e (inr older) =
       let was : age_of s ≡ age = ap age_of older.is ∙ older.older in
       let same : age_of s + 1 ≡ next = omega (arith, was, e) in
-      subst (λ (n : ℕ). IsGone n (step_of rules table s None).state) same (once s)
+      subst (λ (n : ℕ). IsGone n (step_checked prefers rules table s None).state) same (once s)
 
-  pub gone : (j : ℕ) (s : State) → IsGone (age_of s + suc j) (missed rules table (suc j) s)
-  gone zero s = let same : age_of s + 1 ≡ age_of s + suc 0 = omega arith in subst (λ (n : ℕ). IsGone n (step_of rules table s None).state) same (once s)
-  gone (suc j) s = then_once (age_of s + suc j) (age_of s + suc (suc j)) (missed rules table (suc j) s) (omega arith) (gone j s)
+  pub gone : (j : ℕ) (s : State) → IsGone (age_of s + suc j) (missed prefers rules table (suc j) s)
+  gone zero s = let same : age_of s + 1 ≡ age_of s + suc 0 = omega arith in subst (λ (n : ℕ). IsGone n (step_checked prefers rules table s None).state) same (once s)
+  gone (suc j) s = then_once (age_of s + suc j) (age_of s + suc (suc j)) (missed prefers rules table (suc j) s) (omega arith) (gone j s)
 
   -- too many leave nothing to go on
-  pub gone_idle : (n : ℕ) (s : State) → 1 ≤ n → rules.holdover < age_of s + n → missed rules table n s ≡ Idle
+  pub gone_idle : (n : ℕ) (s : State) → 1 ≤ n → rules.holdover < age_of s + n → missed prefers rules table n s ≡ Idle
   gone_idle zero s some long = absurd (omega (arith, some))
   gone_idle (suc j) s some long = by (gone j s)
     where
-      by : IsGone (age_of s + suc j) (missed rules table (suc j) s) → missed rules table (suc j) s ≡ Idle
+      by : IsGone (age_of s + suc j) (missed prefers rules table (suc j) s) → missed prefers rules table (suc j) s ≡ Idle
       by (inl idle) = idle
       by (inr older) = absurd (omega (arith, older.older, older.young, long))
 
-  pub missed_idle : (n : ℕ) (s : State) → s ≡ Idle → missed rules table n s ≡ Idle
+  pub missed_idle : (n : ℕ) (s : State) → s ≡ Idle → missed prefers rules table n s ≡ Idle
   missed_idle zero s e = e
-  missed_idle (suc n) s e = ap (λ (x : State). (step_of rules table x None).state) (missed_idle n s e) ∙ idle_stays
+  missed_idle (suc n) s e = ap (λ (x : State). (step_checked prefers rules table x None).state) (missed_idle n s e) ∙ idle_stays

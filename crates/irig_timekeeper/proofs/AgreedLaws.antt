@@ -6,19 +6,19 @@ use Rattle.std.proofs.lemmas.List.Sums.{sum_by-cons}
 use Rattle.irig_sync.specs.Sync.{clock_gap}
 use Rattle.irig_time.specs.Claims.{same_claim}
 use Rattle.irig_vote.specs.Vote.{f_of}
-use Rattle.irig_timekeeper.specs.declared.lines.KeptFrame.{KeptFrame}
-use Rattle.irig_timekeeper.specs.declared.lines.KeptClaim.{KeptClaim}
-use Rattle.irig_timekeeper.specs.declared.lines.Lines.{Lines}
-use Rattle.irig_timekeeper.specs.declared.lines.Vote.{Vote}
-use Rattle.irig_timekeeper.specs.declared.setup.ClockRules.{ClockRules}
-use Rattle.irig_timekeeper.specs.Exactness.{window_us}
-use Rattle.irig_timekeeper.specs.Lines.{IfKept}
-use Rattle.irig_timekeeper.specs.Counting.{is_late, has_come}
-use Rattle.irig_timekeeper.specs.Steps.{line_at, still_kept, settled, claim_kept, all_kept, agrees, is_candidate, earlier, first_candidate, place_behind, ends_by, ends_from, end_behind, ended_by, ending_from, vote_between, vote_with, agreed, if_come, wait_by}
+use Rattle.irig_lines.specs.declared.lines.KeptFrame.{KeptFrame}
+use Rattle.irig_lines.specs.declared.lines.KeptClaim.{KeptClaim}
+use Rattle.irig_lines.specs.declared.lines.Lines.{Lines}
+use Rattle.irig_lines.specs.declared.lines.Vote.{Vote}
+use Rattle.irig_lines.specs.declared.setup.ClockRules.{ClockRules}
+use Rattle.irig_lines.specs.Exactness.{window_us}
+use Rattle.irig_lines.specs.Lines.{IfKept}
+use Rattle.irig_lines.specs.Counting.{is_late, has_come}
+use Rattle.irig_lines.specs.Steps.{line_at, still_kept, settled, claim_kept, all_kept, agrees, is_candidate, earlier, first_candidate, place_behind, ends_by, ends_from, end_behind, ended_by, ending_from, vote_between, vote_with, agreed, if_come, wait_by}
 use Rattle.irig_timekeeper.specs.Keeping.{Keeping, vote_at}
 use Rattle.irig_timekeeper.specs.Life.{Call, after_calls, pulses_on, last_tick, AreInOrder}
 use Rattle.irig_timekeeper.specs.Life.Call.{Tick}
-use Rattle.irig_timekeeper.proofs.PartLaws.{split, narrow}
+use Rattle.irig_lines.proofs.PartLaws.{split, narrow}
 use Rattle.irig_timekeeper.proofs.VoteLaws.{still, frame_settled, not_late, last_late}
 use Rattle.irig_timekeeper.proofs.LifeLaws.{AreLinesAt, IsEndAt, and_false, lines_after}
 use Rattle.irig_timekeeper.proofs.OrderLaws.{shared, kept_by, IsCandidateAt, IsKeptThere, there_at, IsAgreedOn, agreed_on, agreeing, many, absent, EndsAt, ends_at, near_end, lies_behind}

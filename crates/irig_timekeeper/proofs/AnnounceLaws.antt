@@ -11,33 +11,34 @@ use Rattle.irig_time.specs.Timelines.{TimelineValue, IsSecond, truth_at}
 use Rattle.irig_time.proofs.SecondAt.{claim_is}
 use Rattle.irig_vote.specs.Vote.{f_of}
 use Rattle.irig_reader.specs.declared.rule.State.{State}
-use Rattle.irig_reader.specs.Held.{then_none}
 use Rattle.irig_reader.specs.Locking.{then_true}
 use Rattle.irig_reader.specs.Rule.{step_of, state_of, report_of}
 use Rattle.irig_reader.proofs.TrueVotesInARow.{locked_from_anywhere}
-use Rattle.irig_timekeeper.specs.declared.lines.Vote.{Vote}
+use Rattle.irig_lines.specs.declared.lines.Vote.{Vote}
 use Rattle.irig_timekeeper.specs.declared.clock.Beat.{Beat}
-use Rattle.irig_timekeeper.specs.declared.setup.ClockRules.{ClockRules}
+use Rattle.irig_lines.specs.declared.setup.ClockRules.{ClockRules}
 use Rattle.irig_timekeeper.specs.declared.clock.ClockState.{ClockState}
-use Rattle.irig_timekeeper.specs.Edges.{IsNear}
-use Rattle.irig_timekeeper.specs.Exactness.{vote_us, most_vote_us}
-use Rattle.irig_timekeeper.specs.Counting.{edges_to_vote, edges_own}
-use Rattle.irig_timekeeper.specs.Rule.{missed}
-use Rattle.irig_timekeeper.specs.Steps.{is_pulse, settled, agreed, if_come}
+use Rattle.irig_lines.specs.Edges.{IsNear}
+use Rattle.irig_lines.specs.Exactness.{vote_us, most_vote_us}
+use Rattle.irig_lines.specs.Counting.{edges_to_vote, edges_own}
+use Rattle.irig_timekeeper.specs.Rule.{missed, against_table, step_behind}
+use Rattle.irig_lines.specs.Steps.{is_pulse, settled, agreed, if_come}
 use Rattle.irig_timekeeper.specs.Clock.{knowing_vote, step_to, beat_by, after_vote, answer_to_vote, after_own, clock_by, answer_by, settled_at}
 use Rattle.irig_timekeeper.specs.Keeping.{Keeping, vote_at, after_pulse, after_tick, answer_at}
-use Rattle.irig_timekeeper.specs.Truth.{IsEdgeAt, IsDevice}
+use Rattle.irig_timekeeper.specs.Truth.{IsEdgeAt, IsDevice, FollowsTruth}
 use Rattle.irig_timekeeper.specs.Life.{Call, after_calls, pulses_on, last_tick, HaveRisen, AreInOrder, AreTrueLately, AreTrueOver}
 use Rattle.irig_timekeeper.specs.Life.Call.{Hear, Tick}
 use Rattle.irig_timekeeper.specs.Announcing.{ComesWhole, AreWellHeard, Announces}
-use Rattle.irig_timekeeper.proofs.CountingLaws.{counts}
+use Rattle.irig_lines.proofs.CountingLaws.{counts}
 use Rattle.irig_timekeeper.proofs.TimeLaws.{own_come, own_count, still_edge, voted_count}
 use Rattle.irig_timekeeper.proofs.VoteLaws.{vote_is_true}
-use Rattle.irig_timekeeper.proofs.LockLaws.{missed_are_none}
+use Rattle.irig_timekeeper.proofs.LockLaws.{IsLed, step_led, missed_led}
 use Rattle.irig_timekeeper.proofs.LifeLaws.{AreLinesAt, lines_after, TellAlwaysTruly, heard_truly, order_before}
 use Rattle.irig_timekeeper.proofs.OrderLaws.{IsSetByVote, set_before, votes_apart, edge_of}
 use Rattle.irig_timekeeper.proofs.FrameLaws.{HaveNoVotes, whole_kept}
 use Rattle.irig_timekeeper.proofs.EnoughLaws.{one_edge, has_vote}
+use Rattle.irig_timekeeper.proofs.GuardLaws.{passes_truth}
+use Rattle.irig_reader.specs.declared.rule.Step.{Step}
 
 -- ---- what a tick leaves
 
@@ -73,7 +74,7 @@ voted_by c table s v n = elim (cases_Bool (n == 0)) [
       rw waits (record { edge = refl; none = λ e. refl; some = λ e. absurd (omega (arith, e, nothing)); tells = λ e. absurd (omega (arith, e, nothing)) })
   | inr more ↦
       let apart = eqb-false n 0 more in
-      rw more (record { edge = refl; none = λ e. absurd (apart e); some = λ e. refl; tells = λ e. (beat_by c s (step_to c table s n (Some v.claim)) (n - 1) v.edge_us v.bound_us, refl, refl) })
+      rw more (record { edge = refl; none = λ e. absurd (apart e); some = λ e. refl; tells = λ e. (beat_by c s (against_table table (Some v.claim)) (step_to c table s n (Some v.claim)) (n - 1) v.edge_us v.bound_us, refl, refl) })
 ]
 
 voted : (k : Keeping) (clock : ℕ) (v : Vote) → vote_at k clock ≡ Some v → IsVoted k.clock k.table (settled_at k.clock k.state clock) v (edges_to_vote k.state.edge_us v.edge_us) (after_tick k clock).state (answer_at k clock)
@@ -93,7 +94,7 @@ voted k clock v e = of (vote_at k clock) e
 
 -- a tick leaves the reader, or steps on by some edges and a vote, or none
 abbrev Stepped : ClockRules → TableValue → State → State → Type 0
-Stepped c table old new = (new ≡ old) ⊎ ((n : ℕ) × (vote : Option Claim) × (new ≡ (step_of c.reader_rules table (missed c.reader_rules table n old) vote).state))
+Stepped c table old new = (new ≡ old) ⊎ ((n : ℕ) × (vote : Option Claim) × (new ≡ (step_behind c.prefers_frames c.reader_rules table n old vote).state))
 
 stepped : (k : Keeping) (clock : ℕ) → Stepped k.clock k.table k.state.reader (after_tick k clock).state.reader
 stepped k clock = of (vote_at k clock)
@@ -146,7 +147,7 @@ heard_serve IsTrue t edges new start m (suc n) calls before heard =
       heard_serve IsTrue t edges new start m n heard.1 before heard.4,
     )
 
-module _ (IsTrue : ℕ → List Pulse → Type 0) (t : TimelineValue) (edges : ℕ → ℕ) (new : Keeping) (start : ℕ) (begun : AreLinesAt new new (λ i. []) start start) (is : IsDevice t new.clock.drift_us edges new.clock.reader_rules new.table) (truly : TellAlwaysTruly IsTrue new.clock.within.us new.clock.drift_us new.rules t edges 0 0) where
+module _ (IsTrue : ℕ → List Pulse → Type 0) (t : TimelineValue) (edges : ℕ → ℕ) (new : Keeping) (start : ℕ) (begun : AreLinesAt new new (λ i. []) start start) (is : IsDevice t new.clock.drift_us edges new.clock.reader_rules new.table) (follows : FollowsTruth t new.clock.prefers_frames new.table) (truly : TellAlwaysTruly IsTrue new.clock.within.us new.clock.drift_us new.rules t edges 0 0) where
   abbrev state : List Call → ClockState
   state calls = (after_calls new calls).state
 
@@ -259,9 +260,8 @@ module _ (IsTrue : ℕ → List Pulse → Type 0) (t : TimelineValue) (edges : �
       }
 
   -- wherever the device stood, it then stands there
-  record IsReached (calls : List Call) : Type 0 where
-    votes : List (Option Claim)
-    reads : Reads votes (state calls).reader
+  abbrev IsReached : List Call → Type 0
+  IsReached calls = IsLed new.clock.reader_rules new.table (state calls).reader
 
   set_here : (V now : ℕ) (calls : List Call) (v : Vote) → vote_at (after_calls new calls) (now % 2 ^ 32) ≡ Some v → IsEdgeAt v.edge_us V now → IsSetByVote new start begun V (Tick now ∷ calls)
   set_here V now calls v voted at = record { earlier = calls; later = []; before = now; v = v; are = refl; voted = voted; at = at }
@@ -270,11 +270,22 @@ module _ (IsTrue : ℕ → List Pulse → Type 0) (t : TimelineValue) (edges : �
     votes : List (Option Claim)
     voted_at : IsVotedAt m votes calls
 
-  step_reads : (k : Keeping) (n : ℕ) (votes : List (Option Claim)) (v : Vote) → k.clock ≡ new.clock → k.table ≡ new.table → Reads votes k.state.reader → (step_to k.clock k.table (settled_at k.clock k.state 0) n (Some v.claim)).state ≡ state_of new.clock.reader_rules new.table (Some v.claim ∷ then_none (n - 1) votes)
-  step_reads k n votes v clock table reads =
-      ap (λ (c : ClockRules). (step_of c.reader_rules k.table (missed c.reader_rules k.table (n - 1) k.state.reader) (Some v.claim)).state) clock
-      ∙ ap (λ (x : TableValue). (step_of new.clock.reader_rules x (missed new.clock.reader_rules x (n - 1) k.state.reader) (Some v.claim)).state) table
-      ∙ ap (λ (s : State). (step_of new.clock.reader_rules new.table s (Some v.claim)).state) (missed_are_none new.clock.reader_rules new.table (n - 1) k.state.reader votes reads)
+  -- a tick leads on
+  leads : (k : Keeping) (n : ℕ) (vote : Option Claim) → k.clock ≡ new.clock → k.table ≡ new.table → IsLed new.clock.reader_rules new.table k.state.reader → IsLed new.clock.reader_rules new.table (step_behind k.clock.prefers_frames k.clock.reader_rules k.table n k.state.reader vote).state
+  leads k n vote clock table led =
+      subst (λ (c : ClockRules). IsLed new.clock.reader_rules new.table (step_behind c.prefers_frames c.reader_rules k.table n k.state.reader vote).state) (sym clock)
+      (subst (λ (x : TableValue). IsLed new.clock.reader_rules new.table (step_behind new.clock.prefers_frames new.clock.reader_rules x n k.state.reader vote).state) (sym table)
+      (step_led new.clock.reader_rules new.table new.clock.prefers_frames (missed new.clock.prefers_frames new.clock.reader_rules new.table n k.state.reader) vote
+      (missed_led new.clock.reader_rules new.table new.clock.prefers_frames n k.state.reader led)))
+
+  -- one more true vote is the rule's
+  step_reads : (k : Keeping) (m : ℕ) (votes : List (Option Claim)) (v : Vote) → k.clock ≡ new.clock → k.table ≡ new.table → Reads votes k.state.reader → truth_at t m ≡ Some v.claim
+      → step_behind k.clock.prefers_frames k.clock.reader_rules k.table 0 k.state.reader (Some v.claim) ≡ step_of new.clock.reader_rules new.table (state_of new.clock.reader_rules new.table votes) (Some v.claim)
+  step_reads k m votes v clock table reads truth =
+      ap (λ (c : ClockRules). step_behind c.prefers_frames c.reader_rules k.table 0 k.state.reader (Some v.claim)) clock
+      ∙ ap (λ (x : TableValue). step_behind new.clock.prefers_frames new.clock.reader_rules x 0 k.state.reader (Some v.claim)) table
+      ∙ passes_truth t new.clock.prefers_frames new.clock.reader_rules new.table follows m k.state.reader v.claim truth
+      ∙ ap (λ (s : State). step_of new.clock.reader_rules new.table s (Some v.claim)) reads
 
   first_voted : (m now : ℕ) (calls : List Call) → AreInOrder start new.clock.redundancy (Tick now ∷ calls) → (v : Vote) → vote_at (after_calls new calls) (now % 2 ^ 32) ≡ Some v → IsVoteOf m now v → IsReached calls → IsFirstVoted m (Tick now ∷ calls)
   first_voted m now calls order v is_voted vote reached =
@@ -285,7 +296,8 @@ module _ (IsTrue : ℕ → List Pulse → Type 0) (t : TimelineValue) (edges : �
         | inl waits ↦ by reached.votes (left.none (eqb-true n 0 waits) ∙ reached.reads) left.edge
         | inr more ↦
             let some : 1 ≤ n = (let apart = eqb-false n 0 more in omega (arith, apart)) in
-            by (Some v.claim ∷ then_none (n - 1) reached.votes) (left.some some ∙ step_reads k n reached.votes v (same_clock calls now order) (same_table calls now order) reached.reads) left.edge
+            let led = leads k (n - 1) (Some v.claim) (same_clock calls now order) (same_table calls now order) reached in
+            by led.votes (left.some some ∙ led.reads) left.edge
       ]
     where
       by : (votes : List (Option Claim)) → Reads votes (state (Tick now ∷ calls)).reader → (state (Tick now ∷ calls)).edge_us ≡ Some v.edge_us → IsFirstVoted m (Tick now ∷ calls)
@@ -317,6 +329,7 @@ module _ (IsTrue : ℕ → List Pulse → Type 0) (t : TimelineValue) (edges : �
       let told = left.tells some in
       let same : m + 1 - 1 ≡ m = omega arith in
       let claim : Some v.claim ≡ truth_at t m = sym vote.claim ∙ ap (truth_at t) same in
+      let rule = step_reads k m votes v (same_clock calls now order) (same_table calls now order) at.reads (sym claim) in
       record {
         voted_at = record {
           e = v.edge_us;
@@ -325,16 +338,14 @@ module _ (IsTrue : ℕ → List Pulse → Type 0) (t : TimelineValue) (edges : �
           at = vote.at;
           near = vote.near;
           set = set_here vote.V now calls v is_voted vote.at;
-          reads = left.some some ∙ ap (λ (x : ℕ). (step_to k.clock k.table (settled_at k.clock k.state 0) x (Some v.claim)).state) one ∙ step_reads k 1 votes v (same_clock calls now order) (same_table calls now order) at.reads ∙ ap (λ (o : Option Claim). state_of new.clock.reader_rules new.table (o ∷ votes)) claim;
+          reads = left.some some ∙ ap (λ (x : ℕ). (step_to k.clock k.table (settled_at k.clock k.state 0) x (Some v.claim)).state) one ∙ ap (λ (x : Step). x.state) rule ∙ ap (λ (o : Option Claim). state_of new.clock.reader_rules new.table (o ∷ votes)) claim;
         };
         beat = told.0;
         answer = told.1;
         report =
             told.2
             ∙ ap (λ (x : ℕ). (step_to k.clock k.table (settled_at k.clock k.state 0) x (Some v.claim)).report) one
-            ∙ ap (λ (c : ClockRules). (step_of c.reader_rules k.table k.state.reader (Some v.claim)).report) (same_clock calls now order)
-            ∙ ap (λ (x : TableValue). (step_of new.clock.reader_rules x k.state.reader (Some v.claim)).report) (same_table calls now order)
-            ∙ ap (λ (s : State). (step_of new.clock.reader_rules new.table s (Some v.claim)).report) at.reads
+            ∙ ap (λ (x : Step). x.report) rule
             ∙ ap (λ (o : Option Claim). report_of new.clock.reader_rules new.table o votes) claim;
       }
 
@@ -418,14 +429,9 @@ module _ (IsTrue : ℕ → List Pulse → Type 0) (t : TimelineValue) (edges : �
       where
         by : IsReached calls → Stepped (after_calls new calls).clock (after_calls new calls).table (state calls).reader (state (Tick now ∷ calls)).reader → IsReached (Tick now ∷ calls)
         by before (inl same) = record { votes = before.votes; reads = same ∙ before.reads }
-        by before (inr step) = record {
-          votes = step.1 ∷ then_none step.0 before.votes;
-          reads =
-              step.2
-              ∙ ap (λ (c : ClockRules). (step_of c.reader_rules (after_calls new calls).table (missed c.reader_rules (after_calls new calls).table step.0 (state calls).reader) step.1).state) (same_clock calls now order)
-              ∙ ap (λ (x : TableValue). (step_of new.clock.reader_rules x (missed new.clock.reader_rules x step.0 (state calls).reader) step.1).state) (same_table calls now order)
-              ∙ ap (λ (s : State). (step_of new.clock.reader_rules new.table s step.1).state) (missed_are_none new.clock.reader_rules new.table step.0 (state calls).reader before.votes before.reads);
-        }
+        by before (inr step) =
+            let led = leads (after_calls new calls) step.0 step.1 (same_clock calls now order) (same_table calls now order) before in
+            record { votes = led.votes; reads = step.2 ∙ led.reads }
 
     walk_first : (m : ℕ) (older later : List Call) → AreInOrder start new.clock.redundancy (later ++ older) → AreTrueOver IsTrue f later older → last_tick start (later ++ older) ≤ edges m + 3000 → HaveNoVotes new (edges m - 15000) later older ⊎ IsFirstVoted m (later ++ older)
     walk_first m older [] order truth early = inl tt

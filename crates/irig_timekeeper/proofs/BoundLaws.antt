@@ -3,23 +3,23 @@ use Rattle.std.specs.Prelude.{◌==◌, ◌&&◌, count_by, nat_lt, min}
 use Rattle.std.proofs.Common.{◌≡◌, ◌∙◌, ℕ, ◌+◌, ◌-◌, ◌*◌, ◌%◌, ◌^◌, ◌≤◌, Bool, true, false, cond, List, [], ◌∷◌, Option, Some, None, refl, sym, ap, subst, arith, inl, inr}
 use Rattle.std.proofs.lemmas.Bool.{cases_Bool, cases_lt}
 use Rattle.irig_reader.specs.declared.rule.Step.{Step}
-use Rattle.irig_timekeeper.specs.declared.lines.KeptClaim.{KeptClaim}
-use Rattle.irig_timekeeper.specs.declared.lines.Lines.{Lines}
-use Rattle.irig_timekeeper.specs.declared.lines.Vote.{Vote}
+use Rattle.irig_lines.specs.declared.lines.KeptClaim.{KeptClaim}
+use Rattle.irig_lines.specs.declared.lines.Lines.{Lines}
+use Rattle.irig_lines.specs.declared.lines.Vote.{Vote}
 use Rattle.irig_timekeeper.specs.declared.clock.Beat.{Beat}
-use Rattle.irig_timekeeper.specs.declared.setup.ClockRules.{ClockRules}
+use Rattle.irig_lines.specs.declared.setup.ClockRules.{ClockRules}
 use Rattle.irig_timekeeper.specs.declared.clock.ClockState.{ClockState}
 use Rattle.irig_vote.specs.Vote.{f_of}
-use Rattle.irig_timekeeper.specs.Exactness.{window_us, vote_us}
-use Rattle.irig_timekeeper.specs.Counting.{edges_to_vote, edges_own}
-use Rattle.irig_timekeeper.specs.Rule.{missed}
-use Rattle.irig_timekeeper.specs.Steps.{is_pulse, all_kept, agrees, ends_by, end_behind, ended_by, agreed, settled}
+use Rattle.irig_lines.specs.Exactness.{window_us, vote_us}
+use Rattle.irig_lines.specs.Counting.{edges_to_vote, edges_own}
+use Rattle.irig_timekeeper.specs.Rule.{missed, against_table}
+use Rattle.irig_lines.specs.Steps.{is_pulse, all_kept, agrees, ends_by, end_behind, ended_by, agreed, settled}
 use Rattle.irig_timekeeper.specs.Clock.{after_own, after_vote, answer_alone, answer_to_vote, lasted, bound_of, own_edge, beat_by, step_to, clock_by, answer_by, settled_at}
 use Rattle.irig_timekeeper.specs.Keeping.{Keeping, vote_at, after_tick, answer_at}
 use Rattle.irig_timekeeper.specs.Life.{Call, after_calls}
 use Rattle.irig_timekeeper.specs.Life.Call.{Hear, Tick}
 use Rattle.irig_timekeeper.proofs.AgeLaws.{step_lasts}
-use Rattle.irig_timekeeper.proofs.PartLaws.{agreed_first}
+use Rattle.irig_lines.proofs.PartLaws.{agreed_first}
 use Rattle.irig_timekeeper.proofs.VoteLaws.{come}
 
 -- ---- a vote
@@ -62,16 +62,16 @@ module _ (k : Keeping) (clock : ℕ) where
   most = vote_us k.clock.within.us k.clock.drift_us
 
   -- whether it tells an edge or not
-  either : (test : Bool) (waits tells : ClockState) (step : Step) (n edge voted : ℕ) → voted ≤ most → waits.bound_us ≡ voted → tells.bound_us ≡ voted → lasted step.report.lock ≤ k.clock.reader_rules.holdover
-      → HasBound k.clock (cond test waits tells) (cond test None (Some (beat_by k.clock s step n edge voted)))
-  either true waits tells step n edge voted low same then few = record { voted = omega (arith, same, low); bound = λ b e. absurd cc; few = λ b e. absurd cc }
-  either false waits tells step n edge voted low same then few = record {
+  either : (test : Bool) (waits tells : ClockState) (against : Bool) (step : Step) (n edge voted : ℕ) → voted ≤ most → waits.bound_us ≡ voted → tells.bound_us ≡ voted → lasted step.report.lock ≤ k.clock.reader_rules.holdover
+      → HasBound k.clock (cond test waits tells) (cond test None (Some (beat_by k.clock s against step n edge voted)))
+  either true waits tells against step n edge voted low same then few = record { voted = omega (arith, same, low); bound = λ b e. absurd cc; few = λ b e. absurd cc }
+  either false waits tells against step n edge voted low same then few = record {
     voted = omega (arith, then, low);
     bound = λ b e.
-        let beat : beat_by k.clock s step n edge voted ≡ b = cc in
+        let beat : beat_by k.clock s against step n edge voted ≡ b = cc in
         let bound : b.bound_us ≡ bound_of k.clock.drift_us voted b.report.lock = ap (λ (x : Beat). x.bound_us) (sym beat) ∙ ap (λ (x : Beat). bound_of k.clock.drift_us voted x.report.lock) beat in
         omega (arith, bound, low);
-    few = λ b e. let beat : beat_by k.clock s step n edge voted ≡ b = cc in subst (λ (x : Beat). lasted x.report.lock ≤ k.clock.reader_rules.holdover) beat few;
+    few = λ b e. let beat : beat_by k.clock s against step n edge voted ≡ b = cc in subst (λ (x : Beat). lasted x.report.lock ≤ k.clock.reader_rules.holdover) beat few;
   }
 
   pub tick_bound : k.state.bound_us ≤ most → HasBound k.clock (after_tick k clock).state (answer_at k clock)
@@ -81,15 +81,15 @@ module _ (k : Keeping) (clock : ℕ) where
       of None e =
           let n = edges_own k.state.edge_us clock in
           let h : HasBound k.clock (after_own k.clock k.table s n) (answer_alone k.clock k.table s n) =
-          either (n == 0) _ _ (step_to k.clock k.table s n None) (n - 1) (own_edge k.state.edge_us n) k.state.bound_us low refl refl
-          (step_lasts k.clock.reader_rules k.table (missed k.clock.reader_rules k.table (n - 1) k.state.reader) None) in
+          either (n == 0) _ _ false (step_to k.clock k.table s n None) (n - 1) (own_edge k.state.edge_us n) k.state.bound_us low refl refl
+          (step_lasts k.clock.prefers_frames k.clock.reader_rules k.table (missed k.clock.prefers_frames k.clock.reader_rules k.table (n - 1) k.state.reader) None) in
           record { voted = h.voted; bound = h.bound; few = h.few }
       of (Some v) e =
           let n = edges_to_vote k.state.edge_us v.edge_us in
           let h : HasBound k.clock (after_vote k.clock k.table s v n) (answer_to_vote k.clock k.table s v n) =
-          either (n == 0) _ _ (step_to k.clock k.table s n (Some v.claim)) (n - 1) v.edge_us v.bound_us
+          either (n == 0) _ _ (against_table k.table (Some v.claim)) (step_to k.clock k.table s n (Some v.claim)) (n - 1) v.edge_us v.bound_us
           (vote_bound k.clock (settled clock k.state.lines) v (come clock (agreed k.clock (settled clock k.state.lines)) v e).0) refl refl
-          (step_lasts k.clock.reader_rules k.table (missed k.clock.reader_rules k.table (n - 1) k.state.reader) (Some v.claim)) in
+          (step_lasts k.clock.prefers_frames k.clock.reader_rules k.table (missed k.clock.prefers_frames k.clock.reader_rules k.table (n - 1) k.state.reader) (Some v.claim)) in
           record { voted = h.voted; bound = h.bound; few = h.few }
 
 -- ---- a life

@@ -7,14 +7,14 @@ use Rattle.std.proofs.lemmas.Bool.{cases_Bool}
 use Rattle.irig_time.specs.declared.second.UtcSecond.{UtcSecond}
 use Rattle.irig_time.specs.declared.claim.Claim.{Claim}
 use Rattle.irig_reader.specs.declared.report.Report.{Report}
-use Rattle.irig_timekeeper.specs.declared.lines.Vote.{Vote}
+use Rattle.irig_lines.specs.declared.lines.Vote.{Vote}
 use Rattle.irig_timekeeper.specs.declared.clock.Beat.{Beat}
-use Rattle.irig_timekeeper.specs.declared.setup.ClockRules.{ClockRules}
+use Rattle.irig_lines.specs.declared.setup.ClockRules.{ClockRules}
 use Rattle.irig_timekeeper.specs.declared.clock.ClockState.{ClockState}
-use Rattle.irig_timekeeper.specs.Counting.{edges_to_vote, edges_own}
-use Rattle.irig_timekeeper.specs.Intervals.{by_vote, contradicts}
-use Rattle.irig_timekeeper.specs.Rule.{step_behind}
-use Rattle.irig_timekeeper.specs.Steps.{is_pulse}
+use Rattle.irig_lines.specs.Counting.{edges_to_vote, edges_own}
+use Rattle.irig_lines.specs.Intervals.{by_vote, contradicts}
+use Rattle.irig_timekeeper.specs.Rule.{step_behind, against_table}
+use Rattle.irig_lines.specs.Steps.{is_pulse}
 use Rattle.irig_timekeeper.specs.Clock.{announce_unless, unless_doubted, beat_by, step_to, own_edge, after_own, answer_alone, answer_to_vote, known_then, doubted_s, clock_by, answer_by, settled_at, is_unsteady, claim_voted}
 use Rattle.irig_timekeeper.specs.Keeping.{Keeping, vote_at, after_tick, answer_at}
 use Rattle.irig_timekeeper.specs.Life.{Call, after_calls}
@@ -46,15 +46,15 @@ module _ (k : Keeping) (clock : ℕ) where
       by n answer = elim (cases_Bool (n == 0)) [
         | inl none ↦ let both : None ≡ Some b = rw none at answer in absurd cc
         | inr some ↦
-            let both : Some (beat_by k.clock s (step_to k.clock k.table s n None) (n - 1) (own_edge s.edge_us n) s.bound_us) ≡ Some b = rw some at answer in
-            let beat : beat_by k.clock s (step_to k.clock k.table s n None) (n - 1) (own_edge s.edge_us n) s.bound_us ≡ b = cc in
-            ap (λ (x : Beat). x.report.announce) (sym beat) ∙ holds_back s.doubt (step_behind k.clock.reader_rules k.table (n - 1) k.state.reader None).report.announce (still_doubted doubt)
+            let both : Some (beat_by k.clock s false (step_to k.clock k.table s n None) (n - 1) (own_edge s.edge_us n) s.bound_us) ≡ Some b = rw some at answer in
+            let beat : beat_by k.clock s false (step_to k.clock k.table s n None) (n - 1) (own_edge s.edge_us n) s.bound_us ≡ b = cc in
+            ap (λ (x : Beat). x.report.announce) (sym beat) ∙ holds_back s.doubt (step_behind k.clock.prefers_frames k.clock.reader_rules k.table (n - 1) k.state.reader None).report.announce (still_doubted doubt)
       ]
 
   abbrev rule : ℕ → Option Claim → Report
-  rule missed vote = (step_behind k.clock.reader_rules k.table missed k.state.reader vote).report
+  rule missed vote = (step_behind k.clock.prefers_frames k.clock.reader_rules k.table missed k.state.reader vote).report
 
-  by_beat : (vote : Option Claim) (n edge voted : ℕ) (b : Beat) → unless_doubted s.doubt vote (rule (n - 1) vote) ≡ rule (n - 1) vote → beat_by k.clock s (step_to k.clock k.table s n vote) (n - 1) edge voted ≡ b → b.report ≡ rule b.missed vote
+  by_beat : (vote : Option Claim) (n edge voted : ℕ) (b : Beat) → unless_doubted s.doubt vote (rule (n - 1) vote) ≡ rule (n - 1) vote → beat_by k.clock s (against_table k.table vote) (step_to k.clock k.table s n vote) (n - 1) edge voted ≡ b → b.report ≡ rule b.missed vote
   by_beat vote n edge voted b said beat = ap (λ (x : Beat). x.report) (sym beat) ∙ said ∙ ap (λ (x : Beat). rule x.missed vote) beat
 
   -- by a vote the rule is said, whatever is in doubt
@@ -65,7 +65,7 @@ module _ (k : Keeping) (clock : ℕ) where
       voted n answer = elim (cases_Bool (n == 0)) [
         | inl none ↦ let both : None ≡ Some b = rw none at answer in absurd cc
         | inr some ↦
-            let both : Some (beat_by k.clock s (step_to k.clock k.table s n (Some v.claim)) (n - 1) v.edge_us v.bound_us) ≡ Some b = rw some at answer in
+            let both : Some (beat_by k.clock s (against_table k.table (Some v.claim)) (step_to k.clock k.table s n (Some v.claim)) (n - 1) v.edge_us v.bound_us) ≡ Some b = rw some at answer in
             by_beat (Some v.claim) n v.edge_us v.bound_us b refl cc
       ]
 
@@ -89,7 +89,7 @@ module _ (k : Keeping) (clock : ℕ) where
           own n answer = elim (cases_Bool (n == 0)) [
             | inl none ↦ let both : None ≡ Some b = rw none at answer in absurd cc
             | inr some ↦
-                let both : Some (beat_by k.clock s (step_to k.clock k.table s n None) (n - 1) (own_edge s.edge_us n) s.bound_us) ≡ Some b = rw some at answer in
+                let both : Some (beat_by k.clock s false (step_to k.clock k.table s n None) (n - 1) (own_edge s.edge_us n) s.bound_us) ≡ Some b = rw some at answer in
                 by_beat None n (own_edge s.edge_us n) s.bound_us b (ap (λ (o : Option UtcSecond). record (rule (n - 1) None) { announce = o }) (says_all s.doubt None (rule (n - 1) None).announce nothing)) cc
           ]
 

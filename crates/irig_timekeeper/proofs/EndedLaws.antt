@@ -11,22 +11,22 @@ use Rattle.irig_reader.specs.declared.report.Lock.{Lock}
 use Rattle.irig_reader.specs.declared.rule.State.{State}
 use Rattle.irig_reader.specs.declared.rule.State.TheVariants.{Idle, Acquiring, Locked}
 use Rattle.irig_vote.specs.Vote.{f_of}
-use Rattle.irig_timekeeper.specs.declared.lines.Vote.{Vote}
+use Rattle.irig_lines.specs.declared.lines.Vote.{Vote}
 use Rattle.irig_timekeeper.specs.declared.stamp.Announced.{Announced}
 use Rattle.irig_timekeeper.specs.declared.clock.Beat.{Beat}
-use Rattle.irig_timekeeper.specs.declared.setup.ClockRules.{ClockRules}
+use Rattle.irig_lines.specs.declared.setup.ClockRules.{ClockRules}
 use Rattle.irig_timekeeper.specs.declared.clock.ClockState.{ClockState}
-use Rattle.irig_timekeeper.specs.Edges.{IsQuartz, IsNear}
-use Rattle.irig_timekeeper.specs.Counting.{edges_between, edges_to_vote, edges_own}
+use Rattle.irig_lines.specs.Edges.{IsQuartz, IsNear}
+use Rattle.irig_lines.specs.Counting.{edges_between, edges_to_vote, edges_own}
 use Rattle.irig_timekeeper.specs.Rule.{missed, step_behind}
 use Rattle.irig_timekeeper.specs.Clock.{lasted, bound_of, announced_at, held_second, second_ended, own_edge, beat_by, step_to, after_own, after_vote, answer_alone, knowing, knowing_vote, clock_by, answer_by, settled_at}
-use Rattle.irig_timekeeper.specs.Steps.{is_pulse, settled, agreed, if_come}
+use Rattle.irig_lines.specs.Steps.{is_pulse, settled, agreed, if_come}
 use Rattle.irig_timekeeper.specs.Keeping.{Keeping, vote_at, after_tick, answer_at}
 use Rattle.irig_timekeeper.specs.Life.{Call, after_calls, last_tick, pulses_on, AreInOrder, AreTrueLately, AreTrueAtTicks}
 use Rattle.irig_timekeeper.specs.Life.Call.{Hear, Tick}
 use Rattle.irig_timekeeper.specs.Truth.{IsTrueVote, IsEdgeAt, IsOnTrack, StandsSurely, IsDevice}
 use Rattle.irig_timekeeper.specs.LineTruths.{IsEndedTruly}
-use Rattle.irig_timekeeper.proofs.CountingLaws.{rises}
+use Rattle.irig_lines.proofs.CountingLaws.{rises}
 use Rattle.irig_timekeeper.proofs.TimeLaws.{own_come, own_count, still_edge, own_edge_at, voted_count}
 use Rattle.irig_timekeeper.proofs.AgeLaws.{step_lasts}
 use Rattle.irig_timekeeper.proofs.SureSteps.{sure_step}
@@ -208,7 +208,7 @@ module _ (t : TimelineValue) (edges : ℕ → ℕ) where
     -- by the own counter
     module _ (alone : vote_at k (now % 2 ^ 32) ≡ None) (n : ℕ) (count : n ≡ edges_own k.state.edge_us (now % 2 ^ 32)) where
       abbrev beat : Beat
-      beat = beat_by k.clock (settled_at k.clock k.state (now % 2 ^ 32)) (step_to k.clock k.table (settled_at k.clock k.state (now % 2 ^ 32)) n None) (n - 1) (own_edge k.state.edge_us n) k.state.bound_us
+      beat = beat_by k.clock (settled_at k.clock k.state (now % 2 ^ 32)) false (step_to k.clock k.table (settled_at k.clock k.state (now % 2 ^ 32)) n None) (n - 1) (own_edge k.state.edge_us n) k.state.bound_us
 
       module _ (some : 1 ≤ n) (counts : (n == 0) ≡ false) (e : ℕ) (here : k.state.edge_us ≡ Some e) where
         at_edge : EndedBy t edges tick (Some e) k.state.ended k.state.ended_before
@@ -233,10 +233,10 @@ module _ (t : TimelineValue) (edges : ℕ → ℕ) where
               let answers : answer_at k (now % 2 ^ 32) ≡ Some beat = ap (answer_by k.clock k.table (settled_at k.clock k.state (now % 2 ^ 32)) (now % 2 ^ 32)) alone ∙ (let one : answer_alone k.clock k.table (settled_at k.clock k.state (now % 2 ^ 32)) (edges_own k.state.edge_us (now % 2 ^ 32)) ≡ Some beat = subst (λ (m : ℕ). answer_alone k.clock k.table (settled_at k.clock k.state (now % 2 ^ 32)) m ≡ Some beat) count (rw counts refl) in one) in
               let told = (keeps.told beat u answers says).told in
               let sure = subst (λ (r : State). StandsSurely t k.table w r) at stands.truth in
-              let by_rule = rule_announces (settled_at k.clock k.state (now % 2 ^ 32)).doubt None (step_behind k.clock.reader_rules k.table (n - 1) k.state.reader None).report.announce u says in
-              let one_step = subst (λ (i : ℕ). (step_behind k.clock.reader_rules k.table i k.state.reader None).report.announce ≡ Some u) zero_more by_rule in
-              let next = (sure_step t k.clock.reader_rules k.table is.sound is.knows w k.state.reader None stands.truth (inl refl)).says u one_step in
-              let few = step_lasts k.clock.reader_rules k.table (missed k.clock.reader_rules k.table (n - 1) k.state.reader) None in
+              let by_rule = rule_announces (settled_at k.clock k.state (now % 2 ^ 32)).doubt None (step_behind k.clock.prefers_frames k.clock.reader_rules k.table (n - 1) k.state.reader None).report.announce u says in
+              let one_step = subst (λ (i : ℕ). (step_behind k.clock.prefers_frames k.clock.reader_rules k.table i k.state.reader None).report.announce ≡ Some u) zero_more by_rule in
+              let next = (sure_step t k.clock.reader_rules k.table is.sound is.knows k.clock.prefers_frames w k.state.reader None stands.truth (inl refl)).says u one_step in
+              let few = step_lasts k.clock.prefers_frames k.clock.reader_rules k.table (missed k.clock.prefers_frames k.clock.reader_rules k.table (n - 1) k.state.reader) None in
               let near : IsNear edges beat.bound_us beat.bound_us told.m told.edge = record { least = omega (arith, told.near.least); most = omega (arith, told.near.most) } in
               alone_one t edges k.clock k.table is tick now order soon e at_edge.0 at_edge.1 k.state.ended k.state.ended_before at_edge.2 n count_here (omega (arith, zero_more, some)) h.last w told.m beat.bound_us told.edge
               sure.on_time.last (second_one t told.m (w + 1) u told.truth next) (sym (ap (λ (o : Option ℕ). own_edge o n) here) ∙ told.clock) near told.come told.soon
@@ -268,7 +268,7 @@ module _ (t : TimelineValue) (edges : ℕ → ℕ) where
     vote_tick v vote n count = elim (cases_Bool (n == 0)) [
       | inl none ↦ rw none (stays t edges k.clock k.table is tick now order soon v vote k.state.edge_us k.state.ended k.state.ended_before ends (sym count ∙ eqb-true n 0 none))
       | inr some ↦
-          let few = step_lasts k.clock.reader_rules k.table (missed k.clock.reader_rules k.table (n - 1) k.state.reader) (Some v.claim) in
+          let few = step_lasts k.clock.prefers_frames k.clock.reader_rules k.table (missed k.clock.prefers_frames k.clock.reader_rules k.table (n - 1) k.state.reader) (Some v.claim) in
           rw some (voted t edges k.clock k.table is tick now order soon v vote k.state.edge_us k.state.ended k.state.ended_before (step_to k.clock k.table (settled_at k.clock k.state (now % 2 ^ 32)) n (Some v.claim)).report.lock ends few n count (omega (arith, eqb-false n 0 some)))
     ]
 

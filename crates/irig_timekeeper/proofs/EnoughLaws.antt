@@ -12,21 +12,21 @@ use Rattle.irig_time.specs.Timelines.{TimelineValue, IsTrueClaim}
 use Rattle.irig_time.proofs.SecondAt.{claim_is}
 use Rattle.irig_vote.specs.Vote.{f_of}
 use Rattle.irig_vote.proofs.CountLaws.{same_itself}
-use Rattle.irig_timekeeper.specs.declared.lines.KeptClaim.{KeptClaim}
-use Rattle.irig_timekeeper.specs.declared.lines.Lines.{Lines}
-use Rattle.irig_timekeeper.specs.declared.lines.Vote.{Vote}
-use Rattle.irig_timekeeper.specs.declared.setup.ClockRules.{ClockRules}
-use Rattle.irig_timekeeper.specs.Edges.{IsQuartz}
-use Rattle.irig_timekeeper.specs.Exactness.{window_us, vote_us}
-use Rattle.irig_timekeeper.specs.Steps.{line_at, settled, claim_kept, all_kept, agrees, agreed, if_come}
+use Rattle.irig_lines.specs.declared.lines.KeptClaim.{KeptClaim}
+use Rattle.irig_lines.specs.declared.lines.Lines.{Lines}
+use Rattle.irig_lines.specs.declared.lines.Vote.{Vote}
+use Rattle.irig_lines.specs.declared.setup.ClockRules.{ClockRules}
+use Rattle.irig_lines.specs.Edges.{IsQuartz}
+use Rattle.irig_lines.specs.Exactness.{window_us, vote_us}
+use Rattle.irig_lines.specs.Steps.{line_at, settled, claim_kept, all_kept, agrees, agreed, if_come}
 use Rattle.irig_timekeeper.specs.Keeping.{Keeping, vote_at}
 use Rattle.irig_timekeeper.specs.Truth.{AreHeardTruly}
 use Rattle.irig_timekeeper.specs.Life.{Call, after_calls, pulses_on, HaveRisen, AreInOrder, AreTrueLately}
 use Rattle.irig_timekeeper.specs.Life.Call.{Tick}
-use Rattle.irig_timekeeper.proofs.CountingLaws.{rises}
+use Rattle.irig_lines.proofs.CountingLaws.{rises}
 use Rattle.irig_timekeeper.proofs.VoteLaws.{frame_settled, AreReady, vote_comes}
 use Rattle.irig_timekeeper.proofs.WaitLaws.{one_is_agreed}
-use Rattle.irig_timekeeper.proofs.WholeLaws.{whole_of}
+use Rattle.irig_lines.proofs.WholeLaws.{whole_of}
 use Rattle.irig_timekeeper.proofs.LifeLaws.{AreLinesAt, lines_after, TellAlwaysTruly, heard_truly}
 use Rattle.irig_timekeeper.proofs.FrameLaws.{Keeps, ended, in_time, stays_kept}
 

@@ -12,22 +12,22 @@ use Rattle.irig_time.specs.Timelines.{TimelineValue}
 use Rattle.irig_port.specs.declared.told.Told.{Told}
 use Rattle.irig_port.specs.Limits.{told_within}
 use Rattle.irig_vote.specs.Vote.{f_of}
-use Rattle.irig_timekeeper.specs.declared.lines.KeptFrame.{KeptFrame}
-use Rattle.irig_timekeeper.specs.declared.lines.Line.{Line}
-use Rattle.irig_timekeeper.specs.declared.lines.Lines.{Lines}
-use Rattle.irig_timekeeper.specs.declared.setup.ClockRules.{ClockRules}
+use Rattle.irig_lines.specs.declared.lines.KeptFrame.{KeptFrame}
+use Rattle.irig_lines.specs.declared.lines.Line.{Line}
+use Rattle.irig_lines.specs.declared.lines.Lines.{Lines}
+use Rattle.irig_lines.specs.declared.setup.ClockRules.{ClockRules}
 use Rattle.irig_timekeeper.specs.declared.clock.ClockState.{ClockState}
-use Rattle.irig_timekeeper.specs.Edges.{IsQuartz}
-use Rattle.irig_timekeeper.specs.Counting.{is_late, edges_own}
-use Rattle.irig_timekeeper.specs.Lines.{IsTrueLately, rise_before, KnowsBegin, IsLastBefore}
-use Rattle.irig_timekeeper.specs.Steps.{is_pulse, is_even, frame_behind, line_at, line_heard, still_kept, settled, taken, is_uneven, frames_of, are_uneven}
+use Rattle.irig_lines.specs.Edges.{IsQuartz}
+use Rattle.irig_lines.specs.Counting.{is_late, edges_own}
+use Rattle.irig_lines.specs.Lines.{IsTrueLately, rise_before, KnowsBegin, IsLastBefore}
+use Rattle.irig_lines.specs.Steps.{is_pulse, is_even, frame_behind, line_at, line_heard, still_kept, settled, taken, is_uneven, frames_of, are_uneven}
 use Rattle.irig_timekeeper.specs.Clock.{vote_of_lines, is_unsteady}
 use Rattle.irig_timekeeper.specs.Keeping.{Keeping, heard_then, after_pulse, after_tick}
 use Rattle.irig_timekeeper.specs.Life.{Call, after_calls, pulses_on, last_tick, AreInOrder, AreTrueLately}
 use Rattle.irig_timekeeper.specs.Life.Call.{Hear, Tick}
-use Rattle.irig_timekeeper.proofs.AgreeLaws.{one_of, none_of, at_most_one}
-use Rattle.irig_timekeeper.proofs.LineLaws.{frame_is_even}
-use Rattle.irig_timekeeper.proofs.WholeLaws.{next_in_frame, alone_first, begin_here}
+use Rattle.irig_lines.proofs.AgreeLaws.{one_of, none_of, at_most_one}
+use Rattle.irig_lines.proofs.LineLaws.{frame_is_even}
+use Rattle.irig_lines.proofs.WholeLaws.{next_in_frame, alone_first, begin_here}
 use Rattle.irig_timekeeper.proofs.VoteLaws.{frame_settled, not_late}
 use Rattle.irig_timekeeper.proofs.LifeLaws.{AreLinesAt, line_soon, lines_after, line_same, line_takes, ticked, and_false, own_pulses, others_pulses, no_pulse, has_risen, unheard}
 use Rattle.irig_timekeeper.proofs.OrderLaws.{five, others_pulse}

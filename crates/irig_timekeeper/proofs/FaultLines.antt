@@ -23,11 +23,11 @@ use Rattle.irig_time.specs.declared.claim.Claim.{Claim}
 use Rattle.irig_time.specs.Carries.{Carries}
 use Rattle.irig_time.specs.Timelines.{TimelineValue}
 use Rattle.irig_port.proofs.FaultLaws.{odd_place, first_odd, second_odd, odd_at, misplaced, marker_at}
-use Rattle.irig_timekeeper.specs.declared.within.Within.{Within}
-use Rattle.irig_timekeeper.specs.Exactness.{end_off_us, fault_early_us, fault_late_us}
-use Rattle.irig_timekeeper.specs.Edges.{IsQuartz, IsTrueNear}
-use Rattle.irig_timekeeper.specs.Lines.{rise_before, AreEven, IsLastBefore, IsFrameOf, StandButForOne, IsCheckedLineOf, RoseBefore, HasOneFaultInPlace, RoseLately, IsTrueButForFaults, IsTrueOrFaulty}
-use Rattle.irig_timekeeper.proofs.LineLaws.{clock_of, true_lately}
+use Rattle.irig_lines.specs.declared.within.Within.{Within}
+use Rattle.irig_lines.specs.Exactness.{end_off_us, fault_early_us, fault_late_us}
+use Rattle.irig_lines.specs.Edges.{IsQuartz, IsTrueNear}
+use Rattle.irig_lines.specs.Lines.{rise_before, AreEven, IsLastBefore, IsFrameOf, StandButForOne, IsCheckedLineOf, RoseBefore, HasOneFaultInPlace, RoseLately, IsTrueButForFaults, IsTrueOrFaulty}
+use Rattle.irig_lines.proofs.LineLaws.{clock_of, true_lately}
 use Rattle.irig_timekeeper.proofs.LifeLaws.{TellAlwaysTruly}
 
 -- ---- one of some pulses

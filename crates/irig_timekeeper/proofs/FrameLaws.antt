@@ -21,29 +21,29 @@ use Rattle.irig_port.specs.declared.told.Told.TheVariants as tells
 use Rattle.irig_port.specs.Limits.{told_within}
 use Rattle.irig_port.specs.Hearing.{heard_at, heard_of_last}
 use Rattle.irig_port.proofs.RunLaws.{holds_place}
-use Rattle.irig_timekeeper.specs.declared.setup.ClockRules.{ClockRules}
-use Rattle.irig_timekeeper.specs.Lines.{rise_before}
-use Rattle.irig_timekeeper.specs.declared.lines.KeptFrame.{KeptFrame}
-use Rattle.irig_timekeeper.specs.declared.lines.KeptClaim.{KeptClaim}
-use Rattle.irig_timekeeper.specs.declared.lines.Line.{Line}
-use Rattle.irig_timekeeper.specs.declared.lines.Lines.{Lines}
-use Rattle.irig_timekeeper.specs.declared.lines.Vote.{Vote}
-use Rattle.irig_timekeeper.specs.declared.within.Within.{Within}
+use Rattle.irig_lines.specs.declared.setup.ClockRules.{ClockRules}
+use Rattle.irig_lines.specs.Lines.{rise_before}
+use Rattle.irig_lines.specs.declared.lines.KeptFrame.{KeptFrame}
+use Rattle.irig_lines.specs.declared.lines.KeptClaim.{KeptClaim}
+use Rattle.irig_lines.specs.declared.lines.Line.{Line}
+use Rattle.irig_lines.specs.declared.lines.Lines.{Lines}
+use Rattle.irig_lines.specs.declared.lines.Vote.{Vote}
+use Rattle.irig_lines.specs.declared.within.Within.{Within}
 use Rattle.irig_timekeeper.specs.declared.clock.ClockState.{ClockState}
-use Rattle.irig_timekeeper.specs.Counting.{is_late, edges_own}
-use Rattle.irig_timekeeper.specs.Steps.{is_pulse, is_even, line_at, line_heard, frame_behind, still_kept, settled, claim_told, claim_kept}
+use Rattle.irig_lines.specs.Counting.{is_late, edges_own}
+use Rattle.irig_lines.specs.Steps.{is_pulse, is_even, line_at, line_heard, frame_behind, still_kept, settled, claim_told, claim_kept}
 use Rattle.irig_timekeeper.specs.Clock.{clock_by, settled_at}
 use Rattle.irig_timekeeper.specs.Keeping.{Keeping, place_told, heard_by, heard_then, vote_at, after_pulse, after_tick}
 use Rattle.irig_timekeeper.specs.Life.{Call, after_calls, pulses_on, last_tick, HaveRisen, AreInOrder}
 use Rattle.irig_timekeeper.specs.Life.Call.{Hear, Tick}
 use Rattle.irig_timekeeper.proofs.VoteLaws.{frame_settled, claim_of_even}
 use Rattle.irig_timekeeper.proofs.LifeLaws.{AreLinesAt, IsLineAt, line_soon, lines_after, line_same, own_pulses, others_pulses, no_pulse, has_risen, unheard}
-use Rattle.irig_timekeeper.proofs.WholeLaws.{begin_here, whole_of, AreSorted, whole_here, not_whole, whole_apart, whole_by}
+use Rattle.irig_lines.proofs.WholeLaws.{begin_here, whole_of, AreSorted, whole_here, not_whole, whole_apart, whole_by}
 use Rattle.irig_timekeeper.proofs.OrderLaws.{five, own_pulse, others_pulse}
-use Rattle.irig_timekeeper.specs.Edges.{IsQuartz}
-use Rattle.irig_timekeeper.specs.Exactness.{end_off_us, uneven_us}
+use Rattle.irig_lines.specs.Edges.{IsQuartz}
+use Rattle.irig_lines.specs.Exactness.{end_off_us, uneven_us}
 use Rattle.irig_timekeeper.specs.Announcing.{LeavesTheFirst, IsWhole}
-use Rattle.irig_timekeeper.proofs.LineLaws.{clock_of}
+use Rattle.irig_lines.proofs.LineLaws.{clock_of}
 
 -- ---- the places of a whole frame
 

@@ -21,30 +21,31 @@ use Rattle.irig_reader.specs.declared.rule.Step.{Step}
 use Rattle.irig_reader.specs.Rule.{count_step, step_of}
 use Rattle.irig_reader.proofs.HeldEdges.{IfHold, late_step}
 use Rattle.irig_reader.proofs.StepCases.{count_cases, vote_cases}
-use Rattle.irig_timekeeper.specs.declared.lines.KeptClaim.{KeptClaim}
-use Rattle.irig_timekeeper.specs.declared.lines.Lines.{Lines}
-use Rattle.irig_timekeeper.specs.declared.lines.Vote.{Vote}
+use Rattle.irig_lines.specs.declared.lines.KeptClaim.{KeptClaim}
+use Rattle.irig_lines.specs.declared.lines.Lines.{Lines}
+use Rattle.irig_lines.specs.declared.lines.Vote.{Vote}
 use Rattle.irig_timekeeper.specs.declared.clock.Beat.{Beat}
-use Rattle.irig_timekeeper.specs.declared.setup.ClockRules.{ClockRules}
+use Rattle.irig_lines.specs.declared.setup.ClockRules.{ClockRules}
 use Rattle.irig_timekeeper.specs.declared.clock.ClockState.{ClockState}
-use Rattle.irig_timekeeper.specs.Lines.{IfKept}
-use Rattle.irig_timekeeper.specs.Exactness.{window_us, vote_us}
-use Rattle.irig_timekeeper.specs.Counting.{edges_to_vote, edges_own}
-use Rattle.irig_timekeeper.specs.Rule.{missed}
-use Rattle.irig_timekeeper.specs.Steps.{is_pulse, line_at, claim_kept, all_kept, still_kept, settled, agreed, if_come}
+use Rattle.irig_lines.specs.Lines.{IfKept}
+use Rattle.irig_lines.specs.Exactness.{window_us, vote_us}
+use Rattle.irig_lines.specs.Counting.{edges_to_vote, edges_own}
+use Rattle.irig_timekeeper.specs.Rule.{missed, against_table, step_checked}
+use Rattle.irig_lines.specs.Steps.{is_pulse, line_at, claim_kept, all_kept, still_kept, settled, agreed, if_come}
 use Rattle.irig_timekeeper.specs.Clock.{bound_of, beat_by, step_to, after_vote, answer_to_vote, after_own, clock_by, answer_by, settled_at}
 use Rattle.irig_timekeeper.specs.Keeping.{Keeping, vote_at, after_tick, answer_at}
 use Rattle.irig_timekeeper.specs.Truth.{IsTrueVote, IsOnTrack, IsToldInHoldover, IsLaterSecond, IsDevice}
 use Rattle.irig_timekeeper.specs.Life.{Call, after_calls, pulses_on, last_tick, AreInOrder, AreTrueLately, AreTrueOver}
 use Rattle.irig_timekeeper.specs.Life.Call.{Hear, Tick}
-use Rattle.irig_timekeeper.proofs.AgreeLaws.{EachKept, is_one}
+use Rattle.irig_lines.proofs.AgreeLaws.{EachKept, is_one}
 use Rattle.irig_timekeeper.proofs.SureSteps.{mended_by_vote}
 use Rattle.irig_timekeeper.proofs.VotedLaws.{voted_second}
-use Rattle.irig_timekeeper.proofs.PartLaws.{agreed_first}
+use Rattle.irig_lines.proofs.PartLaws.{agreed_first}
 use Rattle.irig_timekeeper.proofs.BoundLaws.{answer_bound}
 use Rattle.irig_timekeeper.proofs.TrackLaws.{IsToldNewly, KeepsTrue}
 use Rattle.irig_timekeeper.proofs.VoteLaws.{still, come, one_more, vote_is_true}
 use Rattle.irig_timekeeper.proofs.LifeLaws.{IsSameSetup, AreLinesAt, IsEndAt, lines_after, TellAlwaysTruly, heard_truly, tick_in, track_on, order_before}
+use Rattle.irig_timekeeper.proofs.CheckedSteps.{checked_cases}
 
 -- ---- what lines keep speaks of a leap in a month's last minute alone
 
@@ -80,10 +81,13 @@ module _ (c : ClockRules) (EndsSo : List Pulse → ℕ → Type 0) (rules : Rule
 
 -- ---- and so a reader heard of one there
 
-module _ (rules : ReaderRules) (table : TableValue) where
-  late_missed : (n : ℕ) (s : State) → IfHold s HasHeardLate → IfHold (missed rules table n s) HasHeardLate
+module _ (prefers : Bool) (rules : ReaderRules) (table : TableValue) where
+  late_checked : (s : State) (vote : Option Claim) → IfHold (step_of rules table s vote).state HasHeardLate → IfHold (step_checked prefers rules table s vote).state HasHeardLate
+  late_checked s vote late = checked_cases prefers rules table s vote (λ step. IfHold step.state HasHeardLate) late tt
+
+  late_missed : (n : ℕ) (s : State) → IfHold s HasHeardLate → IfHold (missed prefers rules table n s) HasHeardLate
   late_missed zero s late = late
-  late_missed (suc n) s late = late_step rules table (missed rules table n s) None (late_missed n s late) tt
+  late_missed (suc n) s late = late_checked (missed prefers rules table n s) None (late_step rules table (missed prefers rules table n s) None (late_missed n s late) tt)
 
 either_late : (b : Bool) (x y : ClockState) → IfHold x.reader HasHeardLate → IfHold y.reader HasHeardLate → IfHold (cond b x y).reader HasHeardLate
 either_late true x y p q = p
@@ -91,10 +95,10 @@ either_late false x y p q = q
 
 module _ (c : ClockRules) (table : TableValue) (s : ClockState) (late : IfHold s.reader HasHeardLate) where
   late_own : (n : ℕ) → IfHold (after_own c table s n).reader HasHeardLate
-  late_own n = either_late (n == 0) s _ late (late_step c.reader_rules table (missed c.reader_rules table (n - 1) s.reader) None (late_missed c.reader_rules table (n - 1) s.reader late) tt)
+  late_own n = either_late (n == 0) s _ late (late_checked c.prefers_frames c.reader_rules table (missed c.prefers_frames c.reader_rules table (n - 1) s.reader) None (late_step c.reader_rules table (missed c.prefers_frames c.reader_rules table (n - 1) s.reader) None (late_missed c.prefers_frames c.reader_rules table (n - 1) s.reader late) tt))
 
   late_voted : (v : Vote) (n : ℕ) → IsMarkedLate v.claim → IfHold (after_vote c table s v n).reader HasHeardLate
-  late_voted v n marked = either_late (n == 0) _ _ late (late_step c.reader_rules table (missed c.reader_rules table (n - 1) s.reader) (Some v.claim) (late_missed c.reader_rules table (n - 1) s.reader late) marked)
+  late_voted v n marked = either_late (n == 0) _ _ late (late_checked c.prefers_frames c.reader_rules table (missed c.prefers_frames c.reader_rules table (n - 1) s.reader) (Some v.claim) (late_step c.reader_rules table (missed c.prefers_frames c.reader_rules table (n - 1) s.reader) (Some v.claim) (late_missed c.prefers_frames c.reader_rules table (n - 1) s.reader late) marked))
 
 late_ticked : (k : Keeping) (clock : ℕ) → IfHold k.state.reader HasHeardLate → ((v : Vote) → vote_at k clock ≡ Some v → IsMarkedLate v.claim) → IfHold (after_tick k clock).state.reader HasHeardLate
 late_ticked k clock late marked = of (vote_at k clock) refl
@@ -118,8 +122,8 @@ module _ (new : Keeping) (start : ℕ) (begins : AreLinesAt new new (λ i. []) s
 -- ---- a true vote that counts an edge
 
 -- a second is announced by a vote with this cause alone
-says_voted : (rules : ReaderRules) (table : TableValue) (s : State) (c : Claim) (u : UtcSecond) → (step_of rules table s (Some c)).report.announce ≡ Some u → (step_of rules table s (Some c)).report.cause ≡ cause.Voted
-says_voted rules table s c u = vote_cases Says rules table s c (λ h e. counts h 1) (λ stop says. absurd cc) (λ h count w is e. counts _ (count + 1)) (λ h w is e says. refl)
+says_voted : (prefers : Bool) (rules : ReaderRules) (table : TableValue) (s : State) (c : Claim) (u : UtcSecond) → (step_checked prefers rules table s (Some c)).report.announce ≡ Some u → (step_checked prefers rules table s (Some c)).report.cause ≡ cause.Voted
+says_voted prefers rules table s c u = checked_cases prefers rules table s (Some c) Says (vote_cases Says rules table s c (λ h e. counts h 1) (λ stop says. absurd cc) (λ h count w is e. counts _ (count + 1)) (λ h w is e says. refl)) (λ says. absurd cc)
   where
     Says : Step → Type 0
     Says step = step.report.announce ≡ Some u → step.report.cause ≡ cause.Voted
@@ -135,7 +139,7 @@ pub record Mends (t : TimelineValue) (d : ℕ) (edges : ℕ → ℕ) (early late
 module _ (t : TimelineValue) (edges : ℕ → ℕ) (early late : ℕ) (c : ClockRules) (table : TableValue) (s : ClockState) (is : IsDevice t c.drift_us edges c.reader_rules table) (heard : IfHold s.reader HasHeardLate) (now : ℕ) (v : Vote) (vote : IsTrueVote t edges early late now v) where
   stands : (n last : ℕ) → last ≤ vote.truth.second + 1 → IsOnTrack t edges early late c.drift_us last c.reader_rules table now (step_to c table s n (Some v.claim)).state v.bound_us (Some v.edge_us)
   stands n last low =
-      let before = late_missed c.reader_rules table (n - 1) s.reader heard in
+      let before = late_missed c.prefers_frames c.reader_rules table (n - 1) s.reader heard in
       inr (
         vote.truth.second + 1,
         0,
@@ -144,17 +148,17 @@ module _ (t : TimelineValue) (edges : ℕ → ℕ) (early late : ℕ) (c : Clock
           at = record { clock = vote.clock; come = vote.come; soon = omega (arith, vote.soon) };
           near = record { least = omega (arith, vote.truth.near.least); most = omega (arith, vote.truth.near.most) };
           small = vote.small;
-          truth = mended_by_vote t c.reader_rules table is.sound vote.truth.second (missed c.reader_rules table (n - 1) s.reader) v.claim vote.truth.truth before;
+          truth = mended_by_vote t c.reader_rules table is.sound c.prefers_frames vote.truth.second (missed c.prefers_frames c.reader_rules table (n - 1) s.reader) v.claim vote.truth.truth before;
           young = omega arith;
           few = omega arith;
           behind = low;
         },
       )
 
-  says : (n : ℕ) (b : Beat) (u : UtcSecond) → beat_by c s (step_to c table s n (Some v.claim)) (n - 1) v.edge_us v.bound_us ≡ b → b.report.announce ≡ Some u
+  says : (n : ℕ) (b : Beat) (u : UtcSecond) → beat_by c s (against_table table (Some v.claim)) (step_to c table s n (Some v.claim)) (n - 1) v.edge_us v.bound_us ≡ b → b.report.announce ≡ Some u
       → IsToldNewly t c.drift_us edges early late 0 c.reader_rules table now b u (step_to c table s n (Some v.claim)).state v.bound_us (Some v.edge_us)
   says n b u beat e =
-      let state = missed c.reader_rules table (n - 1) s.reader in
+      let state = missed c.prefers_frames c.reader_rules table (n - 1) s.reader in
       let announces = ap (λ (x : Beat). x.report.announce) beat ∙ e in
       let bound : bound_of c.drift_us v.bound_us (step_to c table s n (Some v.claim)).report.lock ≡ b.bound_us = ap (λ (x : Beat). x.bound_us) beat in
       record {
@@ -165,7 +169,7 @@ module _ (t : TimelineValue) (edges : ℕ → ℕ) (early late : ℕ) (c : Clock
           near = record { least = omega (arith, vote.truth.near.least, bound); most = omega (arith, vote.truth.near.most, bound) };
           come = vote.come;
           soon = omega (arith, vote.soon);
-          truth = voted_second t vote.truth.second c.reader_rules table state v.claim u is.sound ((claim_is t vote.truth.second v.claim).1 vote.truth.truth) (says_voted c.reader_rules table state v.claim u announces) announces;
+          truth = voted_second t vote.truth.second c.prefers_frames c.reader_rules table state v.claim u is.sound ((claim_is t vote.truth.second v.claim).1 vote.truth.truth) (says_voted c.prefers_frames c.reader_rules table state v.claim u announces) announces;
         };
         later = omega arith;
         track = stands n (vote.truth.second + 1) (omega arith);
@@ -175,7 +179,7 @@ module _ (t : TimelineValue) (edges : ℕ → ℕ) (early late : ℕ) (c : Clock
   heals_by n b e = elim (cases_Bool (n == 0)) [
     | inl none ↦ let both : None ≡ Some b = rw none at e in absurd cc
     | inr some ↦
-        let beat : beat_by c s (step_to c table s n (Some v.claim)) (n - 1) v.edge_us v.bound_us ≡ b = let told : Some (beat_by c s (step_to c table s n (Some v.claim)) (n - 1) v.edge_us v.bound_us) ≡ Some b = rw some at e in cc in
+        let beat : beat_by c s (against_table table (Some v.claim)) (step_to c table s n (Some v.claim)) (n - 1) v.edge_us v.bound_us ≡ b = let told : Some (beat_by c s (against_table table (Some v.claim)) (step_to c table s n (Some v.claim)) (n - 1) v.edge_us v.bound_us) ≡ Some b = rw some at e in cc in
         rw some (record { track = stands n 0 (omega arith); told = λ u e. says n b u beat e })
   ]
 

@@ -10,16 +10,16 @@ use Rattle.irig_time.specs.Timelines.{TimelineValue}
 use Rattle.irig_time.specs.Tables.{TableValue}
 use Rattle.irig_port.specs.declared.limits.Limits.{Limits}
 use Rattle.irig_vote.specs.Vote.{f_of}
-use Rattle.irig_timekeeper.specs.declared.lines.Lines.{Lines}
-use Rattle.irig_timekeeper.specs.declared.lines.Vote.{Vote}
+use Rattle.irig_lines.specs.declared.lines.Lines.{Lines}
+use Rattle.irig_lines.specs.declared.lines.Vote.{Vote}
 use Rattle.irig_timekeeper.specs.declared.stamp.Announced.{Announced}
 use Rattle.irig_timekeeper.specs.declared.stamp.Stamp.{Stamp}
 use Rattle.irig_timekeeper.specs.declared.clock.Beat.{Beat}
-use Rattle.irig_timekeeper.specs.declared.setup.ClockRules.{ClockRules}
+use Rattle.irig_lines.specs.declared.setup.ClockRules.{ClockRules}
 use Rattle.irig_timekeeper.specs.declared.clock.ClockState.{ClockState}
-use Rattle.irig_timekeeper.specs.Exactness.{most_held_us, most_vote_us}
-use Rattle.irig_timekeeper.specs.Counting.{edges_to_vote}
-use Rattle.irig_timekeeper.specs.Steps.{AreNewLines}
+use Rattle.irig_lines.specs.Exactness.{most_held_us, most_vote_us}
+use Rattle.irig_lines.specs.Counting.{edges_to_vote}
+use Rattle.irig_lines.specs.Steps.{AreNewLines}
 use Rattle.irig_timekeeper.specs.Clock.{announced_at, still_serves, beat_by, step_to, after_vote, answer_to_vote, clock_by, answer_by, settled_at}
 use Rattle.irig_timekeeper.specs.Stamps.{next_us, stamp_by}
 use Rattle.irig_timekeeper.specs.Keeping.{Keeping, new_keeping, vote_at, after_tick, answer_at, stamp_at}
@@ -29,8 +29,9 @@ use Rattle.irig_timekeeper.specs.Life.Call.{Hear, Tick}
 use Rattle.irig_timekeeper.proofs.TimeLaws.{same_edge}
 use Rattle.irig_timekeeper.proofs.LifeLaws.{begins, TellAlwaysTruly}
 use Rattle.irig_timekeeper.proofs.StampLaws.{AnyEdge, not_served, puts_truly, served_by, leaves_told, IsToldAnyhow, IsToldSo, IsToldBefore, state, IfStamps, TellSo, TellsSo, beat_stamps, stamps, stamps_on, tell_anyhow, tells_truly, stamped_by, by_earlier}
-use Rattle.irig_timekeeper.proofs.ReachLaws.{IsPut}
+use Rattle.irig_lines.proofs.ReachLaws.{IsPut}
 use Rattle.irig_timekeeper.proofs.HealLaws.{mended, tick_since}
+use Rattle.irig_timekeeper.specs.Rule.{against_table}
 
 -- ---- what serves on behind a vote
 
@@ -42,8 +43,8 @@ serves_voted : (c : ClockRules) (table : TableValue) (s : ClockState) (v : Vote)
 serves_voted c table s v n b a answer e = elim (cases_Bool (n == 0)) [
   | inl waits ↦ let both : None ≡ Some b = rw waits at answer in absurd cc
   | inr more ↦
-      let told : Some (beat_by c s (step_to c table s n (Some v.claim)) (n - 1) v.edge_us v.bound_us) ≡ Some b = rw more at answer in
-      let beat : beat_by c s (step_to c table s n (Some v.claim)) (n - 1) v.edge_us v.bound_us ≡ b = cc in
+      let told : Some (beat_by c s (against_table table (Some v.claim)) (step_to c table s n (Some v.claim)) (n - 1) v.edge_us v.bound_us) ≡ Some b = rw more at answer in
+      let beat : beat_by c s (against_table table (Some v.claim)) (step_to c table s n (Some v.claim)) (n - 1) v.edge_us v.bound_us ≡ b = cc in
       let kept : still_serves (Some v.claim) (step_to c table s n (Some v.claim)).report.announce s.last ≡ Some a = rw more at e in
       let says = served (Some v) (step_to c table s n (Some v.claim)).report.announce s.last v a kept in
       (says.0, ap (λ (x : Beat). x.report.announce) (sym beat) ∙ says.1)

@@ -1,19 +1,19 @@
 -- Whether a pulse came on a line within a second before the last tick.
 use Rattle.std.specs.Prelude.{◌==◌, ◌&&◌, not, nat_lt}
-use Rattle.std.proofs.Common.{◌≡◌, ◌∙◌, ◌⊎◌, ℕ, ◌+◌, ◌-◌, ◌%◌, ◌^◌, ◌<◌, ◌≤◌, Bool, true, false, cond, List, [], ◌∷◌, refl, sym, ap, subst, arith, inl, inr}
+use Rattle.std.proofs.Common.{◌≡◌, ◌∙◌, ℕ, ◌+◌, ◌-◌, ◌%◌, ◌^◌, ◌<◌, ◌≤◌, Bool, true, false, cond, List, [], ◌∷◌, refl, sym, ap, subst, arith, inl, inr}
 use Rattle.std.proofs.lemmas.Bool.{cases_Bool, cases_lt, eqb-true, eqb-false, ltb-true, ltb-false}
 use Rattle.irig_sync.specs.declared.sync.Sync.{Sync}
 use Rattle.irig_sync.specs.Sync.{clock_gap, is_idle, idle_of}
 use Rattle.irig_sync.specs.Lines.{Pulse, pulse_at, IsAfter, IsIdle}
 use Rattle.irig_port.specs.Limits.{told_within}
 use Rattle.irig_reader.proofs.FedLaws.{at_most_five}
-use Rattle.irig_timekeeper.specs.declared.lines.Line.{Line}
-use Rattle.irig_timekeeper.specs.declared.lines.Lines.{Lines}
-use Rattle.irig_timekeeper.specs.Steps.{is_pulse, line_at, line_heard, line_settled, line_taken, settled, taken, IsNewLine}
+use Rattle.irig_lines.specs.declared.lines.Line.{Line}
+use Rattle.irig_lines.specs.declared.lines.Lines.{Lines}
+use Rattle.irig_lines.specs.Steps.{is_pulse, line_at, line_heard, line_settled, line_taken, settled, IsNewLine}
 use Rattle.irig_timekeeper.specs.Keeping.{Keeping, heard_then, after_pulse, after_tick}
 use Rattle.irig_timekeeper.specs.Life.{Call, after_calls, pulses_on, last_tick, AreInOrder}
 use Rattle.irig_timekeeper.specs.Life.Call.{Hear, Tick}
-use Rattle.irig_timekeeper.proofs.LifeLaws.{line_same, line_other, line_settles, line_takes, ticked, own_pulses, others_pulses, no_pulse, unheard}
+use Rattle.irig_timekeeper.proofs.LifeLaws.{line_same, line_other, line_settles, line_takes, ticked, own_pulses, others_pulses, no_pulse}
 
 -- its synchroniser knows when its last pulse rose
 abbrev pub KnowsRise : (rise_us : ℕ) → List Pulse → Type 0

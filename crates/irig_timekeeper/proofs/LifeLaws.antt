@@ -19,24 +19,24 @@ use Rattle.irig_vote.specs.declared.redundancy.Redundancy.{Redundancy}
 use Rattle.irig_vote.specs.Vote.{f_of}
 use Rattle.irig_reader.specs.declared.report.Cause.TheVariants as cause
 use Rattle.irig_reader.proofs.FedLaws.{at_most_five}
-use Rattle.irig_timekeeper.specs.declared.lines.KeptFrame.{KeptFrame}
-use Rattle.irig_timekeeper.specs.declared.lines.KeptClaim.{KeptClaim}
-use Rattle.irig_timekeeper.specs.declared.lines.Line.{Line}
-use Rattle.irig_timekeeper.specs.declared.lines.Lines.{Lines}
-use Rattle.irig_timekeeper.specs.declared.lines.Vote.{Vote}
+use Rattle.irig_lines.specs.declared.lines.KeptFrame.{KeptFrame}
+use Rattle.irig_lines.specs.declared.lines.KeptClaim.{KeptClaim}
+use Rattle.irig_lines.specs.declared.lines.Line.{Line}
+use Rattle.irig_lines.specs.declared.lines.Lines.{Lines}
+use Rattle.irig_lines.specs.declared.lines.Vote.{Vote}
 use Rattle.irig_timekeeper.specs.declared.clock.Beat.{Beat}
-use Rattle.irig_timekeeper.specs.declared.setup.ClockRules.{ClockRules}
+use Rattle.irig_lines.specs.declared.setup.ClockRules.{ClockRules}
 use Rattle.irig_timekeeper.specs.declared.clock.ClockState.{ClockState}
-use Rattle.irig_timekeeper.specs.Lines.{KnowsBegin, IfKept, IsInTurnOf}
-use Rattle.irig_timekeeper.specs.Counting.{is_late, edges_to_vote, edges_own}
-use Rattle.irig_timekeeper.specs.Steps.{is_pulse, line_at, with_line, line_heard, still_kept, claim_kept, line_settled, settled, line_taken, taken, IsNewLine, AreNewLines}
+use Rattle.irig_lines.specs.Lines.{KnowsBegin, IfKept, IsInTurnOf}
+use Rattle.irig_lines.specs.Counting.{is_late, edges_to_vote, edges_own}
+use Rattle.irig_lines.specs.Steps.{is_pulse, line_at, with_line, line_heard, still_kept, claim_kept, line_settled, settled, line_taken, taken, IsNewLine, AreNewLines}
 use Rattle.irig_timekeeper.specs.Clock.{clock_by, settled_at}
 use Rattle.irig_timekeeper.specs.Keeping.{Heard, Keeping, heard_by, with_heard, heard_then, one_pulse_more, after_pulse, vote_at, after_tick, answer_at, new_keeping, nothing_heard}
 use Rattle.irig_timekeeper.specs.Truth.{AreHeardTruly, IsOnTrack, IsToldInHoldover, IsLaterSecond, IsDevice}
 use Rattle.irig_timekeeper.specs.Life.{Call, after_calls, pulses_on, last_tick, HaveRisen, AreInOrder, AreTrueLately, AreTrueAtTicks, AreTrueOver}
 use Rattle.irig_timekeeper.specs.Life.Call.{Hear, Tick}
-use Rattle.irig_timekeeper.proofs.LineLaws.{kept_more}
-use Rattle.irig_timekeeper.proofs.WholeLaws.{whole_of, AreSorted, whole_here, not_whole, begin_more, even_here}
+use Rattle.irig_lines.proofs.LineLaws.{kept_more}
+use Rattle.irig_lines.proofs.WholeLaws.{whole_of, AreSorted, whole_here, not_whole, begin_more, even_here}
 use Rattle.irig_timekeeper.proofs.VoteLaws.{TellsTruly, still, not_late}
 use Rattle.irig_timekeeper.proofs.BoundLaws.{answer_bound}
 use Rattle.irig_timekeeper.proofs.TrackLaws.{KeepsTrue, tick_true}

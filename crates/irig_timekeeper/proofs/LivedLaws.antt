@@ -1,7 +1,7 @@
 -- A timekeeper is set up in all its life as it was made.
 use Rattle.std.proofs.Common.{◌∷◌, [], List, refl, inl, inr}
 use Rattle.std.proofs.lemmas.Bool.{cases_Bool}
-use Rattle.irig_timekeeper.specs.Steps.{is_pulse}
+use Rattle.irig_lines.specs.Steps.{is_pulse}
 use Rattle.irig_timekeeper.specs.Keeping.{Keeping}
 use Rattle.irig_timekeeper.specs.Life.{Call, after_calls}
 use Rattle.irig_timekeeper.specs.Life.Call.{Hear, Tick}

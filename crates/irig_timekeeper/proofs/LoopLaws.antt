@@ -11,17 +11,17 @@ use Rattle.irig_time.specs.declared.second.UtcSecond.{UtcSecond}
 use Rattle.irig_vote.specs.declared.redundancy.Redundancy.{Redundancy}
 use Rattle.irig_vote.specs.Vote.{f_of}
 use Rattle.irig_reader.specs.Rule.{state_of}
-use Rattle.irig_timekeeper.specs.Edges.{IsQuartz}
-use Rattle.irig_timekeeper.specs.Lines.{IsTrueLately}
-use Rattle.irig_timekeeper.specs.Steps.{is_pulse}
+use Rattle.irig_lines.specs.Edges.{IsQuartz}
+use Rattle.irig_lines.specs.Lines.{IsTrueLately}
+use Rattle.irig_lines.specs.Steps.{is_pulse}
 use Rattle.irig_timekeeper.specs.Keeping.{Keeping}
-use Rattle.irig_timekeeper.specs.Truth.{IsDevice}
+use Rattle.irig_timekeeper.specs.Truth.{IsDevice, FollowsTruth}
 use Rattle.irig_timekeeper.specs.Life.{Made, device_of, Call, pulses_on, last_tick, HaveRisen, AreInOrder, AreTrueLately, AreTrueOver}
 use Rattle.irig_timekeeper.specs.Life.Call.{Hear, Tick}
 use Rattle.irig_timekeeper.specs.Announcing.{IsWhole, ComesWhole, Announces}
 use Rattle.irig_timekeeper.specs.Loops.{ComeInARow, TicksEach, AreToldInTime, made_at, latest, AreMadeInTurn}
-use Rattle.irig_timekeeper.proofs.LineLaws.{true_lately}
-use Rattle.irig_timekeeper.proofs.CountingLaws.{rises}
+use Rattle.irig_lines.proofs.LineLaws.{true_lately}
+use Rattle.irig_lines.proofs.CountingLaws.{rises}
 use Rattle.irig_timekeeper.proofs.LifeLaws.{begins, AreLinesAt, TellAlwaysTruly, own_pulses, others_pulses, no_pulse, order_before}
 use Rattle.irig_timekeeper.proofs.FrameLaws.{ends_whole}
 use Rattle.irig_timekeeper.proofs.AnnounceLaws.{IsServed, AreServed, serves}
@@ -246,14 +246,14 @@ module _ (IsTrue : ℕ → List Pulse → Type 0) (t : TimelineValue) (d : ℕ) 
       (serve (m + n) (omega (arith, some)) row.rest row.done row.on (subst (ComesWhole t edges new (m + n)) row.are (whole n (omega (arith, few)))) (subst (λ (c : List Call). edges (m + n) + 3000 ≤ last_tick start c) row.are (omega (arith, rise, last))))
 
   -- so the device announces the last
-  pub loop_announces : (begun : AreLinesAt new new (λ i. []) start start) (is : IsDevice t new.clock.drift_us edges new.clock.reader_rules new.table) (truly : TellAlwaysTruly IsTrue new.clock.within.us new.clock.drift_us new.rules t edges 0 0) → new.state.reader ≡ state_of new.clock.reader_rules new.table [] → (m : ℕ) → 1 ≤ m → 1 ≤ new.clock.reader_rules.lock_after → (calls before : List Call)
+  pub loop_announces : (begun : AreLinesAt new new (λ i. []) start start) (is : IsDevice t new.clock.drift_us edges new.clock.reader_rules new.table) (follows : FollowsTruth t new.clock.prefers_frames new.table) (truly : TellAlwaysTruly IsTrue new.clock.within.us new.clock.drift_us new.rules t edges 0 0) → new.state.reader ≡ state_of new.clock.reader_rules new.table [] → (m : ℕ) → 1 ≤ m → 1 ≤ new.clock.reader_rules.lock_after → (calls before : List Call)
       → AreServing IsTrue t edges new start Loop m calls before → ((n : ℕ) → n < new.clock.reader_rules.lock_after + 2 → ComesWhole t edges new (m + n) (calls ++ before)) → edges (m + 1 + new.clock.reader_rules.lock_after) + 3000 ≤ last_tick start (calls ++ before) → (u : UtcSecond) → IsSecond t (m + 1 + new.clock.reader_rules.lock_after) u
       → Announces edges new (m + 1 + new.clock.reader_rules.lock_after) u (calls ++ before)
-  loop_announces begun is truly fresh m some enough calls before on whole last u second =
+  loop_announces begun is follows truly fresh m some enough calls before on whole last u second =
       let k : ℕ = new.clock.reader_rules.lock_after in
       let two : k + 2 ≡ suc (suc k) = omega arith in
       let row = subst (λ (n : ℕ). IsRowOf m n (calls ++ before) before) two (row_of m some k calls before on whole last (k + 2) (omega arith)) in
-      let a = serves IsTrue t edges new start begun is truly fresh m some enough before on.told on.risen on.past row.done row.served (order_before start new.clock.redundancy row.rest row.done row.on.order) u second in
+      let a = serves IsTrue t edges new start begun is follows truly fresh m some enough before on.told on.risen on.past row.done row.served (order_before start new.clock.redundancy row.rest row.done row.on.order) u second in
       record {
         now = a.now;
         later = row.rest ++ a.later;
@@ -302,16 +302,16 @@ module _ (IsTrue : ℕ → List Pulse → Type 0) (t : TimelineValue) (edges : �
       }
 
 -- so, by what `a_device_announces` says of true lines
-pub polling_announces : (t : TimelineValue) (edges : ℕ → ℕ) (made : Made) (start m most : ℕ) (calls before : List Call) (u : UtcSecond) → ComeInARow (IsTrueLately made.clock.within.us) t edges made start m calls before → most ≤ 95000 → TicksEach most start calls before → AreToldInTime start calls before
+pub polling_announces : (t : TimelineValue) (edges : ℕ → ℕ) (made : Made) (start m most : ℕ) (calls before : List Call) (u : UtcSecond) → ComeInARow (IsTrueLately made.clock.within.us) t edges made start m calls before → FollowsTruth t made.clock.prefers_frames made.table → most ≤ 95000 → TicksEach most start calls before → AreToldInTime start calls before
     → IsSecond t (m + 1 + made.clock.reader_rules.lock_after) u → Announces edges (device_of made) (m + 1 + made.clock.reader_rules.lock_after) u (calls ++ before)
-polling_announces t edges made start m most calls before u come few each told second =
+polling_announces t edges made start m most calls before u come follows few each told second =
     let quartz = come.is.steady in
     let new = device_of made in
     loop_announces (IsTrueLately made.clock.within.us made.rules t edges) t made.clock.drift_us edges quartz new start
     (Polls (IsTrueLately made.clock.within.us made.rules t edges) t edges new quartz start most few)
     (polls_split (IsTrueLately made.clock.within.us made.rules t edges) t edges new quartz start most few)
     (polls_serve (IsTrueLately made.clock.within.us made.rules t edges) t edges new quartz start most few)
-    (begins made.limits made.rules made.clock made.table made.lines start made.fresh) come.is
+    (begins made.limits made.rules made.clock made.table made.lines start made.fresh) come.is follows
     (λ now end pulses claim is_true frame soon. true_lately made.clock.within made.rules t made.clock.drift_us edges now end pulses claim quartz is_true frame soon)
     refl m come.some come.locks calls before
     (record { told = come.told; risen = come.risen; ticked = come.ticked; past = come.past; order = come.order; truth = come.truth; loop = (told, each) })

@@ -13,28 +13,29 @@ use Rattle.irig_time.specs.Claims.{same_claim}
 use Rattle.irig_vote.specs.declared.redundancy.Redundancy.{Redundancy}
 use Rattle.irig_vote.specs.declared.redundancy.Redundancy.TheVariants.{One, Three, Five}
 use Rattle.irig_vote.specs.Vote.{f_of, ports_in}
-use Rattle.irig_timekeeper.specs.declared.lines.KeptClaim.{KeptClaim}
-use Rattle.irig_timekeeper.specs.declared.lines.Line.{Line}
-use Rattle.irig_timekeeper.specs.declared.lines.Lines.{Lines}
-use Rattle.irig_timekeeper.specs.declared.lines.Vote.{Vote}
+use Rattle.irig_lines.specs.declared.lines.KeptClaim.{KeptClaim}
+use Rattle.irig_lines.specs.declared.lines.Line.{Line}
+use Rattle.irig_lines.specs.declared.lines.Lines.{Lines}
+use Rattle.irig_lines.specs.declared.lines.Vote.{Vote}
 use Rattle.irig_timekeeper.specs.declared.clock.Beat.{Beat}
-use Rattle.irig_timekeeper.specs.declared.setup.ClockRules.{ClockRules}
+use Rattle.irig_lines.specs.declared.setup.ClockRules.{ClockRules}
 use Rattle.irig_timekeeper.specs.declared.clock.ClockState.{ClockState}
-use Rattle.irig_timekeeper.specs.Lines.{IfKept}
-use Rattle.irig_timekeeper.specs.Counting.{edges_between, edge_behind, is_late, has_come, edges_to_vote, edges_own}
-use Rattle.irig_timekeeper.specs.Exactness.{window_us}
-use Rattle.irig_timekeeper.specs.Steps.{is_pulse, line_at, claim_kept, still_kept, line_taken, settled, taken, all_kept, agrees, is_candidate, first_candidate, agreed}
+use Rattle.irig_lines.specs.Lines.{IfKept}
+use Rattle.irig_lines.specs.Counting.{edges_between, edge_behind, is_late, has_come, edges_to_vote, edges_own}
+use Rattle.irig_lines.specs.Exactness.{window_us}
+use Rattle.irig_lines.specs.Steps.{is_pulse, line_at, claim_kept, still_kept, line_taken, settled, taken, all_kept, agrees, is_candidate, first_candidate, agreed}
 use Rattle.irig_timekeeper.specs.Clock.{step_to, beat_by, after_vote, answer_to_vote, after_own, answer_alone, own_edge, clock_by, answer_by, settled_at}
 use Rattle.irig_timekeeper.specs.Keeping.{Keeping, vote_at, after_pulse, after_tick, answer_at}
 use Rattle.irig_timekeeper.specs.Truth.{IsEdgeAt, AreApartBeats}
 use Rattle.irig_timekeeper.specs.Life.{Call, after_calls, pulses_on, last_tick, AreInOrder}
 use Rattle.irig_timekeeper.specs.Life.Call.{Hear, Tick}
-use Rattle.irig_timekeeper.proofs.AgreeLaws.{EachKept, is_one}
-use Rattle.irig_timekeeper.proofs.PartLaws.{split, IsVoteOf, agreed_first, vote_of, narrow}
+use Rattle.irig_lines.proofs.AgreeLaws.{EachKept, is_one}
+use Rattle.irig_lines.proofs.PartLaws.{split, IsVoteOf, agreed_first, vote_of, narrow}
 use Rattle.irig_timekeeper.proofs.VoteLaws.{still, come, frame_settled, one_more, not_late, last_late}
-use Rattle.irig_timekeeper.proofs.WholeLaws.{whole_of, AreSorted, whole_here, not_whole, whole_apart}
+use Rattle.irig_lines.proofs.WholeLaws.{whole_of, AreSorted, whole_here, not_whole, whole_apart}
 use Rattle.irig_timekeeper.proofs.TimeLaws.{own_count, still_edge, own_edge_at, voted_count, same_edge}
 use Rattle.irig_timekeeper.proofs.LifeLaws.{AreLinesAt, IsEndAt, line_soon, lines_after, order_before, ticked, line_takes, line_same, line_other, own_pulses, others_pulses, no_pulse, has_risen, unheard}
+use Rattle.irig_timekeeper.specs.Rule.{against_table}
 
 -- ---- two of more than half of the lines
 
@@ -577,7 +578,7 @@ module _ (new : Keeping) (start : ℕ) (begins : AreLinesAt new new (λ i. []) s
               rw more (record {
                 next = (edge + n * 1000000, then, inl (omega (arith, near, some)));
                 told = λ b answer.
-                    let beat : b ≡ beat_by k.clock (record s { edge_us = Some e }) (step_to k.clock k.table (record s { edge_us = Some e }) n None) (n - 1) (own_edge (Some e) n) s.bound_us = cc in
+                    let beat : b ≡ beat_by k.clock (record s { edge_us = Some e }) false (step_to k.clock k.table (record s { edge_us = Some e }) n None) (n - 1) (own_edge (Some e) n) s.bound_us = cc in
                     tells (edge_behind e n) (edge + n * 1000000) b then (omega (arith, some)) (inr (omega (arith, near, some))) (ap (λ (x : Beat). x.edge_us) beat);
               })
         ]
@@ -591,7 +592,7 @@ module _ (new : Keeping) (start : ℕ) (begins : AreLinesAt new new (λ i. []) s
         rw some (record {
           next = (V.0, V.1, inl (omega (arith, paced)));
           told = λ b answer.
-              let beat : b ≡ beat_by k.clock (record s { edge_us = None }) (step_to k.clock k.table (record s { edge_us = None }) n (Some v.claim)) (n - 1) v.edge_us v.bound_us = cc in
+              let beat : b ≡ beat_by k.clock (record s { edge_us = None }) (against_table k.table (Some v.claim)) (step_to k.clock k.table (record s { edge_us = None }) n (Some v.claim)) (n - 1) v.edge_us v.bound_us = cc in
               tells v.edge_us V.0 b V.1 (omega (arith, V.3)) (inl paced) (ap (λ (x : Beat). x.edge_us) beat);
         })
     by_vote v voted (Some e) paced n same =
@@ -615,7 +616,7 @@ module _ (new : Keeping) (start : ℕ) (begins : AreLinesAt new new (λ i. []) s
               rw more (record {
                 next = (V.0, V.1, inl (omega (arith, far)));
                 told = λ b answer.
-                    let beat : b ≡ beat_by k.clock (record s { edge_us = Some e }) (step_to k.clock k.table (record s { edge_us = Some e }) n (Some v.claim)) (n - 1) v.edge_us v.bound_us = cc in
+                    let beat : b ≡ beat_by k.clock (record s { edge_us = Some e }) (against_table k.table (Some v.claim)) (step_to k.clock k.table (record s { edge_us = Some e }) n (Some v.claim)) (n - 1) v.edge_us v.bound_us = cc in
                     tells v.edge_us V.0 b V.1 (omega (arith, V.3)) (inr far) (ap (λ (x : Beat). x.edge_us) beat);
               })
         ]

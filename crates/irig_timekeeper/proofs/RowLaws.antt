@@ -10,23 +10,23 @@ use Rattle.irig_time.specs.Tables.{TableValue}
 use Rattle.irig_time.specs.Timelines.{TimelineValue}
 use Rattle.irig_port.specs.declared.limits.Limits.{Limits}
 use Rattle.irig_vote.specs.Vote.{f_of}
-use Rattle.irig_timekeeper.specs.declared.lines.Lines.{Lines}
+use Rattle.irig_lines.specs.declared.lines.Lines.{Lines}
 use Rattle.irig_timekeeper.specs.declared.clock.Beat.{Beat}
-use Rattle.irig_timekeeper.specs.declared.lines.Vote.{Vote}
-use Rattle.irig_timekeeper.specs.declared.setup.ClockRules.{ClockRules}
+use Rattle.irig_lines.specs.declared.lines.Vote.{Vote}
+use Rattle.irig_lines.specs.declared.setup.ClockRules.{ClockRules}
 use Rattle.irig_timekeeper.specs.declared.stamp.Announced.{Announced}
 use Rattle.irig_timekeeper.specs.declared.stamp.Stamp.{Stamp}
 use Rattle.irig_timekeeper.specs.Clock.{announced_at}
-use Rattle.irig_timekeeper.specs.Edges.{IsNear}
+use Rattle.irig_lines.specs.Edges.{IsNear}
 use Rattle.irig_timekeeper.specs.Keeping.{Keeping, new_keeping, vote_at, answer_at, stamp_at}
 use Rattle.irig_timekeeper.specs.Life.{Call, after_calls, AreInOrder, AreTrueAtTicks, AreTrueLately, AreTrueOver}
 use Rattle.irig_timekeeper.specs.Life.Call.{Hear, Tick}
 use Rattle.irig_timekeeper.specs.Rows.{AreToldLast, TellNothing}
 use Rattle.irig_timekeeper.specs.Stamps.{first_stamp, next_us, serves, stamp_by, stamp_of}
-use Rattle.irig_timekeeper.specs.Steps.{AreNewLines}
+use Rattle.irig_lines.specs.Steps.{AreNewLines}
 use Rattle.irig_timekeeper.specs.Truth.{IsDevice, IsToldTruly}
 use Rattle.irig_timekeeper.proofs.LifeLaws.{TellAlwaysTruly, device_true, order_before, truth_before, truth_over}
-use Rattle.irig_timekeeper.proofs.ReachLaws.{ComesBy, IsPut, close}
+use Rattle.irig_lines.proofs.ReachLaws.{ComesBy, IsPut, close}
 use Rattle.irig_timekeeper.proofs.HealLaws.{newly}
 use Rattle.irig_timekeeper.proofs.TimeLaws.{same_edge}
 use Rattle.irig_timekeeper.proofs.StampLaws.{IsFresh, StaysFresh, begun, fresh_on, fresh_tick, leaves_told, next_edge, puts_truly, small_bound, stays_behind, stood}

@@ -17,17 +17,17 @@ use Rattle.irig_port.proofs.RunLaws.{hears}
 use Rattle.irig_port.proofs.CarriesLaws.{carries_is_told}
 use Rattle.irig_port.proofs.LimitLaws.{claim_within}
 use Rattle.irig_reader.proofs.FedLaws.{at_most_five}
-use Rattle.irig_timekeeper.specs.declared.lines.KeptFrame.{KeptFrame}
-use Rattle.irig_timekeeper.specs.declared.lines.Line.{Line}
-use Rattle.irig_timekeeper.specs.declared.lines.Lines.{Lines}
-use Rattle.irig_timekeeper.specs.declared.setup.ClockRules.{ClockRules}
-use Rattle.irig_timekeeper.specs.Counting.{is_gone}
-use Rattle.irig_timekeeper.specs.Lines.{rise_before, KnowsBegin, AreEven, IsLastBefore}
-use Rattle.irig_timekeeper.specs.Steps.{is_pulse, is_even, line_at, line_heard, whole_frame, frame_behind, still_seen, settled}
+use Rattle.irig_lines.specs.declared.lines.KeptFrame.{KeptFrame}
+use Rattle.irig_lines.specs.declared.lines.Line.{Line}
+use Rattle.irig_lines.specs.declared.lines.Lines.{Lines}
+use Rattle.irig_lines.specs.declared.setup.ClockRules.{ClockRules}
+use Rattle.irig_lines.specs.Counting.{is_gone}
+use Rattle.irig_lines.specs.Lines.{rise_before, KnowsBegin, AreEven, IsLastBefore}
+use Rattle.irig_lines.specs.Steps.{is_pulse, is_even, line_at, line_heard, whole_frame, frame_behind, still_seen, settled}
 use Rattle.irig_timekeeper.specs.Keeping.{Keeping, heard_by, heard_then, after_pulse, after_tick}
 use Rattle.irig_timekeeper.specs.Life.{Call, after_calls, pulses_on, last_tick, AreInOrder}
 use Rattle.irig_timekeeper.specs.Life.Call.{Hear, Tick}
-use Rattle.irig_timekeeper.proofs.WholeLaws.{begin_here}
+use Rattle.irig_lines.proofs.WholeLaws.{begin_here}
 use Rattle.irig_timekeeper.proofs.FrameLaws.{even_by}
 use Rattle.irig_timekeeper.proofs.LifeLaws.{AreLinesAt, line_soon, lines_after, line_same, line_other, line_settles, line_takes, ticked, own_pulses, others_pulses, no_pulse, has_risen, unheard}
 

@@ -1,6 +1,6 @@
 -- A holdover has lasted for the seconds since the last vote, and a stamp's bound counts them.
 use Rattle.std.specs.Prelude.{◌==◌, ◌&&◌, nat_le}
-use Rattle.std.proofs.Common.{◌≡◌, ◌∙◌, ℕ, zero, suc, ◌+◌, ◌-◌, ◌*◌, ◌%◌, ◌^◌, ◌≤◌, List, [], ◌∷◌, ◌++◌, Option, Some, None, refl, sym, ap, subst, arith, inl, inr}
+use Rattle.std.proofs.Common.{◌≡◌, ◌∙◌, ℕ, zero, suc, ◌+◌, ◌-◌, ◌*◌, ◌%◌, ◌^◌, ◌≤◌, List, [], ◌∷◌, ◌++◌, Option, Some, None, refl, sym, ap, subst, arith, inl, inr, Bool}
 use Rattle.std.proofs.lemmas.Bool.{cases_Bool}
 use Rattle.irig_time.specs.declared.second.UtcSecond.{UtcSecond}
 use Rattle.irig_time.specs.declared.mark.Mark.{Mark}
@@ -15,18 +15,18 @@ use Rattle.irig_reader.specs.declared.rules.ReaderRules.{ReaderRules}
 use Rattle.irig_reader.specs.declared.rule.State.{State}
 use Rattle.irig_reader.specs.declared.rule.State.TheVariants.{Idle, Acquiring, Locked}
 use Rattle.irig_reader.specs.declared.rule.Step.{Step}
-use Rattle.irig_reader.specs.Rule.{count_step, step_of}
+use Rattle.irig_reader.specs.Rule.{count_step, step_of, stop_step}
 use Rattle.irig_reader.proofs.StepCases.{count_cases, vote_cases, none_cases}
-use Rattle.irig_timekeeper.specs.declared.lines.Vote.{Vote}
+use Rattle.irig_lines.specs.declared.lines.Vote.{Vote}
 use Rattle.irig_timekeeper.specs.declared.stamp.Announced.{Announced}
 use Rattle.irig_timekeeper.specs.declared.stamp.Stamp.{Stamp}
 use Rattle.irig_timekeeper.specs.declared.clock.Beat.{Beat}
-use Rattle.irig_timekeeper.specs.declared.setup.ClockRules.{ClockRules}
+use Rattle.irig_lines.specs.declared.setup.ClockRules.{ClockRules}
 use Rattle.irig_timekeeper.specs.declared.clock.ClockState.{ClockState}
-use Rattle.irig_timekeeper.specs.Exactness.{vote_us}
-use Rattle.irig_timekeeper.specs.Counting.{edges_to_vote, edges_own}
-use Rattle.irig_timekeeper.specs.Rule.{missed, step_behind}
-use Rattle.irig_timekeeper.specs.Steps.{is_pulse}
+use Rattle.irig_lines.specs.Exactness.{vote_us}
+use Rattle.irig_lines.specs.Counting.{edges_to_vote, edges_own}
+use Rattle.irig_timekeeper.specs.Rule.{missed, step_behind, against_table, step_checked}
+use Rattle.irig_lines.specs.Steps.{is_pulse}
 use Rattle.irig_timekeeper.specs.Clock.{lasted, beat_by, step_to, after_vote, answer_to_vote, after_own, answer_alone, own_edge, clock_by, answer_by, settled_at}
 use Rattle.irig_timekeeper.specs.Stamps.{next_us, stamp_by, first_stamp}
 use Rattle.irig_timekeeper.specs.Keeping.{Keeping, vote_at, after_tick, answer_at, stamp_at}
@@ -36,6 +36,8 @@ use Rattle.irig_timekeeper.specs.Since.{unless_voted, since_answer, since_vote, 
 use Rattle.irig_timekeeper.proofs.BoundLaws.{answer_bound}
 use Rattle.irig_timekeeper.proofs.DoubtedSteps.{rule_announces}
 use Rattle.irig_timekeeper.proofs.StampLaws.{leaves_told, served_by, stays_behind, kept_second}
+use Rattle.irig_timekeeper.proofs.CheckedSteps.{checked_cases}
+use Rattle.irig_reader.specs.declared.report.Cause.TheVariants as cause
 
 -- ---- the age of a hold
 
@@ -80,38 +82,50 @@ record IsSinceStep (n : ℕ) (step : Step) : Type 0 where
   aged : IsAged (unless_voted step.report.cause n) step.state
   lasts : (u : UtcSecond) → step.report.announce ≡ Some u → lasted step.report.lock ≡ unless_voted step.report.cause n
 
-module _ (rules : ReaderRules) (table : TableValue) where
+module _ (prefers : Bool) (rules : ReaderRules) (table : TableValue) where
   counted : (n count : ℕ) (h : HoldValue) → h.age ≡ 0 → IsSinceStep n (count_step rules h count)
   unfolding IsAged
   counted n count h young = count_cases (IsSinceStep n) rules h count (λ enough. record { aged = young; lasts = λ u e. refl }) (λ more. record { aged = tt; lasts = λ u e. absurd cc })
 
-  voted : (n : ℕ) (s : State) (c : Claim) → IsSinceStep n (step_of rules table s (Some c))
+  stop : (n : ℕ) → IsSinceStep n (stop_step cause.LeapGuard)
   unfolding IsAged
-  voted n s c =
+  stop n = record { aged = tt; lasts = λ u e. absurd cc }
+
+  rule_voted : (n : ℕ) (s : State) (c : Claim) → IsSinceStep n (step_of rules table s (Some c))
+  unfolding IsAged
+  rule_voted n s c =
       vote_cases (IsSinceStep n) rules table s c (λ h e. counted n 1 h (begun_age c.at c.mark (next_of c.at (spoken_mark table c.mark c.at.day)) h e)) (λ stop. record { aged = tt; lasts = λ u e. absurd cc })
       (λ h count u is e. counted n (count + 1) (voted_by table h c).new (voted_age table h c u e)) (λ h u is e. record { aged = voted_age table h c u e; lasts = λ w says. refl })
+
+  voted : (n : ℕ) (s : State) (c : Claim) → IsSinceStep n (step_checked prefers rules table s (Some c))
+  voted n s c = checked_cases prefers rules table s (Some c) (IsSinceStep n) (rule_voted n s c) (stop n)
 
   older : (n : ℕ) (s : State) (h : HoldValue) (u : UtcSecond) → IsAged n s → s ≡ Locked h → (alone_by table h rules.holdover).answer ≡ turn.Now u → (alone_by table h rules.holdover).new.age ≡ n + 1
   unfolding IsAged
   older n s h u aged is e = let age : h.age ≡ n = subst (IsAged n) is aged in omega (arith, age, alone_age table h rules.holdover u e)
 
-  alone : (n : ℕ) (s : State) → IsAged n s → IsSinceStep (n + 1) (step_of rules table s None)
+  rule_alone : (n : ℕ) (s : State) → IsAged n s → IsSinceStep (n + 1) (step_of rules table s None)
   unfolding IsAged
-  alone n s aged = none_cases (IsSinceStep (n + 1)) rules table s (λ c. record { aged = tt; lasts = λ u e. absurd cc }) (λ h u is e. record { aged = older n s h u aged is e; lasts = λ w says. older n s h u aged is e })
+  rule_alone n s aged = none_cases (IsSinceStep (n + 1)) rules table s (λ c. record { aged = tt; lasts = λ u e. absurd cc }) (λ h u is e. record { aged = older n s h u aged is e; lasts = λ w says. older n s h u aged is e })
 
-  alone_aged : (n : ℕ) (s : State) → IsAged n s → IsAged (n + 1) (step_of rules table s None).state
+  alone : (n : ℕ) (s : State) → IsAged n s → IsSinceStep (n + 1) (step_checked prefers rules table s None)
+  alone n s aged = checked_cases prefers rules table s None (IsSinceStep (n + 1)) (rule_alone n s aged) (stop (n + 1))
+
+  alone_aged : (n : ℕ) (s : State) → IsAged n s → IsAged (n + 1) (step_checked prefers rules table s None).state
   unfolding IsAged
-  alone_aged n s aged = none_cases (λ step. IsAged (n + 1) step.state) rules table s (λ c. tt) (λ h u is e. older n s h u aged is e)
+  alone_aged n s aged =
+      checked_cases prefers rules table s None (λ step. IsAged (n + 1) step.state)
+      (none_cases (λ step. IsAged (n + 1) step.state) rules table s (λ c. tt) (λ h u is e. older n s h u aged is e)) tt
 
-  missed_aged : (j n : ℕ) (s : State) → IsAged n s → IsAged (n + j) (missed rules table j s)
+  missed_aged : (j n : ℕ) (s : State) → IsAged n s → IsAged (n + j) (missed prefers rules table j s)
   missed_aged zero n s aged = let same : n ≡ n + 0 = omega arith in subst (λ (m : ℕ). IsAged m s) same aged
   missed_aged (suc j) n s aged =
       let same : n + j + 1 ≡ n + suc j = omega arith in
-      subst (λ (m : ℕ). IsAged m (missed rules table (suc j) s)) same (alone_aged (n + j) (missed rules table j s) (missed_aged j n s aged))
+      subst (λ (m : ℕ). IsAged m (missed prefers rules table (suc j) s)) same (alone_aged (n + j) (missed prefers rules table j s) (missed_aged j n s aged))
 
-  behind : (n j : ℕ) (s : State) (vote : Option Claim) → IsAged n s → IsSinceStep (n + j + 1) (step_behind rules table j s vote)
-  behind n j s None aged = alone (n + j) (missed rules table j s) (missed_aged j n s aged)
-  behind n j s (Some c) aged = voted (n + j + 1) (missed rules table j s) c
+  behind : (n j : ℕ) (s : State) (vote : Option Claim) → IsAged n s → IsSinceStep (n + j + 1) (step_behind prefers rules table j s vote)
+  behind n j s None aged = alone (n + j) (missed prefers rules table j s) (missed_aged j n s aged)
+  behind n j s (Some c) aged = voted (n + j + 1) (missed prefers rules table j s) c
 
 -- ---- a tick
 
@@ -124,14 +138,14 @@ module _ (c : ClockRules) (table : TableValue) (s : ClockState) (since : ℕ) (a
   waits : (new : ClockState) → s.reader ≡ new.reader → IsSinceTick since new None
   waits new same = record { aged = subst (IsAged since) same aged; lasts = λ b u e. absurd cc }
 
-  tells : (n edge voted : ℕ) (vote : Option Claim) (new : ClockState) → (step_to c table s n vote).state ≡ new.reader → IsSinceTick since new (Some (beat_by c s (step_to c table s n vote) (n - 1) edge voted))
+  tells : (n edge voted : ℕ) (vote : Option Claim) (new : ClockState) → (step_to c table s n vote).state ≡ new.reader → IsSinceTick since new (Some (beat_by c s (against_table table vote) (step_to c table s n vote) (n - 1) edge voted))
   tells n edge voted vote new same =
-      let is = behind c.reader_rules table since (n - 1) s.reader vote aged in
+      let is = behind c.prefers_frames c.reader_rules table since (n - 1) s.reader vote aged in
       record {
         aged = subst (IsAged (unless_voted (step_to c table s n vote).report.cause (since + (n - 1) + 1))) same is.aged;
         lasts = λ b u e says.
-            let beat : beat_by c s (step_to c table s n vote) (n - 1) edge voted ≡ b = cc in
-            ap (λ (x : Beat). lasted x.report.lock) (sym beat) ∙ is.lasts u (rule_announces s.doubt vote (step_behind c.reader_rules table (n - 1) s.reader vote).report.announce u (ap (λ (x : Beat). x.report.announce) beat ∙ says));
+            let beat : beat_by c s (against_table table vote) (step_to c table s n vote) (n - 1) edge voted ≡ b = cc in
+            ap (λ (x : Beat). lasted x.report.lock) (sym beat) ∙ is.lasts u (rule_announces s.doubt vote (step_behind c.prefers_frames c.reader_rules table (n - 1) s.reader vote).report.announce u (ap (λ (x : Beat). x.report.announce) beat ∙ says));
       }
 
   since_own : (n : ℕ) → IsSinceTick since (after_own c table s n) (answer_alone c table s n)

@@ -12,17 +12,17 @@ use Rattle.irig_time.specs.declared.rules.Rules.{Rules}
 use Rattle.irig_time.specs.Timelines.{TimelineValue, IsSecond}
 use Rattle.irig_time.specs.Tables.{TableValue}
 use Rattle.irig_vote.specs.Vote.{f_of}
-use Rattle.irig_timekeeper.specs.declared.lines.Lines.{Lines}
-use Rattle.irig_timekeeper.specs.declared.lines.Vote.{Vote}
+use Rattle.irig_lines.specs.declared.lines.Lines.{Lines}
+use Rattle.irig_lines.specs.declared.lines.Vote.{Vote}
 use Rattle.irig_timekeeper.specs.declared.stamp.Announced.{Announced}
 use Rattle.irig_timekeeper.specs.declared.stamp.Stamp.{Stamp}
 use Rattle.irig_timekeeper.specs.declared.clock.Beat.{Beat}
-use Rattle.irig_timekeeper.specs.declared.setup.ClockRules.{ClockRules}
+use Rattle.irig_lines.specs.declared.setup.ClockRules.{ClockRules}
 use Rattle.irig_timekeeper.specs.declared.clock.ClockState.{ClockState}
-use Rattle.irig_timekeeper.specs.Edges.{IsQuartz, IsNear}
-use Rattle.irig_timekeeper.specs.Exactness.{most_drift_us, most_held_us, most_vote_us}
-use Rattle.irig_timekeeper.specs.Counting.{edge_behind, edges_between, edges_to_vote, edges_own}
-use Rattle.irig_timekeeper.specs.Steps.{agreed, if_come, is_pulse, settled}
+use Rattle.irig_lines.specs.Edges.{IsQuartz, IsNear}
+use Rattle.irig_lines.specs.Exactness.{most_drift_us, most_held_us, most_vote_us}
+use Rattle.irig_lines.specs.Counting.{edge_behind, edges_between, edges_to_vote, edges_own}
+use Rattle.irig_lines.specs.Steps.{agreed, if_come, is_pulse, settled}
 use Rattle.irig_timekeeper.specs.Clock.{lasted, announced_at, still_serves, step_to, beat_by, after_vote, answer_to_vote, after_own, answer_alone, own_edge, clock_by, answer_by, settled_at}
 use Rattle.irig_timekeeper.specs.Stamps.{next_us, stamp_by, first_stamp, stamp_of}
 use Rattle.irig_timekeeper.specs.Keeping.{Keeping, vote_at, after_pulse, after_tick, answer_at, stamp_at}
@@ -30,14 +30,15 @@ use Rattle.irig_timekeeper.specs.Truth.{IsEdgeAt, IsToldTruly, IsDevice, IsStamp
 use Rattle.irig_timekeeper.specs.Life.{Call, after_calls, last_tick, pulses_on, AreInOrder, AreTrueAtTicks, AreTrueLately}
 use Rattle.irig_timekeeper.specs.Life.Call.{Hear, Tick}
 use Rattle.irig_timekeeper.proofs.BoundLaws.{answer_bound}
-use Rattle.irig_timekeeper.proofs.CountingLaws.{rises}
+use Rattle.irig_lines.proofs.CountingLaws.{rises}
 use Rattle.irig_timekeeper.proofs.TimeLaws.{own_count, own_edge_at, still_edge, voted_count, same_edge}
-use Rattle.irig_timekeeper.specs.Steps.{AreNewLines}
+use Rattle.irig_lines.specs.Steps.{AreNewLines}
 use Rattle.irig_timekeeper.specs.Keeping.{new_keeping}
 use Rattle.irig_timekeeper.proofs.LifeLaws.{AreLinesAt, TellAlwaysTruly, begins, heard_truly, lines_after, ticks}
-use Rattle.irig_timekeeper.proofs.ReachLaws.{ComesBy, IsPut, StoodBy, reach}
+use Rattle.irig_lines.proofs.ReachLaws.{ComesBy, IsPut, StoodBy, reach}
 use Rattle.irig_timekeeper.proofs.VoteLaws.{vote_is_true}
 use Rattle.irig_timekeeper.proofs.OrderLaws.{IsSetByVote, set_before, edge_of, votes_apart, IsPaced, paced_tick, paced_on}
+use Rattle.irig_timekeeper.specs.Rule.{against_table}
 
 -- ---- what a tick keeps of the seconds that it told
 
@@ -59,13 +60,13 @@ serves_on (Some vote) (Some w) last u e = refl
 leaves_own : (c : ClockRules) (table : TableValue) (s : ClockState) (n : ℕ) → LeavesTold s (after_own c table s n) (answer_alone c table s n)
 leaves_own c table s n = elim (cases_Bool (n == 0)) [
   | inl waits ↦ rw waits (record { same = λ e. (refl, refl); told = λ b e. absurd cc })
-  | inr more ↦ rw more (record { same = λ e. absurd cc; told = λ b e. (let beat : beat_by c s (step_to c table s n None) (n - 1) (own_edge s.edge_us n) s.bound_us ≡ b = cc in (ap (λ (x : Beat). announced_at x.edge_us x.bound_us x.report.announce) beat, (λ a e. e), ap (λ (x : Beat). Some x.edge_us) beat, (λ u says. refl))) })
+  | inr more ↦ rw more (record { same = λ e. absurd cc; told = λ b e. (let beat : beat_by c s false (step_to c table s n None) (n - 1) (own_edge s.edge_us n) s.bound_us ≡ b = cc in (ap (λ (x : Beat). announced_at x.edge_us x.bound_us x.report.announce) beat, (λ a e. e), ap (λ (x : Beat). Some x.edge_us) beat, (λ u says. refl))) })
 ]
 
 leaves_voted : (c : ClockRules) (table : TableValue) (s : ClockState) (v : Vote) (n : ℕ) → LeavesTold s (after_vote c table s v n) (answer_to_vote c table s v n)
 leaves_voted c table s v n = elim (cases_Bool (n == 0)) [
   | inl waits ↦ rw waits (record { same = λ e. (refl, refl); told = λ b e. absurd cc })
-  | inr more ↦ rw more (record { same = λ e. absurd cc; told = λ b e. (let beat : beat_by c s (step_to c table s n (Some v.claim)) (n - 1) v.edge_us v.bound_us ≡ b = cc in (ap (λ (x : Beat). announced_at x.edge_us x.bound_us x.report.announce) beat, (λ a e. served (Some v.claim) (step_to c table s n (Some v.claim)).report.announce s.last a e), ap (λ (x : Beat). Some x.edge_us) beat, (λ u says. serves_on (Some v.claim) (step_to c table s n (Some v.claim)).report.announce s.last u (ap (λ (x : Beat). x.report.announce) beat ∙ says)))) })
+  | inr more ↦ rw more (record { same = λ e. absurd cc; told = λ b e. (let beat : beat_by c s (against_table table (Some v.claim)) (step_to c table s n (Some v.claim)) (n - 1) v.edge_us v.bound_us ≡ b = cc in (ap (λ (x : Beat). announced_at x.edge_us x.bound_us x.report.announce) beat, (λ a e. served (Some v.claim) (step_to c table s n (Some v.claim)).report.announce s.last a e), ap (λ (x : Beat). Some x.edge_us) beat, (λ u says. serves_on (Some v.claim) (step_to c table s n (Some v.claim)).report.announce s.last u (ap (λ (x : Beat). x.report.announce) beat ∙ says)))) })
 ]
 
 pub leaves_told : (k : Keeping) (clock : ℕ) → LeavesTold k.state (after_tick k clock).state (answer_at k clock)
@@ -158,7 +159,7 @@ module _ (new : Keeping) (start : ℕ) (begun : AreLinesAt new new (λ i. []) st
           let zero : n ≡ 0 = eqb-true n 0 waits in
           let count = same ∙ own_count (last_tick start calls) now ordered soon e f.x f.at in
           rw waits (record { e = e; edge = refl; fresh = record { x = f.x; at = still_edge (last_tick start calls) now ordered soon e f.x f.at (sym count ∙ zero); is = fresh_on A (Tick now) calls f.x f.is } })
-      | inr more ↦ let both : Some (beat_by k.clock s (step_to k.clock k.table s n None) (n - 1) (own_edge (Some e) n) s.bound_us) ≡ None = rw more at none in absurd cc
+      | inr more ↦ let both : Some (beat_by k.clock s false (step_to k.clock k.table s n None) (n - 1) (own_edge (Some e) n) s.bound_us) ≡ None = rw more at none in absurd cc
     ]
 
     fresh_voted : (v : Vote) → vote_at k (now % 2 ^ 32) ≡ Some v → (n : ℕ) → n ≡ edges_to_vote (Some e) v.edge_us → answer_to_vote k.clock k.table s v n ≡ None → StaysFresh A (Tick now ∷ calls) (after_vote k.clock k.table s v n).edge_us
@@ -173,7 +174,7 @@ module _ (new : Keeping) (start : ℕ) (begun : AreLinesAt new new (λ i. []) st
             | inr old ↦ absurd (omega (arith, count, zero, behind v voted V.0 V.1 old.2))
           ] in
           rw waits (record { e = v.edge_us; edge = refl; fresh = record { x = V.0; at = V.1; is = is } })
-      | inr more ↦ let both : Some (beat_by k.clock s (step_to k.clock k.table s n (Some v.claim)) (n - 1) v.edge_us v.bound_us) ≡ None = rw more at none in absurd cc
+      | inr more ↦ let both : Some (beat_by k.clock s (against_table k.table (Some v.claim)) (step_to k.clock k.table s n (Some v.claim)) (n - 1) v.edge_us v.bound_us) ≡ None = rw more at none in absurd cc
     ]
       where
         behind : (v : Vote) → vote_at k (now % 2 ^ 32) ≡ Some v → (V : ℕ) → IsEdgeAt v.edge_us V now → (set : IsSetByVote new start begun f.x calls) → f.x + 889000 ≤ V
@@ -197,8 +198,8 @@ module _ (new : Keeping) (start : ℕ) (begun : AreLinesAt new new (λ i. []) st
     next_own n same b B at answer = elim (cases_Bool (n == 0)) [
       | inl waits ↦ let both : None ≡ Some b = rw waits at answer in absurd cc
       | inr more ↦
-          let both : Some (beat_by k.clock s (step_to k.clock k.table s n None) (n - 1) (own_edge (Some e) n) s.bound_us) ≡ Some b = rw more at answer in
-          let beat : beat_by k.clock s (step_to k.clock k.table s n None) (n - 1) (own_edge (Some e) n) s.bound_us ≡ b = cc in
+          let both : Some (beat_by k.clock s false (step_to k.clock k.table s n None) (n - 1) (own_edge (Some e) n) s.bound_us) ≡ Some b = rw more at answer in
+          let beat : beat_by k.clock s false (step_to k.clock k.table s n None) (n - 1) (own_edge (Some e) n) s.bound_us ≡ b = cc in
           let some : 1 ≤ n = omega (arith, eqb-false n 0 more) in
           let count = same ∙ own_count (last_tick start calls) now ordered soon e f.x f.at in
           let then = own_edge_at (last_tick start calls) now ordered soon e f.x f.at n count some in
@@ -212,8 +213,8 @@ module _ (new : Keeping) (start : ℕ) (begun : AreLinesAt new new (λ i. []) st
     next_voted v voted n same b B at answer = elim (cases_Bool (n == 0)) [
       | inl waits ↦ let both : None ≡ Some b = rw waits at answer in absurd cc
       | inr more ↦
-          let both : Some (beat_by k.clock s (step_to k.clock k.table s n (Some v.claim)) (n - 1) v.edge_us v.bound_us) ≡ Some b = rw more at answer in
-          let beat : beat_by k.clock s (step_to k.clock k.table s n (Some v.claim)) (n - 1) v.edge_us v.bound_us ≡ b = cc in
+          let both : Some (beat_by k.clock s (against_table k.table (Some v.claim)) (step_to k.clock k.table s n (Some v.claim)) (n - 1) v.edge_us v.bound_us) ≡ Some b = rw more at answer in
+          let beat : beat_by k.clock s (against_table k.table (Some v.claim)) (step_to k.clock k.table s n (Some v.claim)) (n - 1) v.edge_us v.bound_us ≡ b = cc in
           let some : 1 ≤ n = omega (arith, eqb-false n 0 more) in
           let V = edge_of new start begun calls now order v voted in
           let edge : v.edge_us ≡ b.edge_us = ap (λ (x : Beat). x.edge_us) beat in

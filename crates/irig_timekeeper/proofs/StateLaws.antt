@@ -13,22 +13,22 @@ use Rattle.irig_time.proofs.TimeLaws.{one_second, same_second as same_by_parts}
 use Rattle.irig_port.specs.declared.told.Told.{Told}
 use Rattle.irig_port.specs.declared.told.Told.TheVariants as tells
 use Rattle.irig_vote.specs.declared.redundancy.Redundancy.{Redundancy}
-use Rattle.irig_timekeeper.specs.declared.lines.KeptFrame.{KeptFrame}
+use Rattle.irig_lines.specs.declared.lines.KeptFrame.{KeptFrame}
 use Rattle.irig_timekeeper.specs.declared.stamp.Announced.{Announced}
 use Rattle.irig_timekeeper.specs.declared.states.LineState.{LineState}
 use Rattle.irig_timekeeper.specs.declared.states.LineState.TheVariants as is
-use Rattle.irig_timekeeper.specs.declared.setup.ClockRules.{ClockRules}
+use Rattle.irig_lines.specs.declared.setup.ClockRules.{ClockRules}
 use Rattle.irig_timekeeper.specs.declared.clock.ClockState.{ClockState}
-use Rattle.irig_timekeeper.specs.Edges.{IsQuartz, IsNear, IsTrueNear}
-use Rattle.irig_timekeeper.specs.Exactness.{end_off_us}
-use Rattle.irig_timekeeper.specs.Lines.{IsTrueLately}
-use Rattle.irig_timekeeper.specs.Steps.{line_at}
+use Rattle.irig_lines.specs.Edges.{IsQuartz, IsNear, IsTrueNear}
+use Rattle.irig_lines.specs.Exactness.{end_off_us}
+use Rattle.irig_lines.specs.Lines.{IsTrueLately}
+use Rattle.irig_lines.specs.Steps.{line_at}
 use Rattle.irig_timekeeper.specs.States.{is_near, state_near, is_later, state_before, state_claiming, state_telling, state_seen, state_of}
 use Rattle.irig_timekeeper.specs.LineTruths.{IsEndedTruly, IsSentFrame, is_false, is_untrue, HasSentFalsely, HasSentTruly, IsSaidRightly}
 use Rattle.irig_timekeeper.specs.Life.{Call, Made, pulses_on, last_tick, life_of, device_of, AreInOrder, LivesTruly}
 use Rattle.irig_timekeeper.specs.Life.Call.{Tick}
-use Rattle.irig_timekeeper.proofs.PartLaws.{split}
-use Rattle.irig_timekeeper.proofs.LineLaws.{frame_is_true, frame_is_even}
+use Rattle.irig_lines.proofs.PartLaws.{split}
+use Rattle.irig_lines.proofs.LineLaws.{frame_is_true, frame_is_even}
 use Rattle.irig_timekeeper.proofs.LifeLaws.{TellAlwaysTruly, begins, each_new}
 use Rattle.irig_timekeeper.proofs.EndedLaws.{IfBefore, IfEndedAt, EndedBy, up_one, up_two, second_one, ends_truly}
 use Rattle.irig_timekeeper.proofs.SeenLaws.{IsSeenOf, IfSeen, seen_in}

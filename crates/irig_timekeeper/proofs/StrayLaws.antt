@@ -6,29 +6,32 @@ use Rattle.std.specs.Option.{ForSome}
 use Rattle.std.proofs.Math.Nat.{mul-le-mul_left}
 use Rattle.std.proofs.lemmas.Bool.{cases_Bool, cases_lt, eqb-true, eqb-false, leb-true}
 use Rattle.irig_sync.specs.Sync.{clock_gap}
-use Rattle.irig_timekeeper.specs.declared.interval.Interval.{Interval}
-use Rattle.irig_timekeeper.specs.declared.lines.Vote.{Vote}
-use Rattle.irig_timekeeper.specs.Edges.{IsQuartz, IsNear}
-use Rattle.irig_timekeeper.specs.Counting.{edges_between, edges_to_vote, edges_own}
+use Rattle.irig_lines.specs.declared.interval.Interval.{Interval}
+use Rattle.irig_lines.specs.declared.lines.Vote.{Vote}
+use Rattle.irig_lines.specs.Edges.{IsQuartz, IsNear}
+use Rattle.irig_lines.specs.Counting.{edges_between, edges_to_vote, edges_own}
 use Rattle.irig_time.specs.Timelines.{TimelineValue}
-use Rattle.irig_timekeeper.specs.Intervals.{LiesBetween, AreNear, by_vote, carried, carried_on, common_from, common, or_alone, cut, is_nothing, contradicts}
+use Rattle.irig_lines.specs.Intervals.{LiesBetween, AreNear, by_vote, carried, carried_on, common_from, common, or_alone, cut, is_nothing, contradicts}
 use Rattle.irig_timekeeper.specs.Truth.{IsTrueVote, IsEdgeAt, IsDevice}
 use Rattle.irig_timekeeper.specs.declared.clock.ClockState.{ClockState}
-use Rattle.irig_timekeeper.specs.declared.setup.ClockRules.{ClockRules}
+use Rattle.irig_lines.specs.declared.setup.ClockRules.{ClockRules}
 use Rattle.irig_sync.specs.Lines.{Pulse}
 use Rattle.irig_vote.specs.Vote.{f_of}
-use Rattle.irig_timekeeper.specs.Lines.{IsTrueLately}
-use Rattle.irig_timekeeper.specs.Clock.{own_edge, after_own, after_vote, knowing, knowing_vote, doubted_s, clock_by, settled_at, is_unsteady}
-use Rattle.irig_timekeeper.specs.Steps.{is_pulse, line_at, settled, agreed, if_come}
+use Rattle.irig_lines.specs.Lines.{IsTrueLately}
+use Rattle.irig_timekeeper.specs.Clock.{own_edge, after_own, after_vote, knowing, knowing_vote, anchors_unless, doubted_s, clock_by, settled_at, is_unsteady}
+use Rattle.irig_lines.specs.Steps.{is_pulse, line_at, settled, agreed, if_come}
 use Rattle.irig_timekeeper.specs.Keeping.{Keeping, vote_at, after_pulse, after_tick}
 use Rattle.irig_timekeeper.specs.Life.{Call, Made, after_calls, device_of, life_of, last_tick, pulses_on, AreInOrder, AreTrueLately, AreTrueAtTicks, LivesTruly}
 use Rattle.irig_timekeeper.specs.Life.Call.{Hear, Tick}
 use Rattle.irig_timekeeper.proofs.VoteLaws.{vote_is_true}
-use Rattle.irig_timekeeper.proofs.LineLaws.{true_lately}
+use Rattle.irig_lines.proofs.LineLaws.{true_lately}
 use Rattle.irig_timekeeper.proofs.LifeLaws.{AreLinesAt, TellAlwaysTruly, begins, each_new, heard_truly, lines_after}
+use Rattle.irig_lines.specs.declared.rate.Anchors.{Anchors}
+use Rattle.irig_lines.specs.Rates.{anchors_on, anchors_cut}
+use Rattle.irig_timekeeper.proofs.AnchorLaws.{AreAnchored, ages_on, cuts_on}
 use Rattle.irig_timekeeper.proofs.EvenLaws.{stays_steady}
 use Rattle.irig_timekeeper.proofs.TimeLaws.{own_come, own_count, still_edge, own_edge_at, voted_count}
-use Rattle.irig_timekeeper.proofs.CountingLaws.{apart, counts, rises}
+use Rattle.irig_lines.proofs.CountingLaws.{apart, counts, rises}
 
 low_is : (g w : ℕ) → g ≤ w → nat_le g w ≡ true
 low_is g w h = grind (arith, h)
@@ -373,35 +376,38 @@ module _ (d : ℕ) (edges : ℕ → ℕ) (quartz : IsQuartz d edges) where
 -- ---- a clock
 
 -- nothing is known before the first edge
-abbrev pub IfEdge : (ℕ → ℕ) → ℕ → Option ℕ → Option Interval → Type 0
-IfEdge edges tick None known = known ≡ None
-IfEdge edges tick (Some e) known = (edge : ℕ) × (w : ℕ) × IsEdgeAt e edge tick × IfKnown edges edge w known
+abbrev pub IfEdge : (ℕ → ℕ) → ℕ → Option ℕ → Option Interval → Anchors → Type 0
+IfEdge edges tick None known anchors = known ≡ None
+IfEdge edges tick (Some e) known anchors = (edge : ℕ) × (w : ℕ) × IsEdgeAt e edge tick × IfKnown edges edge w known × AreAnchored edges w anchors
 
--- its last edge is that of a tick, in what is known lies a true one, no vote contradicted it, and nothing
--- is in doubt
+-- its last edge is that of a tick, in what is known lies a true one, in each anchor that of so many
+-- seconds before, no vote contradicted it, and nothing is in doubt
 pub record KnowsTruly (edges : ℕ → ℕ) (tick : ℕ) (s : ClockState) : Type 0 where
   pub strays : s.strays ≡ 0
   pub doubt : s.doubt ≡ 0
-  pub known : IfEdge edges tick s.edge_us s.interval
+  pub known : IfEdge edges tick s.edge_us s.interval s.anchors
 
 module _ (d : ℕ) (edges : ℕ → ℕ) (quartz : IsQuartz d edges) (tick now : ℕ) (order : tick ≤ now) (soon : now ≤ tick + 1800000000) where
   -- without a vote
-  own_edge_known : (o : Option ℕ) (known : Option Interval) → IfEdge edges tick o known → (n : ℕ) → n ≡ edges_own o (now % 2 ^ 32) → IfEdge edges now (cond (n == 0) o (Some (own_edge o n))) (carried_on d n known)
-  own_edge_known None known none n same = rw (same, none) refl
-  own_edge_known (Some e) known h n same =
+  own_edge_known : (o : Option ℕ) (known : Option Interval) (anchors : Anchors) → IfEdge edges tick o known anchors → (n : ℕ) → n ≡ edges_own o (now % 2 ^ 32)
+      → IfEdge edges now (cond (n == 0) o (Some (own_edge o n))) (carried_on d n known) (anchors_on n (carried_on d n known) anchors)
+  own_edge_known None known anchors none n same = rw (same, none) refl
+  own_edge_known (Some e) known anchors h n same =
       let edge = h.0 in
       let at = h.2 in
       let count : n ≡ own_come edge now = same ∙ own_count tick now order soon e edge at in
+      let aged = ages_on edges h.1 n (carried_on d n known) anchors h.4 in
       elim (cases_Bool (n == 0)) [
         | inl none ↦
             let nothing : n ≡ 0 = eqb-true n 0 none in
             let there : edge + n * 1000000 ≡ edge = omega (arith, nothing) in
             let here : h.1 + n ≡ h.1 = omega (arith, nothing) in
             let carried = subst (λ (x : ℕ). IfKnown edges x h.1 (carried_on d n known)) there (subst (λ (w : ℕ). IfKnown edges (edge + n * 1000000) w (carried_on d n known)) here (carries_on d edges quartz edge h.1 n known h.3)) in
-            rw none (edge, h.1, still_edge tick now order soon e edge at (sym count ∙ nothing), carried)
+            let still = subst (λ (w : ℕ). AreAnchored edges w (anchors_on n (carried_on d n known) anchors)) here aged in
+            rw none (edge, h.1, still_edge tick now order soon e edge at (sym count ∙ nothing), carried, still)
         | inr some ↦
             let one : 1 ≤ n = omega (arith, eqb-false n 0 some) in
-            rw some (edge + n * 1000000, h.1 + n, own_edge_at tick now order soon e edge at n count one, carries_on d edges quartz edge h.1 n known h.3)
+            rw some (edge + n * 1000000, h.1 + n, own_edge_at tick now order soon e edge at n count one, carries_on d edges quartz edge h.1 n known h.3, aged)
       ]
 
   -- with a true one
@@ -409,10 +415,25 @@ module _ (d : ℕ) (edges : ℕ → ℕ) (quartz : IsQuartz d edges) (tick now :
     edge_now : IsEdgeAt v.edge_us vote.edge now
     edge_now = record { clock = vote.clock; come = vote.come; soon = omega (arith, vote.soon) }
 
-    voted : (o : Option ℕ) (known : Option Interval) → IfEdge edges tick o known → (n : ℕ) → n ≡ edges_to_vote o v.edge_us → KnowsOn d edges quartz t now v vote (carried_on d n known)
-    voted None known none n same = rw none (record { knows = knows_alone d edges quartz t now v vote; agrees = refl })
-    voted (Some e) None h n same = record { knows = knows_alone d edges quartz t now v vote; agrees = refl }
-    voted (Some e) (Some x) h n same =
+    -- the anchors serve on
+    anchored : (o : Option ℕ) (known : Option Interval) (anchors : Anchors) → IfEdge edges tick o known anchors → (n : ℕ) → n ≡ edges_to_vote o v.edge_us → AreAnchored edges (vote.truth.second + 1) (anchors_on n (carried_on d n known) anchors)
+    anchored None known anchors none n same = rw none (record { old = tt; young = tt })
+    anchored (Some e) None anchors h n same = record { old = tt; young = tt }
+    anchored (Some e) (Some x) anchors h n same =
+        let edge = h.0 in
+        let at = h.2 in
+        let count : n ≡ edges_between edge vote.edge = same ∙ voted_count tick now order soon e edge at v.edge_us vote.edge edge_now vote.soon in
+        elim (cases_lt (2 * 490000) (x.long_us + 2 * (n * d))) [
+          | inl long ↦ rw (less_is (2 * 490000) (x.long_us + 2 * (n * d)) long) (record { old = tt; young = tt })
+          | inr short ↦
+              let right_count = right d edges quartz t now v vote tick order soon edge h.1 at.come at.soon x h.3 n count (omega (arith, short)) in
+              subst (λ (w : ℕ). AreAnchored edges w (anchors_on n (carried d n x) anchors)) right_count (ages_on edges h.1 n (carried d n x) anchors h.4)
+        ]
+
+    voted : (o : Option ℕ) (known : Option Interval) (anchors : Anchors) → IfEdge edges tick o known anchors → (n : ℕ) → n ≡ edges_to_vote o v.edge_us → KnowsOn d edges quartz t now v vote (carried_on d n known)
+    voted None known anchors none n same = rw none (record { knows = knows_alone d edges quartz t now v vote; agrees = refl })
+    voted (Some e) None anchors h n same = record { knows = knows_alone d edges quartz t now v vote; agrees = refl }
+    voted (Some e) (Some x) anchors h n same =
         let edge = h.0 in
         let at = h.2 in
         let count : n ≡ edges_between edge vote.edge = same ∙ voted_count tick now order soon e edge at v.edge_us vote.edge edge_now vote.soon in
@@ -466,12 +487,15 @@ module _ (t : TimelineValue) (edges : ℕ → ℕ) (new : Keeping) (start : ℕ)
       doubt : s.doubt ≡ 0
       doubt = rw steady h.doubt
 
+      known_then : IfEdge edges (last_tick start calls) k.state.edge_us k.state.interval s.anchors
+      known_then = rw steady h.known
+
       own : (n : ℕ) → n ≡ edges_own k.state.edge_us (now % 2 ^ 32) → KnowsTruly edges now (knowing k.clock s n (after_own k.clock k.table s n))
       own n count =
-          let known = own_edge_known k.clock.drift_us edges quartz (last_tick start calls) now order.0 soon k.state.edge_us k.state.interval h.known n count in
+          let known = own_edge_known k.clock.drift_us edges quartz (last_tick start calls) now order.0 soon k.state.edge_us k.state.interval s.anchors known_then n count in
           by (n == 0) refl known
         where
-          by : (test : Bool) → (n == 0) ≡ test → IfEdge edges now (cond test k.state.edge_us (Some (own_edge k.state.edge_us n))) (carried_on k.clock.drift_us n k.state.interval) → KnowsTruly edges now (knowing k.clock s n (after_own k.clock k.table s n))
+          by : (test : Bool) → (n == 0) ≡ test → IfEdge edges now (cond test k.state.edge_us (Some (own_edge k.state.edge_us n))) (carried_on k.clock.drift_us n k.state.interval) (anchors_on n (carried_on k.clock.drift_us n k.state.interval) s.anchors) → KnowsTruly edges now (knowing k.clock s n (after_own k.clock k.table s n))
           by true e known = rw e (record { strays = strays; doubt = doubt; known = known })
           by false e known = rw e (record { strays = strays; doubt = doubt; known = known })
 
@@ -480,8 +504,12 @@ module _ (t : TimelineValue) (edges : ℕ → ℕ) (new : Keeping) (start : ℕ)
 
       by_true : (v : Vote) (vote : IsTrueVote t edges 0 0 now v) (n : ℕ) → n ≡ edges_to_vote k.state.edge_us v.edge_us → KnowsTruly edges now (knowing_vote k.clock s v n (after_vote k.clock k.table s v n))
       by_true v vote n count =
-          let on = voted k.clock.drift_us edges quartz (last_tick start calls) now order.0 soon t v vote k.state.edge_us k.state.interval h.known n count in
-          let known : IfEdge edges now (Some v.edge_us) (Some (cut (carried_on k.clock.drift_us n k.state.interval) (by_vote v))) = (vote.edge, vote.truth.second + 1, record { clock = vote.clock; come = vote.come; soon = omega (arith, vote.soon) }, on.knows) in
+          let then = carried_on k.clock.drift_us n k.state.interval in
+          let on = voted k.clock.drift_us edges quartz (last_tick start calls) now order.0 soon t v vote k.state.edge_us k.state.interval s.anchors known_then n count in
+          let serve = anchored k.clock.drift_us edges quartz (last_tick start calls) now order.0 soon t v vote k.state.edge_us k.state.interval s.anchors known_then n count in
+          let both = cuts_on edges (vote.truth.second + 1) (cut then (by_vote v)) on.knows.begin on.knows.around.clock on.knows.around.least on.knows.around.most on.knows.short (anchors_on n then s.anchors) serve in
+          let known : IfEdge edges now (Some v.edge_us) (Some (cut then (by_vote v))) (anchors_cut (cut then (by_vote v)) (anchors_unless (contradicts then (by_vote v)) (anchors_on n then s.anchors))) =
+          (vote.edge, vote.truth.second + 1, record { clock = vote.clock; come = vote.come; soon = omega (arith, vote.soon) }, on.knows, rw on.agrees both) in
           let none = no_more s (contradicts (carried_on k.clock.drift_us n k.state.interval) (by_vote v)) n on.agrees strays doubt in
           elim (cases_Bool (n == 0)) [
             | inl waits ↦ rw waits (record { strays = none.0; doubt = none.1; known = known })
@@ -506,7 +534,7 @@ module _ (t : TimelineValue) (edges : ℕ → ℕ) (made : Made) (start : ℕ) (
   keeps_none : (i : ℕ) → i < 5 → (line_at made.lines i).frame ≡ None
   keeps_none i low = (each_new made.lines made.fresh i low).frame
 
-  knows : KnowsTruly edges (last_tick start calls) (life_of made calls).state
+  pub knows : KnowsTruly edges (last_tick start calls) (life_of made calls).state
   knows = knows_on t edges (device_of made) start (begins made.limits made.rules made.clock made.table made.lines start made.fresh) keeps_none lives.is (record { strays = refl; doubt = refl; known = refl }) calls lives.order lives.truth
 
   pub never_strays : (life_of made calls).state.strays ≡ 0

@@ -1,6 +1,6 @@
 -- The reader's rule keeps to the truth by true votes: with a true table, or with any where it holds
 -- over for at most 57 seconds.
-use Rattle.std.proofs.Common.{◌≡◌, ◌⊎◌, ◌∙◌, ℕ, zero, suc, ◌+◌, Option, Some, None, Err, refl, sym, subst, arith, inl, inr}
+use Rattle.std.proofs.Common.{◌≡◌, ◌⊎◌, ◌∙◌, ℕ, zero, suc, ◌+◌, Option, Some, None, Err, refl, sym, subst, arith, inl, inr, Bool}
 use Rattle.irig_time.specs.declared.second.UtcSecond.{UtcSecond}
 use Rattle.irig_time.specs.declared.claim.Claim.{Claim}
 use Rattle.irig_time.specs.Next.{next_of}
@@ -25,8 +25,9 @@ use Rattle.irig_reader.proofs.StepCases.{locked_cases, count_cases, first_cases,
 use Rattle.irig_reader.proofs.TrueSteps.{start_no_jump, alone_no_jump}
 use Rattle.irig_reader.proofs.OneEdge.{voted_says}
 use Rattle.irig_reader.proofs.HeldEdges.{IfHold, IfItGoes, voted_has}
-use Rattle.irig_timekeeper.specs.Rule.{missed}
+use Rattle.irig_timekeeper.specs.Rule.{missed, step_checked}
 use Rattle.irig_timekeeper.specs.Truth.{IsSureAt, StandsSurely}
+use Rattle.irig_timekeeper.proofs.CheckedSteps.{checked_cases}
 
 -- a step that leads to T(n) or nowhere, announces no other second, and tells no jump
 pub record IsSureStep (t : TimelineValue) (table : TableValue) (n : ℕ) (step : Step) : Type 0 where
@@ -95,10 +96,13 @@ module _ (t : TimelineValue) (rules : ReaderRules) (table : TableValue) where
         (voted_has (IsSureAt t table (n + 1)) rules table state c (λ h e. record { on_time = started_true t table n c h sound claim e; knows = inr (started_in_time t table n c h claim e) }) goes)
 
     -- a true vote makes sure whoever heard of a leap where true votes tell of one
-    pub mended_by_vote : (n : ℕ) (state : State) (c : Claim) → IsTrueClaim t (n + 1) c → IfHold state HasHeardLate → StandsSurely t table (n + 1) (step_of rules table state (Some c)).state
-    mended_by_vote n Idle c claim late = by_vote n Idle c claim tt
-    mended_by_vote n (Acquiring h count) c claim late = by_vote n (Acquiring h count) c claim (goes_by_vote n c claim h (inl late))
-    mended_by_vote n (Locked h) c claim late = by_vote n (Locked h) c claim (goes_by_vote n c claim h (inl late))
+    rule_mends : (n : ℕ) (state : State) (c : Claim) → IsTrueClaim t (n + 1) c → IfHold state HasHeardLate → StandsSurely t table (n + 1) (step_of rules table state (Some c)).state
+    rule_mends n Idle c claim late = by_vote n Idle c claim tt
+    rule_mends n (Acquiring h count) c claim late = by_vote n (Acquiring h count) c claim (goes_by_vote n c claim h (inl late))
+    rule_mends n (Locked h) c claim late = by_vote n (Locked h) c claim (goes_by_vote n c claim h (inl late))
+
+    pub mended_by_vote : (prefers : Bool) (n : ℕ) (state : State) (c : Claim) → IsTrueClaim t (n + 1) c → IfHold state HasHeardLate → StandsSurely t table (n + 1) (step_checked prefers rules table state (Some c)).state
+    mended_by_vote prefers n state c claim late = checked_cases prefers rules table state (Some c) (λ step. StandsSurely t table (n + 1) step.state) (rule_mends n state c claim late) tt
 
     sure_by_vote : (n : ℕ) (state : State) (c : Claim) → IsTrueClaim t (n + 1) c → StandsSurely t table n state → StandsSurely t table (n + 1) (step_of rules table state (Some c)).state
     sure_by_vote n Idle c claim at = by_vote n Idle c claim tt
@@ -136,15 +140,19 @@ module _ (t : TimelineValue) (rules : ReaderRules) (table : TableValue) where
       }
 
       -- by a vote that is none or the true one
-      pub sure_step : (n : ℕ) (state : State) (vote : Option Claim) → StandsSurely t table n state → (vote ≡ None) ⊎ (vote ≡ truth_at t n) → IsSureStep t table (n + 1) (step_of rules table state vote)
-      sure_step n state None at voted = by_none n state at
-      sure_step n state (Some c) at (inl none) = absurd cc
-      sure_step n state (Some c) at (inr truth) =
+      rule_surely : (n : ℕ) (state : State) (vote : Option Claim) → StandsSurely t table n state → (vote ≡ None) ⊎ (vote ≡ truth_at t n) → IsSureStep t table (n + 1) (step_of rules table state vote)
+      rule_surely n state None at voted = by_none n state at
+      rule_surely n state (Some c) at (inl none) = absurd cc
+      rule_surely n state (Some c) at (inr truth) =
           let claim : IsTrueClaim t (n + 1) c = (claim_is t n c).0 (sym truth) in
           record { state = sure_by_vote n state c claim at; says = voted_says t n rules table state c sound claim; jump = votes_calmly n state c claim at }
 
-      pub missed_surely : (w n : ℕ) (s : State) → StandsSurely t table w s → StandsSurely t table (w + n) (missed rules table n s)
-      missed_surely w zero s at = let same : w ≡ w + 0 = omega arith in subst (λ (m : ℕ). StandsSurely t table m s) same at
-      missed_surely w (suc n) s at =
-          let same : w + n + 1 ≡ w + suc n = omega arith in
-          subst (λ (m : ℕ). StandsSurely t table m (missed rules table (suc n) s)) same (sure_step (w + n) (missed rules table n s) None (missed_surely w n s at) (inl refl)).state
+      module _ (prefers : Bool) where
+        pub sure_step : (n : ℕ) (state : State) (vote : Option Claim) → StandsSurely t table n state → (vote ≡ None) ⊎ (vote ≡ truth_at t n) → IsSureStep t table (n + 1) (step_checked prefers rules table state vote)
+        sure_step n state vote at voted = checked_cases prefers rules table state vote (IsSureStep t table (n + 1)) (rule_surely n state vote at voted) (record { state = tt; says = λ u says. absurd cc; jump = λ jump. cc })
+
+        pub missed_surely : (w n : ℕ) (s : State) → StandsSurely t table w s → StandsSurely t table (w + n) (missed prefers rules table n s)
+        missed_surely w zero s at = let same : w ≡ w + 0 = omega arith in subst (λ (m : ℕ). StandsSurely t table m s) same at
+        missed_surely w (suc n) s at =
+            let same : w + n + 1 ≡ w + suc n = omega arith in
+            subst (λ (m : ℕ). StandsSurely t table m (missed prefers rules table (suc n) s)) same (sure_step (w + n) (missed prefers rules table n s) None (missed_surely w n s at) (inl refl)).state

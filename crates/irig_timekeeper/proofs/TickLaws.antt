@@ -3,7 +3,7 @@ use Rattle.std.proofs.Common.{◌≡◌, ℕ, ap}
 use Rattle.irig_sync.specs.Sync.{place_of}
 use Rattle.irig_port.specs.Limits.{told_within}
 use Rattle.irig_port.specs.Hearing.{heard_at}
-use Rattle.irig_timekeeper.specs.Steps.{line_at, with_line, line_heard}
+use Rattle.irig_lines.specs.Steps.{line_at, with_line, line_heard}
 use Rattle.irig_timekeeper.specs.Keeping.{Keeping, heard_by, with_heard, with_lines, one_pulse_more}
 
 pub pulse_by : (k : Keeping) (port rise width place : ℕ) → place ≡ place_of (line_at k.state.lines port).sync rise width

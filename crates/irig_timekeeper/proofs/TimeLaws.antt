@@ -2,9 +2,9 @@
 use Rattle.std.specs.Prelude.{nat_lt}
 use Rattle.std.proofs.Common.{◌≡◌, ◌∙◌, ℕ, ◌+◌, ◌-◌, ◌*◌, ◌/◌, ◌%◌, ◌^◌, ◌<◌, ◌≤◌, true, Some, refl, ap, arith}
 use Rattle.irig_sync.specs.Sync.{clock_gap}
-use Rattle.irig_timekeeper.specs.Counting.{edges_between, edges_to, edges_own, edge_behind}
+use Rattle.irig_lines.specs.Counting.{edges_between, edges_to, edges_own, edge_behind}
 use Rattle.irig_timekeeper.specs.Truth.{IsEdgeAt}
-use Rattle.irig_timekeeper.proofs.CountingLaws.{wraps}
+use Rattle.irig_lines.proofs.CountingLaws.{wraps}
 
 -- the edges that have come by the own counter
 abbrev pub own_come : ℕ → ℕ → ℕ

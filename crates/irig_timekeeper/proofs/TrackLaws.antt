@@ -1,6 +1,6 @@
 -- A device at a tick keeps to the truth.
 use Rattle.std.specs.Prelude.{◌==◌}
-use Rattle.std.proofs.Common.{◌≡◌, ◌∙◌, ℕ, suc, ◌+◌, ◌-◌, ◌*◌, ◌%◌, ◌^◌, ◌<◌, ◌≤◌, List, Option, Some, None, refl, sym, ap, subst, arith, inl, inr}
+use Rattle.std.proofs.Common.{◌≡◌, ◌∙◌, ℕ, suc, ◌+◌, ◌-◌, ◌*◌, ◌%◌, ◌^◌, ◌<◌, ◌≤◌, List, Option, Some, None, refl, sym, ap, subst, arith, inl, inr, Bool, false}
 use Rattle.std.proofs.Math.Nat.{mul-le-mul_left}
 use Rattle.std.proofs.lemmas.Bool.{cases_Bool, cases_lt, eqb-true, eqb-false}
 use Rattle.irig_time.specs.declared.second.UtcSecond.{UtcSecond}
@@ -12,23 +12,22 @@ use Rattle.irig_reader.specs.declared.report.Cause.TheVariants as cause
 use Rattle.irig_reader.specs.declared.rule.State.{State}
 use Rattle.irig_reader.specs.declared.rule.State.TheVariants.{Idle, Locked}
 use Rattle.irig_reader.specs.declared.rule.Step.{Step}
-use Rattle.irig_reader.specs.Rule.{step_of}
-use Rattle.irig_timekeeper.specs.declared.lines.Vote.{Vote}
+use Rattle.irig_lines.specs.declared.lines.Vote.{Vote}
 use Rattle.irig_timekeeper.specs.declared.clock.Beat.{Beat}
-use Rattle.irig_timekeeper.specs.Edges.{IsNear}
-use Rattle.irig_timekeeper.specs.Exactness.{most_vote_us}
-use Rattle.irig_timekeeper.specs.Counting.{edges_between, edges_to, edges_to_vote, edges_own, edge_behind}
-use Rattle.irig_timekeeper.specs.Rule.{missed, step_behind}
+use Rattle.irig_lines.specs.Edges.{IsNear}
+use Rattle.irig_lines.specs.Exactness.{most_vote_us}
+use Rattle.irig_lines.specs.Counting.{edges_between, edges_to, edges_to_vote, edges_own, edge_behind}
+use Rattle.irig_timekeeper.specs.Rule.{missed, step_behind, against_table, step_checked}
 use Rattle.irig_timekeeper.specs.Truth.{IsTrueVote, IsEdgeAt, StandsAt, IsOnTrack, IsToldTruly, IsDevice, StandsSurely, age_of}
 use Rattle.irig_sync.specs.Lines.{Pulse}
 use Rattle.irig_vote.specs.Vote.{f_of}
 use Rattle.irig_timekeeper.specs.Truth.{AreHeardTruly}
-use Rattle.irig_timekeeper.specs.declared.setup.ClockRules.{ClockRules}
+use Rattle.irig_lines.specs.declared.setup.ClockRules.{ClockRules}
 use Rattle.irig_timekeeper.specs.declared.clock.ClockState.{ClockState}
 use Rattle.irig_timekeeper.specs.Clock.{lasted, bound_of, own_edge, beat_by, step_to, after_vote, answer_to_vote, after_own, answer_alone, clock_by, answer_by, settled_at}
 use Rattle.irig_timekeeper.specs.Keeping.{Keeping, vote_at, after_tick, answer_at}
 use Rattle.irig_timekeeper.proofs.VoteLaws.{TellsTruly, vote_is_true}
-use Rattle.irig_timekeeper.proofs.CountingLaws.{apart, counts, rises}
+use Rattle.irig_lines.proofs.CountingLaws.{apart, counts, rises}
 use Rattle.irig_timekeeper.proofs.TimeLaws.{own_come, own_count, still_edge, own_edge_at, voted_count}
 use Rattle.irig_timekeeper.proofs.AgeLaws.{alone_step, gone, gone_idle, missed_idle}
 use Rattle.irig_timekeeper.proofs.DoubtedSteps.{rule_announces}
@@ -40,7 +39,7 @@ pub record IsToldNewly (t : TimelineValue) (d : ℕ) (edges : ℕ → ℕ) (earl
   pub later : M < told.m
   pub track : IsOnTrack t edges early late d told.m rules table now s voted o
 
-module _ (t : TimelineValue) (d : ℕ) (edges : ℕ → ℕ) (early late : ℕ) (rules : ReaderRules) (table : TableValue) (is : IsDevice t d edges rules table) (room : early + late ≤ 3002) (M : ℕ) where
+module _ (t : TimelineValue) (d : ℕ) (edges : ℕ → ℕ) (early late : ℕ) (prefers : Bool) (rules : ReaderRules) (table : TableValue) (is : IsDevice t d edges rules table) (room : early + late ≤ 3002) (M : ℕ) where
   -- ---- with a vote
 
   -- a true vote leads to the truth from there, or from nothing
@@ -60,10 +59,10 @@ module _ (t : TimelineValue) (d : ℕ) (edges : ℕ → ℕ) (early late : ℕ) 
       most = omega (arith, vote.truth.near.most);
     }
 
-    votes : (s : State) → StandsSurely t table vote.truth.second s → IsSureStep t table (vote.truth.second + 1) (step_of rules table s (Some v.claim))
-    votes s at = sure_step t rules table is.sound is.knows vote.truth.second s (Some v.claim) at (inr true_vote)
+    votes : (s : State) → StandsSurely t table vote.truth.second s → IsSureStep t table (vote.truth.second + 1) (step_checked prefers rules table s (Some v.claim))
+    votes s at = sure_step t rules table is.sound is.knows prefers vote.truth.second s (Some v.claim) at (inr true_vote)
 
-    on_track : (last : ℕ) (s : State) → last ≤ vote.truth.second + 1 → StandsSurely t table vote.truth.second s → IsOnTrack t edges early late d last rules table now (step_of rules table s (Some v.claim)).state v.bound_us (Some v.edge_us)
+    on_track : (last : ℕ) (s : State) → last ≤ vote.truth.second + 1 → StandsSurely t table vote.truth.second s → IsOnTrack t edges early late d last rules table now (step_checked prefers rules table s (Some v.claim)).state v.bound_us (Some v.edge_us)
     on_track last s low at = inr (
       vote.truth.second + 1,
       0,
@@ -79,7 +78,7 @@ module _ (t : TimelineValue) (d : ℕ) (edges : ℕ → ℕ) (early late : ℕ) 
       },
     )
 
-    abbrev told : (s : State) (b : Beat) (u : UtcSecond) → StandsSurely t table vote.truth.second s → b.edge_us ≡ v.edge_us → v.bound_us ≤ b.bound_us → (step_of rules table s (Some v.claim)).report.announce ≡ Some u → IsToldTruly t edges (early + b.bound_us) (late + b.bound_us) now b u
+    abbrev told : (s : State) (b : Beat) (u : UtcSecond) → StandsSurely t table vote.truth.second s → b.edge_us ≡ v.edge_us → v.bound_us ≤ b.bound_us → (step_checked prefers rules table s (Some v.claim)).report.announce ≡ Some u → IsToldTruly t edges (early + b.bound_us) (late + b.bound_us) now b u
     told s b u at e wide says = record {
       m = vote.truth.second + 1;
       edge = vote.edge;
@@ -92,13 +91,13 @@ module _ (t : TimelineValue) (d : ℕ) (edges : ℕ → ℕ) (early late : ℕ) 
 
     -- the edges counted from the last edge, and where the rule then stands before the vote
     record Comes (tick : ℕ) (s : State) (e n : ℕ) : Type 0 where
-      before : 1 ≤ n → StandsSurely t table vote.truth.second (missed rules table (n - 1) s)
+      before : 1 ≤ n → StandsSurely t table vote.truth.second (missed prefers rules table (n - 1) s)
       none : n ≡ 0 → IsOnTrack t edges early late d M rules table now s v.bound_us (Some v.edge_us)
       later : 1 ≤ n → M < vote.truth.second + 1
 
     idle_begins : (tick : ℕ) (s : State) → s ≡ Idle → M ≡ 0 → Comes tick s 0 1
     idle_begins tick s idle never = record {
-      before = λ some. subst (StandsSurely t table vote.truth.second) (sym (missed_idle rules table 0 s idle)) tt;
+      before = λ some. subst (StandsSurely t table vote.truth.second) (sym (missed_idle prefers rules table 0 s idle)) tt;
       none = λ nothing. absurd (omega (arith, nothing));
       later = λ some. omega (arith, never);
     }
@@ -122,7 +121,7 @@ module _ (t : TimelineValue) (d : ℕ) (edges : ℕ → ℕ) (early late : ℕ) 
 
       idle_comes : (s : State) → s ≡ Idle → edges M + late + most_vote_us < edge + 500000 → Comes tick s e (edges_to e v.edge_us)
       idle_comes s idle ahead = record {
-        before = λ some. subst (StandsSurely t table vote.truth.second) (sym (missed_idle rules table (edges_to e v.edge_us - 1) s idle)) tt;
+        before = λ some. subst (StandsSurely t table vote.truth.second) (sym (missed_idle prefers rules table (edges_to e v.edge_us - 1) s idle)) tt;
         none = λ nothing. inl (
           idle,
           (
@@ -194,7 +193,7 @@ module _ (t : TimelineValue) (d : ℕ) (edges : ℕ → ℕ) (early late : ℕ) 
       comes_in n same = record {
         before = λ some.
             let reached : w + (n - 1) ≡ vote.truth.second = omega (arith, same, there, some) in
-            subst (λ (i : ℕ). StandsSurely t table i (missed rules table (n - 1) s)) reached (missed_surely t rules table is.sound is.knows w (n - 1) s stands.truth);
+            subst (λ (i : ℕ). StandsSurely t table i (missed prefers rules table (n - 1) s)) reached (missed_surely t rules table is.sound is.knows prefers w (n - 1) s stands.truth);
         none = λ zero.
             let at : w ≡ vote.truth.second + 1 = omega (arith, same, there, zero) in
             inr (
@@ -217,7 +216,7 @@ module _ (t : TimelineValue) (d : ℕ) (edges : ℕ → ℕ) (early late : ℕ) 
       comes_beyond : (n : ℕ) → rules.holdover + 2 < a + k → k ≤ n + 1 → Comes tick s e n
       comes_beyond n long enough = record {
         before = λ some.
-            let gone : missed rules table (n - 1) s ≡ Idle = gone_idle rules table (n - 1) s (omega (arith, stands.few, long, enough)) (omega (arith, stands.young, long, enough)) in
+            let gone : missed prefers rules table (n - 1) s ≡ Idle = gone_idle prefers rules table (n - 1) s (omega (arith, stands.few, long, enough)) (omega (arith, stands.young, long, enough)) in
             subst (StandsSurely t table vote.truth.second) (sym gone) tt;
         none = λ zero. absurd (omega (arith, zero, long, enough, stands.few));
         later = λ some. omega (arith, there, long, stands.few, stands.behind);
@@ -234,18 +233,18 @@ module _ (t : TimelineValue) (d : ℕ) (edges : ℕ → ℕ) (early late : ℕ) 
   module _ (tick now : ℕ) (order : tick ≤ now) (soon : now ≤ tick + 1800000000) (e edge : ℕ) (at : IsEdgeAt e edge tick) where
     module _ (s : State) (n : ℕ) (same : n ≡ own_come edge now) (some : 1 ≤ n) where
       abbrev last : Step
-      last = step_behind rules table (n - 1) s None
+      last = step_behind prefers rules table (n - 1) s None
 
       one_more : suc (n - 1) ≡ n
       one_more = omega (arith, some)
 
       idle_alone : (voted : ℕ) → s ≡ Idle → edges M + late + most_vote_us < edge + 500000 → IsOnTrack t edges early late d M rules table now last.state voted (Some (edge_behind e n))
-      idle_alone voted idle ahead = inl (missed_idle rules table (suc (n - 1)) s idle, (edge + n * 1000000, own_edge_at tick now order soon e edge at n same some, omega (arith, room, ahead)))
+      idle_alone voted idle ahead = inl (missed_idle prefers rules table (suc (n - 1)) s idle, (edge + n * 1000000, own_edge_at tick now order soon e edge at n same some, omega (arith, room, ahead)))
 
       idle_says : s ≡ Idle → last.report.announce ≡ None
-      idle_says idle = elim (alone_step rules table (missed rules table (n - 1) s)) [
+      idle_says idle = elim (alone_step prefers rules table (missed prefers rules table (n - 1) s)) [
         | inl stop ↦ stop.1
-        | inr older ↦ let both : Idle ≡ Locked older.locked.h = sym (missed_idle rules table (suc (n - 1)) s idle) ∙ older.locked.is in absurd cc
+        | inr older ↦ let both : Idle ≡ Locked older.locked.h = sym (missed_idle prefers rules table (suc (n - 1)) s idle) ∙ older.locked.is in absurd cc
       ]
 
       module _ (voted w a : ℕ) (near : IsNear edges (early + voted + a * d) (late + voted + a * d) w edge) (small : voted ≤ most_vote_us) (truth : StandsSurely t table w s) (young : a ≤ age_of s) (short : a ≤ rules.holdover) where
@@ -263,7 +262,7 @@ module _ (t : TimelineValue) (d : ℕ) (edges : ℕ → ℕ) (early late : ℕ) 
             omega (arith, room, small, upto, most, is.short, near.least, some)
 
         stands_alone : M ≤ w → IsOnTrack t edges early late d M rules table now last.state voted (Some (edge_behind e n))
-        stands_alone low = elim (gone rules table (n - 1) s) [
+        stands_alone low = elim (gone prefers rules table (n - 1) s) [
           | inl idle ↦ inl (idle, (edge + n * 1000000, own_edge_at tick now order soon e edge at n same some, ahead_then low))
           | inr older ↦
               let reached : w + suc (n - 1) ≡ w + n = omega (arith, one_more) in
@@ -276,7 +275,7 @@ module _ (t : TimelineValue) (d : ℕ) (edges : ℕ → ℕ) (early late : ℕ) 
                   at = own_edge_at tick now order soon e edge at n same some;
                   near = further;
                   small = small;
-                  truth = subst (λ (i : ℕ). StandsSurely t table i last.state) reached (missed_surely t rules table is.sound is.knows w (suc (n - 1)) s truth);
+                  truth = subst (λ (i : ℕ). StandsSurely t table i last.state) reached (missed_surely t rules table is.sound is.knows prefers w (suc (n - 1)) s truth);
                   young = omega (arith, age, older.older, young, one_more);
                   few = omega (arith, older.older, older.young, young, one_more);
                   behind = omega (arith, low);
@@ -286,7 +285,7 @@ module _ (t : TimelineValue) (d : ℕ) (edges : ℕ → ℕ) (early late : ℕ) 
 
         -- it has announced this second
         stands_told : ¬ (last.state ≡ Idle) → IsOnTrack t edges early late d (w + n) rules table now last.state voted (Some (edge_behind e n))
-        stands_told goes = elim (gone rules table (n - 1) s) [
+        stands_told goes = elim (gone prefers rules table (n - 1) s) [
           | inl idle ↦ absurd (goes idle)
           | inr older ↦
               let reached : w + suc (n - 1) ≡ w + n = omega (arith, one_more) in
@@ -299,7 +298,7 @@ module _ (t : TimelineValue) (d : ℕ) (edges : ℕ → ℕ) (early late : ℕ) 
                   at = own_edge_at tick now order soon e edge at n same some;
                   near = further;
                   small = small;
-                  truth = subst (λ (i : ℕ). StandsSurely t table i last.state) reached (missed_surely t rules table is.sound is.knows w (suc (n - 1)) s truth);
+                  truth = subst (λ (i : ℕ). StandsSurely t table i last.state) reached (missed_surely t rules table is.sound is.knows prefers w (suc (n - 1)) s truth);
                   young = omega (arith, age, older.older, young, one_more);
                   few = omega (arith, older.older, older.young, young, one_more);
                   behind = omega arith;
@@ -308,16 +307,16 @@ module _ (t : TimelineValue) (d : ℕ) (edges : ℕ → ℕ) (early late : ℕ) 
         ]
 
         says_alone : (b : Beat) (u : UtcSecond) → b.edge_us ≡ edge_behind e n → b.bound_us ≡ bound_of d voted b.report.lock → last.report.lock ≡ b.report.lock → last.report.announce ≡ Some u → M ≤ w → IsToldNewly t d edges early late M rules table now b u last.state voted (Some (edge_behind e n))
-        says_alone b u is_edge is_bound locks says low = elim (alone_step rules table (missed rules table (n - 1) s)) [
+        says_alone b u is_edge is_bound locks says low = elim (alone_step prefers rules table (missed prefers rules table (n - 1) s)) [
           | inl stop ↦ absurd (let both : None ≡ Some u = sym stop.1 ∙ says in cc)
-          | inr older ↦ elim (gone rules table (n - 1) s) [
+          | inr older ↦ elim (gone prefers rules table (n - 1) s) [
             | inl idle ↦ absurd (let both : Idle ≡ Locked older.locked.h = sym idle ∙ older.locked.is in cc)
             | inr gone ↦
-                let before = missed_surely t rules table is.sound is.knows w (n - 1) s truth in
+                let before = missed_surely t rules table is.sound is.knows prefers w (n - 1) s truth in
                 let reached : w + (n - 1) + 1 ≡ w + n = omega (arith, some) in
-                let second = (sure_step t rules table is.sound is.knows (w + (n - 1)) (missed rules table (n - 1) s) None before (inl refl)).says u says in
+                let second = (sure_step t rules table is.sound is.knows prefers (w + (n - 1)) (missed prefers rules table (n - 1) s) None before (inl refl)).says u says in
                 let age : older.locked.h.age ≡ gone.h.age = ap age_of (sym older.locked.is ∙ gone.is) in
-                let lasts : lasted b.report.lock ≡ age_of (missed rules table (n - 1) s) + 1 = ap lasted (sym locks ∙ older.says) in
+                let lasts : lasted b.report.lock ≡ age_of (missed prefers rules table (n - 1) s) + 1 = ap lasted (sym locks ∙ older.says) in
                 let held : a + n ≤ lasted b.report.lock = omega (arith, lasts, older.locked.older, age, gone.older, young, one_more) in
                 let drifts = mul-le-mul_left d held in
                 record {
@@ -367,7 +366,7 @@ module _ (t : TimelineValue) (d : ℕ) (edges : ℕ → ℕ) (early late : ℕ) 
         )
 
     own_tracks : (voted : ℕ) (o : Option ℕ) (s : State) → IsOnTrack t edges early late d M rules table tick s voted o → (n : ℕ) → n ≡ edges_own o (now % 2 ^ 32) → 1 ≤ n
-        → IsOnTrack t edges early late d M rules table now (step_behind rules table (n - 1) s None).state voted (Some (own_edge o n))
+        → IsOnTrack t edges early late d M rules table now (step_behind prefers rules table (n - 1) s None).state voted (Some (own_edge o n))
     own_tracks voted None s idle n same some = absurd (omega (arith, same, some))
     own_tracks voted (Some e) s (inl idle) n same some =
         let at = idle.1 in
@@ -377,7 +376,7 @@ module _ (t : TimelineValue) (d : ℕ) (edges : ℕ → ℕ) (early late : ℕ) 
         stands_alone tick now order soon e stands.edge stands.at s n (same ∙ own_count tick now order soon e stands.edge stands.at) some voted at.0 at.1 stands.near stands.small stands.truth stands.young stands.few stands.behind
 
     own_says : (voted : ℕ) (o : Option ℕ) (s : State) → IsOnTrack t edges early late d M rules table tick s voted o → (n : ℕ) → n ≡ edges_own o (now % 2 ^ 32) → 1 ≤ n → (b : Beat) (u : UtcSecond) → b.edge_us ≡ own_edge o n → b.bound_us ≡ bound_of d voted b.report.lock
-        → (step_behind rules table (n - 1) s None).report.lock ≡ b.report.lock → (step_behind rules table (n - 1) s None).report.announce ≡ Some u → IsToldNewly t d edges early late M rules table now b u (step_behind rules table (n - 1) s None).state voted (Some (own_edge o n))
+        → (step_behind prefers rules table (n - 1) s None).report.lock ≡ b.report.lock → (step_behind prefers rules table (n - 1) s None).report.announce ≡ Some u → IsToldNewly t d edges early late M rules table now b u (step_behind prefers rules table (n - 1) s None).state voted (Some (own_edge o n))
     own_says voted None s idle n same some b u is_edge is_bound locks says = absurd (omega (arith, same, some))
     own_says voted (Some e) s (inl idle) n same some b u is_edge is_bound locks says =
         let at = idle.1 in
@@ -387,16 +386,16 @@ module _ (t : TimelineValue) (d : ℕ) (edges : ℕ → ℕ) (early late : ℕ) 
         says_alone tick now order soon e stands.edge stands.at s n (same ∙ own_count tick now order soon e stands.edge stands.at) some voted at.0 at.1 stands.near stands.small stands.truth stands.young stands.few b u is_edge is_bound locks says stands.behind
 
   -- by the own counter it tells no jump
-  own_calm : (voted : ℕ) (o : Option ℕ) (s : State) (tick : ℕ) → IsOnTrack t edges early late d M rules table tick s voted o → (n : ℕ) → ¬ ((step_behind rules table n s None).report.cause ≡ cause.Jump)
+  own_calm : (voted : ℕ) (o : Option ℕ) (s : State) (tick : ℕ) → IsOnTrack t edges early late d M rules table tick s voted o → (n : ℕ) → ¬ ((step_behind prefers rules table n s None).report.cause ≡ cause.Jump)
   own_calm voted None s tick idle n = calm_from 0 s n (subst (StandsSurely t table 0) (sym idle.0) tt)
     where
-      calm_from : (w : ℕ) (s : State) (n : ℕ) → StandsSurely t table w s → ¬ ((step_behind rules table n s None).report.cause ≡ cause.Jump)
-      calm_from w s n at = (sure_step t rules table is.sound is.knows (w + n) (missed rules table n s) None (missed_surely t rules table is.sound is.knows w n s at) (inl refl)).jump
+      calm_from : (w : ℕ) (s : State) (n : ℕ) → StandsSurely t table w s → ¬ ((step_behind prefers rules table n s None).report.cause ≡ cause.Jump)
+      calm_from w s n at = (sure_step t rules table is.sound is.knows prefers (w + n) (missed prefers rules table n s) None (missed_surely t rules table is.sound is.knows prefers w n s at) (inl refl)).jump
   own_calm voted (Some e) s tick (inl idle) n = calm_from 0 s n (subst (StandsSurely t table 0) (sym idle.0) tt)
     where
-      calm_from : (w : ℕ) (s : State) (n : ℕ) → StandsSurely t table w s → ¬ ((step_behind rules table n s None).report.cause ≡ cause.Jump)
-      calm_from w s n at = (sure_step t rules table is.sound is.knows (w + n) (missed rules table n s) None (missed_surely t rules table is.sound is.knows w n s at) (inl refl)).jump
-  own_calm voted (Some e) s tick (inr at) n = (sure_step t rules table is.sound is.knows (at.0 + n) (missed rules table n s) None (missed_surely t rules table is.sound is.knows at.0 n s at.2.truth) (inl refl)).jump
+      calm_from : (w : ℕ) (s : State) (n : ℕ) → StandsSurely t table w s → ¬ ((step_behind prefers rules table n s None).report.cause ≡ cause.Jump)
+      calm_from w s n at = (sure_step t rules table is.sound is.knows prefers (w + n) (missed prefers rules table n s) None (missed_surely t rules table is.sound is.knows prefers w n s at) (inl refl)).jump
+  own_calm voted (Some e) s tick (inr at) n = (sure_step t rules table is.sound is.knows prefers (at.0 + n) (missed prefers rules table n s) None (missed_surely t rules table is.sound is.knows prefers at.0 n s at.2.truth) (inl refl)).jump
 
 -- ---- a tick
 
@@ -410,29 +409,29 @@ module _ (t : TimelineValue) (edges : ℕ → ℕ) (early late : ℕ) (c : Clock
     (on : IsOnTrack t edges early late c.drift_us M c.reader_rules table tick s.reader s.bound_us s.edge_us) where
   by_vote : (v : Vote) (vote : IsTrueVote t edges early late now v) (n : ℕ) → n ≡ edges_to_vote s.edge_us v.edge_us → KeepsTrue t c.drift_us edges early late M c.reader_rules table now (after_vote c table s v n) (answer_to_vote c table s v n)
   by_vote v vote n same =
-      let all = comes t c.drift_us edges early late c.reader_rules table is room M tick now order soon v vote s.bound_us s.edge_us s.reader on in
-      let state = missed c.reader_rules table (n - 1) s.reader in
+      let all = comes t c.drift_us edges early late c.prefers_frames c.reader_rules table is room M tick now order soon v vote s.bound_us s.edge_us s.reader on in
+      let state = missed c.prefers_frames c.reader_rules table (n - 1) s.reader in
       elim (cases_Bool (n == 0)) [
         | inl waits ↦
             let none : edges_to_vote s.edge_us v.edge_us ≡ 0 = sym same ∙ eqb-true n 0 waits in
             rw waits (record { track = all.none none; told = λ b u e says. absurd cc; calm = λ b e. absurd cc })
         | inr more ↦
             let some : 1 ≤ n = omega (arith, eqb-false n 0 more) in
-            let reached = subst (λ (i : ℕ). StandsSurely t table vote.truth.second (missed c.reader_rules table (i - 1) s.reader)) (sym same) (all.before (omega (arith, same, some))) in
+            let reached = subst (λ (i : ℕ). StandsSurely t table vote.truth.second (missed c.prefers_frames c.reader_rules table (i - 1) s.reader)) (sym same) (all.before (omega (arith, same, some))) in
             rw more (record {
-              track = on_track t c.drift_us edges early late c.reader_rules table is room M now v vote M state (let less = all.later (omega (arith, same, some)) in omega (arith, less)) reached;
+              track = on_track t c.drift_us edges early late c.prefers_frames c.reader_rules table is room M now v vote M state (let less = all.later (omega (arith, same, some)) in omega (arith, less)) reached;
               told = λ b u e says.
-                  let beat : b ≡ beat_by c s (step_to c table s n (Some v.claim)) (n - 1) v.edge_us v.bound_us = cc in
+                  let beat : b ≡ beat_by c s (against_table table (Some v.claim)) (step_to c table s n (Some v.claim)) (n - 1) v.edge_us v.bound_us = cc in
                   record {
                     told =
                         let bound : b.bound_us ≡ bound_of c.drift_us v.bound_us (step_to c table s n (Some v.claim)).report.lock = ap (λ (x : Beat). x.bound_us) beat in
-                        told t c.drift_us edges early late c.reader_rules table is room M now v vote state b u reached (ap (λ (x : Beat). x.edge_us) beat) (omega (arith, bound)) (sym (ap (λ (x : Beat). x.report.announce) beat) ∙ says);
+                        told t c.drift_us edges early late c.prefers_frames c.reader_rules table is room M now v vote state b u reached (ap (λ (x : Beat). x.edge_us) beat) (omega (arith, bound)) (sym (ap (λ (x : Beat). x.report.announce) beat) ∙ says);
                     later = all.later (omega (arith, same, some));
-                    track = on_track t c.drift_us edges early late c.reader_rules table is room M now v vote (vote.truth.second + 1) state (omega arith) reached;
+                    track = on_track t c.drift_us edges early late c.prefers_frames c.reader_rules table is room M now v vote (vote.truth.second + 1) state (omega arith) reached;
                   };
               calm = λ b e jumps.
-                  let beat : b ≡ beat_by c s (step_to c table s n (Some v.claim)) (n - 1) v.edge_us v.bound_us = cc in
-                  (votes t c.drift_us edges early late c.reader_rules table is room M now v vote state reached).jump (sym (ap (λ (x : Beat). x.report.cause) beat) ∙ jumps);
+                  let beat : b ≡ beat_by c s (against_table table (Some v.claim)) (step_to c table s n (Some v.claim)) (n - 1) v.edge_us v.bound_us = cc in
+                  (votes t c.drift_us edges early late c.prefers_frames c.reader_rules table is room M now v vote state reached).jump (sym (ap (λ (x : Beat). x.report.cause) beat) ∙ jumps);
             })
       ]
 
@@ -441,19 +440,19 @@ module _ (t : TimelineValue) (edges : ℕ → ℕ) (early late : ℕ) (c : Clock
       elim (cases_Bool (n == 0)) [
         | inl waits ↦
             let none : edges_own s.edge_us (now % 2 ^ 32) ≡ 0 = sym same ∙ eqb-true n 0 waits in
-            rw waits (record { track = own_waits t c.drift_us edges early late c.reader_rules table is room M tick now order soon s.bound_us s.edge_us s.reader on none; told = λ b u e says. absurd cc; calm = λ b e. absurd cc })
+            rw waits (record { track = own_waits t c.drift_us edges early late c.prefers_frames c.reader_rules table is room M tick now order soon s.bound_us s.edge_us s.reader on none; told = λ b u e says. absurd cc; calm = λ b e. absurd cc })
         | inr more ↦
             let some : 1 ≤ n = omega (arith, eqb-false n 0 more) in
             rw more (record {
-              track = own_tracks t c.drift_us edges early late c.reader_rules table is room M tick now order soon s.bound_us s.edge_us s.reader on n same some;
+              track = own_tracks t c.drift_us edges early late c.prefers_frames c.reader_rules table is room M tick now order soon s.bound_us s.edge_us s.reader on n same some;
               told = λ b u e says.
-                  let beat : b ≡ beat_by c s (step_to c table s n None) (n - 1) (own_edge s.edge_us n) s.bound_us = cc in
-                  own_says t c.drift_us edges early late c.reader_rules table is room M tick now order soon s.bound_us s.edge_us s.reader on n same some b u (ap (λ (x : Beat). x.edge_us) beat)
+                  let beat : b ≡ beat_by c s false (step_to c table s n None) (n - 1) (own_edge s.edge_us n) s.bound_us = cc in
+                  own_says t c.drift_us edges early late c.prefers_frames c.reader_rules table is room M tick now order soon s.bound_us s.edge_us s.reader on n same some b u (ap (λ (x : Beat). x.edge_us) beat)
                   (ap (λ (x : Beat). x.bound_us) beat ∙ ap (λ (x : Beat). bound_of c.drift_us s.bound_us x.report.lock) (sym beat)) (sym (ap (λ (x : Beat). x.report.lock) beat))
-                  (rule_announces s.doubt None (step_behind c.reader_rules table (n - 1) s.reader None).report.announce u (sym (ap (λ (x : Beat). x.report.announce) beat) ∙ says));
+                  (rule_announces s.doubt None (step_behind c.prefers_frames c.reader_rules table (n - 1) s.reader None).report.announce u (sym (ap (λ (x : Beat). x.report.announce) beat) ∙ says));
               calm = λ b e jumps.
-                  let beat : b ≡ beat_by c s (step_to c table s n None) (n - 1) (own_edge s.edge_us n) s.bound_us = cc in
-                  own_calm t c.drift_us edges early late c.reader_rules table is room M s.bound_us s.edge_us s.reader tick on (n - 1) (sym (ap (λ (x : Beat). x.report.cause) beat) ∙ jumps);
+                  let beat : b ≡ beat_by c s false (step_to c table s n None) (n - 1) (own_edge s.edge_us n) s.bound_us = cc in
+                  own_calm t c.drift_us edges early late c.prefers_frames c.reader_rules table is room M s.bound_us s.edge_us s.reader tick on (n - 1) (sym (ap (λ (x : Beat). x.report.cause) beat) ∙ jumps);
             })
       ]
 

@@ -13,21 +13,21 @@ use Rattle.irig_time.specs.Timelines.{TimelineValue, IsTrueClaim}
 use Rattle.irig_vote.proofs.CountLaws.{same_is}
 use Rattle.irig_port.specs.declared.told.Told.{Told}
 use Rattle.irig_port.specs.declared.told.Told.TheVariants as tells
-use Rattle.irig_timekeeper.specs.declared.lines.KeptFrame.{KeptFrame}
-use Rattle.irig_timekeeper.specs.declared.lines.KeptClaim.{KeptClaim}
-use Rattle.irig_timekeeper.specs.declared.lines.Lines.{Lines}
-use Rattle.irig_timekeeper.specs.declared.lines.Vote.{Vote}
-use Rattle.irig_timekeeper.specs.declared.setup.ClockRules.{ClockRules}
+use Rattle.irig_lines.specs.declared.lines.KeptFrame.{KeptFrame}
+use Rattle.irig_lines.specs.declared.lines.KeptClaim.{KeptClaim}
+use Rattle.irig_lines.specs.declared.lines.Lines.{Lines}
+use Rattle.irig_lines.specs.declared.lines.Vote.{Vote}
+use Rattle.irig_lines.specs.declared.setup.ClockRules.{ClockRules}
 use Rattle.irig_vote.specs.Vote.{f_of}
-use Rattle.irig_timekeeper.specs.Edges.{IsQuartz, IsTrueNear}
-use Rattle.irig_timekeeper.specs.Lines.{IsLastBefore, IsFrameOf, IfKept, IsInTurnOf, HasJustCome}
-use Rattle.irig_timekeeper.specs.Counting.{is_late, has_come}
-use Rattle.irig_timekeeper.specs.Steps.{line_at, still_kept, settled, claim_told, claim_kept, all_kept, agrees, is_candidate, place_behind, ends_by, ends_from, agreed, if_come}
+use Rattle.irig_lines.specs.Edges.{IsQuartz, IsTrueNear}
+use Rattle.irig_lines.specs.Lines.{IsLastBefore, IsFrameOf, IfKept, IsInTurnOf, HasJustCome}
+use Rattle.irig_lines.specs.Counting.{is_late, has_come}
+use Rattle.irig_lines.specs.Steps.{line_at, still_kept, settled, claim_told, claim_kept, all_kept, agrees, is_candidate, place_behind, ends_by, ends_from, agreed, if_come}
 use Rattle.irig_timekeeper.specs.Truth.{AreHeardTruly, IsTrueVote}
-use Rattle.irig_timekeeper.specs.Exactness.{window_us, end_off_us, vote_us, most_drift_us, most_vote_us}
-use Rattle.irig_timekeeper.proofs.AgreeLaws.{one_agrees, kept_at, EachKept, is_one}
-use Rattle.irig_timekeeper.proofs.PartLaws.{split, narrow, IsVoteOf, agreed_first, vote_of}
-use Rattle.irig_timekeeper.proofs.CountingLaws.{rises}
+use Rattle.irig_lines.specs.Exactness.{window_us, end_off_us, vote_us, most_drift_us, most_vote_us}
+use Rattle.irig_lines.proofs.AgreeLaws.{one_agrees, kept_at, EachKept, is_one}
+use Rattle.irig_lines.proofs.PartLaws.{split, narrow, IsVoteOf, agreed_first, vote_of}
+use Rattle.irig_lines.proofs.CountingLaws.{rises}
 
 -- ---- what a tick keeps
 

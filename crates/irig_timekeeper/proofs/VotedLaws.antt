@@ -26,33 +26,40 @@ use Rattle.irig_reader.specs.declared.rule.State.{State}
 use Rattle.irig_reader.specs.declared.rule.State.TheVariants.{Idle, Acquiring, Locked}
 use Rattle.irig_reader.specs.Rule.{step_of, locked_step}
 use Rattle.irig_reader.proofs.OneEdge.{voted_seconds, clean_by_few}
-use Rattle.irig_timekeeper.specs.declared.lines.Vote.{Vote}
+use Rattle.irig_lines.specs.declared.lines.Vote.{Vote}
 use Rattle.irig_timekeeper.specs.declared.clock.Beat.{Beat}
-use Rattle.irig_timekeeper.specs.Edges.{IsQuartz}
-use Rattle.irig_timekeeper.specs.Counting.{edges_to_vote, edges_own}
-use Rattle.irig_timekeeper.specs.Rule.{missed}
+use Rattle.irig_lines.specs.Edges.{IsQuartz}
+use Rattle.irig_lines.specs.Counting.{edges_to_vote, edges_own}
+use Rattle.irig_timekeeper.specs.Rule.{missed, against_table, step_checked}
 use Rattle.irig_timekeeper.specs.Clock.{lasted, beat_by, step_to, own_edge, answer_by, settled_at}
 use Rattle.irig_timekeeper.specs.declared.clock.ClockState.{ClockState}
 use Rattle.irig_timekeeper.specs.Keeping.{Keeping, answer_at, vote_at}
 use Rattle.irig_timekeeper.specs.Truth.{AreHeardTruly, IsToldTruly}
-use Rattle.irig_timekeeper.specs.Exactness.{vote_us}
+use Rattle.irig_lines.specs.Exactness.{vote_us}
 use Rattle.irig_timekeeper.proofs.VoteLaws.{TellsTrulyBy, TellsTruly, IsVoteNear, vote_is_near}
+use Rattle.irig_timekeeper.proofs.CheckedSteps.{checked_cases}
 
 -- ---- a true claim
 
 one_port : Claim → Tells
 one_port c = record { a = tells.Claim c; b = tells.Silence; c = tells.Silence; d = tells.Silence; e = tells.Silence }
 
-pub voted_second : (t : TimelineValue) (n : ℕ) (rules : ReaderRules) (table : TableValue) (state : State) (c : Claim) (u : UtcSecond) → IsTimeline t → truth_at t n ≡ Some c
+rule_second : (t : TimelineValue) (n : ℕ) (rules : ReaderRules) (table : TableValue) (state : State) (c : Claim) (u : UtcSecond) → IsTimeline t → truth_at t n ≡ Some c
     → (step_of rules table state (Some c)).report.cause ≡ cause.Voted → (step_of rules table state (Some c)).report.announce ≡ Some u → IsSecond t (n + 1) u
 unfolding one_port
-voted_second t n rules table state c u sound truth voted says =
+rule_second t n rules table state c u sound truth voted says =
     let same = same_itself c in
     let vote : vote_of (one_port c) One ≡ Some c = (vote_counts (one_port c) One c).1 (rw same (omega arith)) in
     let clean = clean_by_few t n (one_port c) One c truth (rw same (omega arith)) in
     let report = ap (λ (v : Option Claim). (step_of rules table state v).report) (sym vote) in
     voted_seconds t n rules table state (one_port c) One u sound clean
     (subst (λ (r : Report). r.cause ≡ cause.Voted) report voted) (subst (λ (r : Report). r.announce ≡ Some u) report says)
+
+pub voted_second : (t : TimelineValue) (n : ℕ) (prefers : Bool) (rules : ReaderRules) (table : TableValue) (state : State) (c : Claim) (u : UtcSecond) → IsTimeline t → truth_at t n ≡ Some c
+    → (step_checked prefers rules table state (Some c)).report.cause ≡ cause.Voted → (step_checked prefers rules table state (Some c)).report.announce ≡ Some u → IsSecond t (n + 1) u
+voted_second t n prefers rules table state c u sound truth =
+    checked_cases prefers rules table state (Some c) (λ step. step.report.cause ≡ cause.Voted → step.report.announce ≡ Some u → IsSecond t (n + 1) u)
+    (rule_second t n rules table state c u sound truth) (λ voted says. absurd cc)
 
 -- ---- without a vote no second is told as voted
 
@@ -64,11 +71,14 @@ module _ (rules : ReaderRules) (table : TableValue) where
   held turn.RangeEnd h h' e = cc
   held turn.Jump h h' e = cc
 
-  never_voted : (s : State) → ¬ ((step_of rules table s None).report.cause ≡ cause.Voted)
+  rule_never : (s : State) → ¬ ((step_of rules table s None).report.cause ≡ cause.Voted)
   unfolding step_of
-  never_voted Idle e = cc
-  never_voted (Acquiring h count) e = cc
-  never_voted (Locked h) e = let o = alone_by table h rules.holdover in held o.answer o.new o.new e
+  rule_never Idle e = cc
+  rule_never (Acquiring h count) e = cc
+  rule_never (Locked h) e = let o = alone_by table h rules.holdover in held o.answer o.new o.new e
+
+  never_voted : (prefers : Bool) (s : State) → ¬ ((step_checked prefers rules table s None).report.cause ≡ cause.Voted)
+  never_voted prefers s = checked_cases prefers rules table s None (λ step. ¬ (step.report.cause ≡ cause.Voted)) (rule_never s) (λ e. cc)
 
 -- ---- a tick
 
@@ -88,18 +98,18 @@ tick_voted_by IsTrue t edges k d early late room now pulses b u quartz truly sou
     s : ClockState
     s = settled_at k.clock k.state (now % 2 ^ 32)
 
-    by_own : (n : ℕ) (test : Bool) → (n == 0) ≡ test → cond test None (Some (beat_by k.clock s (step_to k.clock k.table s n None) (n - 1) (own_edge s.edge_us n) s.bound_us)) ≡ Some b → IsToldBy k.clock.within.us k.clock.drift_us d t edges early late now b u
+    by_own : (n : ℕ) (test : Bool) → (n == 0) ≡ test → cond test None (Some (beat_by k.clock s false (step_to k.clock k.table s n None) (n - 1) (own_edge s.edge_us n) s.bound_us)) ≡ Some b → IsToldBy k.clock.within.us k.clock.drift_us d t edges early late now b u
     by_own n true e answer = absurd cc
     by_own n false e answer =
-        let beat : beat_by k.clock s (step_to k.clock k.table s n None) (n - 1) (own_edge s.edge_us n) s.bound_us ≡ b = cc in
-        absurd (never_voted k.clock.reader_rules k.table (missed k.clock.reader_rules k.table (n - 1) k.state.reader) (ap (λ (x : Beat). x.report.cause) beat ∙ voted))
+        let beat : beat_by k.clock s false (step_to k.clock k.table s n None) (n - 1) (own_edge s.edge_us n) s.bound_us ≡ b = cc in
+        absurd (never_voted k.clock.reader_rules k.table k.clock.prefers_frames (missed k.clock.prefers_frames k.clock.reader_rules k.table (n - 1) k.state.reader) (ap (λ (x : Beat). x.report.cause) beat ∙ voted))
 
-    by_vote : (v : Vote) → IsVoteNear k.clock.within.us k.clock.drift_us d t edges early late now v → (n : ℕ) (test : Bool) → (n == 0) ≡ test → cond test None (Some (beat_by k.clock s (step_to k.clock k.table s n (Some v.claim)) (n - 1) v.edge_us v.bound_us)) ≡ Some b
+    by_vote : (v : Vote) → IsVoteNear k.clock.within.us k.clock.drift_us d t edges early late now v → (n : ℕ) (test : Bool) → (n == 0) ≡ test → cond test None (Some (beat_by k.clock s (against_table k.table (Some v.claim)) (step_to k.clock k.table s n (Some v.claim)) (n - 1) v.edge_us v.bound_us)) ≡ Some b
         → IsToldBy k.clock.within.us k.clock.drift_us d t edges early late now b u
     by_vote v vote n true e answer = absurd cc
     by_vote v vote n false e answer =
-        let beat : beat_by k.clock s (step_to k.clock k.table s n (Some v.claim)) (n - 1) v.edge_us v.bound_us ≡ b = cc in
-        let state = missed k.clock.reader_rules k.table (n - 1) k.state.reader in
+        let beat : beat_by k.clock s (against_table k.table (Some v.claim)) (step_to k.clock k.table s n (Some v.claim)) (n - 1) v.edge_us v.bound_us ≡ b = cc in
+        let state = missed k.clock.prefers_frames k.clock.reader_rules k.table (n - 1) k.state.reader in
         let truth : truth_at t vote.truth.second ≡ Some v.claim = (claim_is t vote.truth.second v.claim).1 vote.truth.truth in
         let lock : Lock = (step_to k.clock k.table s n (Some v.claim)).report.lock in
         let bound : b.bound_us ≡ v.bound_us + lasted lock * k.clock.drift_us = ap (λ (x : Beat). x.bound_us) (sym beat) in
@@ -114,7 +124,7 @@ tick_voted_by IsTrue t edges k d early late room now pulses b u quartz truly sou
             near = vote.truth.near;
             come = vote.come;
             soon = omega (arith, vote.soon);
-            truth = voted_second t vote.truth.second k.clock.reader_rules k.table state v.claim u sound truth (ap (λ (x : Beat). x.report.cause) beat ∙ voted) (ap (λ (x : Beat). x.report.announce) beat ∙ says);
+            truth = voted_second t vote.truth.second k.clock.prefers_frames k.clock.reader_rules k.table state v.claim u sound truth (ap (λ (x : Beat). x.report.cause) beat ∙ voted) (ap (λ (x : Beat). x.report.announce) beat ∙ says);
           };
         }
 

@@ -6,20 +6,20 @@ use Rattle.irig_sync.specs.Lines.{Pulse}
 use Rattle.irig_sync.specs.Sync.{clock_gap}
 use Rattle.irig_time.specs.declared.rules.Rules.{Rules}
 use Rattle.irig_vote.specs.Vote.{f_of}
-use Rattle.irig_timekeeper.specs.declared.lines.KeptClaim.{KeptClaim}
-use Rattle.irig_timekeeper.specs.declared.lines.Lines.{Lines}
-use Rattle.irig_timekeeper.specs.declared.lines.Vote.{Vote}
-use Rattle.irig_timekeeper.specs.declared.setup.ClockRules.{ClockRules}
-use Rattle.irig_timekeeper.specs.Exactness.{window_us}
-use Rattle.irig_timekeeper.specs.Counting.{is_late}
+use Rattle.irig_lines.specs.declared.lines.KeptClaim.{KeptClaim}
+use Rattle.irig_lines.specs.declared.lines.Lines.{Lines}
+use Rattle.irig_lines.specs.declared.lines.Vote.{Vote}
+use Rattle.irig_lines.specs.declared.setup.ClockRules.{ClockRules}
+use Rattle.irig_lines.specs.Exactness.{window_us}
+use Rattle.irig_lines.specs.Counting.{is_late}
 use Rattle.irig_timekeeper.specs.Keeping.{Keeping, wait_at}
 use Rattle.irig_timekeeper.specs.Life.{Call, Made, AreInOrder, after_calls, device_of, last_tick, life_of, pulses_on}
 use Rattle.irig_timekeeper.specs.Life.Call.{Tick}
-use Rattle.irig_timekeeper.specs.Lines.{IfKept}
-use Rattle.irig_timekeeper.specs.Steps.{agreed, all_kept, claim_kept, line_at, settled, still_kept, until, wait_by}
+use Rattle.irig_lines.specs.Lines.{IfKept}
+use Rattle.irig_lines.specs.Steps.{agreed, all_kept, claim_kept, line_at, settled, still_kept, until, wait_by}
 use Rattle.irig_timekeeper.specs.Truth.{IfEdgeAt}
-use Rattle.irig_timekeeper.proofs.AgreeLaws.{EachKept, is_one}
-use Rattle.irig_timekeeper.proofs.PartLaws.{agreed_first, vote_of, narrow}
+use Rattle.irig_lines.proofs.AgreeLaws.{EachKept, is_one}
+use Rattle.irig_lines.proofs.PartLaws.{agreed_first, vote_of, narrow}
 use Rattle.irig_timekeeper.proofs.LifeLaws.{AreLinesAt, begins, lines_after}
 use Rattle.irig_timekeeper.proofs.OrderLaws.{IsPaced, paced_on}
 use Rattle.irig_timekeeper.proofs.VoteLaws.{one_more, still}

@@ -4,13 +4,13 @@ use Rattle.std.proofs.Common.{◌≡◌, ◌∙◌, ℕ, zero, suc, ◌+◌, ◌
 use Rattle.std.proofs.lemmas.Bool.{cases_lt}
 use Rattle.irig_sync.specs.Sync.{clock_gap}
 use Rattle.irig_vote.specs.Vote.{f_of}
-use Rattle.irig_timekeeper.specs.declared.lines.KeptClaim.{KeptClaim}
-use Rattle.irig_timekeeper.specs.declared.lines.Lines.{Lines}
-use Rattle.irig_timekeeper.specs.declared.lines.Vote.{Vote}
-use Rattle.irig_timekeeper.specs.declared.setup.ClockRules.{ClockRules}
-use Rattle.irig_timekeeper.specs.Exactness.{window_us}
-use Rattle.irig_timekeeper.specs.Counting.{edges_own}
-use Rattle.irig_timekeeper.specs.Steps.{line_at, claim_kept, all_kept, is_candidate, earlier, first_candidate, ended_by, ending_from, vote_between, vote_with, agreed, wait_by}
+use Rattle.irig_lines.specs.declared.lines.KeptClaim.{KeptClaim}
+use Rattle.irig_lines.specs.declared.lines.Lines.{Lines}
+use Rattle.irig_lines.specs.declared.lines.Vote.{Vote}
+use Rattle.irig_lines.specs.declared.setup.ClockRules.{ClockRules}
+use Rattle.irig_lines.specs.Exactness.{window_us}
+use Rattle.irig_lines.specs.Counting.{edges_own}
+use Rattle.irig_lines.specs.Steps.{line_at, claim_kept, all_kept, is_candidate, earlier, first_candidate, ended_by, ending_from, vote_between, vote_with, agreed, wait_by}
 use Rattle.irig_timekeeper.specs.Truth.{IsEdgeAt}
 
 -- ---- waiting

@@ -9,29 +9,30 @@ use Rattle.irig_time.specs.declared.second.UtcSecond.{UtcSecond}
 use Rattle.irig_time.specs.Timelines.{IsSecond, TimelineValue}
 use Rattle.irig_vote.specs.Vote.{f_of, ports_in}
 use Rattle.irig_time.specs.Claims.{same_claim}
-use Rattle.irig_timekeeper.specs.declared.lines.KeptClaim.{KeptClaim}
-use Rattle.irig_timekeeper.specs.declared.lines.Lines.{Lines}
-use Rattle.irig_timekeeper.specs.declared.lines.Vote.{Vote}
-use Rattle.irig_timekeeper.specs.declared.setup.ClockRules.{ClockRules}
-use Rattle.irig_timekeeper.specs.Edges.{IsQuartz}
-use Rattle.irig_timekeeper.specs.Exactness.{window_us, end_off_us}
-use Rattle.irig_timekeeper.specs.Lines.{IsTrueLately}
-use Rattle.irig_timekeeper.specs.Steps.{is_pulse, line_at, settled, claim_kept, all_kept, agrees, agreed, wait_by}
+use Rattle.irig_lines.specs.declared.lines.KeptClaim.{KeptClaim}
+use Rattle.irig_lines.specs.declared.lines.Lines.{Lines}
+use Rattle.irig_lines.specs.declared.lines.Vote.{Vote}
+use Rattle.irig_lines.specs.declared.setup.ClockRules.{ClockRules}
+use Rattle.irig_lines.specs.Edges.{IsQuartz}
+use Rattle.irig_lines.specs.Exactness.{window_us, end_off_us}
+use Rattle.irig_lines.specs.Lines.{IsTrueLately}
+use Rattle.irig_lines.specs.Steps.{is_pulse, line_at, settled, claim_kept, all_kept, agrees, agreed, wait_by}
 use Rattle.irig_timekeeper.specs.Keeping.{Keeping, place_told, vote_at, wait_at}
 use Rattle.irig_timekeeper.specs.Life.{Made, device_of, Call, after_calls, pulses_on, last_tick, HaveRisen, AreInOrder, AreTrueOver}
 use Rattle.irig_timekeeper.specs.Life.Call.{Hear, Tick}
 use Rattle.irig_timekeeper.specs.Announcing.{Announces, ComesWhole}
 use Rattle.irig_timekeeper.specs.Loops.{ComeInARow, AreToldInTime, made_at, latest, AreMadeInTurn, named, IsSoonEnough, GoesByWait}
-use Rattle.irig_timekeeper.proofs.LineLaws.{true_lately}
-use Rattle.irig_timekeeper.proofs.AgreeLaws.{is_one}
-use Rattle.irig_timekeeper.proofs.PartLaws.{split, agreed_first, vote_of}
+use Rattle.irig_lines.proofs.LineLaws.{true_lately}
+use Rattle.irig_lines.proofs.AgreeLaws.{is_one}
+use Rattle.irig_lines.proofs.PartLaws.{split, agreed_first, vote_of}
 use Rattle.irig_timekeeper.proofs.VoteLaws.{still, frame_settled, one_more}
 use Rattle.irig_timekeeper.proofs.LifeLaws.{begins, AreLinesAt, IsEndAt, TellAlwaysTruly, lines_after, own_pulses, others_pulses, no_pulse, unheard, order_before}
-use Rattle.irig_timekeeper.proofs.WholeLaws.{whole_of, nothing_whole}
+use Rattle.irig_lines.proofs.WholeLaws.{whole_of, nothing_whole}
 use Rattle.irig_timekeeper.proofs.OrderLaws.{shared, silent_line, kept_of_nothing, ranged, lies_behind}
 use Rattle.irig_timekeeper.proofs.FrameLaws.{place_is, ends_whole, HaveNoVotes, Keeps, ended, not_before, whole_kept}
 use Rattle.irig_timekeeper.proofs.EnoughLaws.{least_of, kept, some_agree}
 use Rattle.irig_timekeeper.proofs.LoopLaws.{loop_announces, Splits, truth_splits, turn_splits, last_on, first_tick, one_less, told_before, IsStep, AreServing}
+use Rattle.irig_timekeeper.specs.Truth.{FollowsTruth}
 
 -- the latest call is not before any
 latest_upto : (start : ℕ) (call : Call) (calls : List Call) → (latest start calls ≤ latest start (call ∷ calls)) × (made_at call ≤ latest start (call ∷ calls))
@@ -339,9 +340,9 @@ module _ (IsTrue : ℕ → List Pulse → Type 0) (t : TimelineValue) (edges : �
             }
       ]
 
-pub waiting_announces : (t : TimelineValue) (edges : ℕ → ℕ) (made : Made) (start m late : ℕ) (calls before : List Call) (u : UtcSecond) → ComeInARow (IsTrueLately made.clock.within.us) t edges made start m calls before → late ≤ 95000 → GoesByWait late (device_of made) calls before → AreMadeInTurn start calls before
+pub waiting_announces : (t : TimelineValue) (edges : ℕ → ℕ) (made : Made) (start m late : ℕ) (calls before : List Call) (u : UtcSecond) → ComeInARow (IsTrueLately made.clock.within.us) t edges made start m calls before → FollowsTruth t made.clock.prefers_frames made.table → late ≤ 95000 → GoesByWait late (device_of made) calls before → AreMadeInTurn start calls before
     → IsSecond t (m + 1 + made.clock.reader_rules.lock_after) u → Announces edges (device_of made) (m + 1 + made.clock.reader_rules.lock_after) u (calls ++ before)
-waiting_announces t edges made start m late calls before u come few goes turn second =
+waiting_announces t edges made start m late calls before u come follows few goes turn second =
     let quartz = come.is.steady in
     let new = device_of made in
     let begun = begins made.limits made.rules made.clock made.table made.lines start made.fresh in
@@ -351,6 +352,6 @@ waiting_announces t edges made start m late calls before u come few goes turn se
     (Waits (IsTrueLately made.clock.within.us made.rules t edges) t edges new quartz start begun late few)
     (waits_split (IsTrueLately made.clock.within.us made.rules t edges) t edges new quartz start begun late few)
     (waits_serve (IsTrueLately made.clock.within.us made.rules t edges) t edges new quartz start begun late few)
-    begun come.is truly refl m come.some come.locks calls before
+    begun come.is follows truly refl m come.some come.locks calls before
     (record { told = come.told; risen = come.risen; ticked = come.ticked; past = come.past; order = come.order; truth = come.truth; loop = (turn, goes) })
     come.whole come.last u second

@@ -20,7 +20,7 @@ use Rattle.irig_timekeeper.specs.declared.clock.Beat.{Beat}
 use Rattle.irig_timekeeper.specs.Keeping.{Keeping, answer_at}
 use Rattle.irig_timekeeper.specs.Life.{Call, after_calls, pulses_on, last_tick, AreTrueOver}
 use Rattle.irig_timekeeper.specs.Life.Call.{Tick}
-use Rattle.irig_timekeeper.specs.Exactness.{vote_us}
+use Rattle.irig_lines.specs.Exactness.{vote_us}
 
 -- what came before the frame that begins then does not hide its first pulse: nothing, a marker, or
 -- what rose 11 ms and `within` us before it or longer

@@ -1,7 +1,7 @@
 -- A device's clock: what becomes of it at a tick, and what it then says. It counts the seconds from
 -- its last edge to one on which lines agree, or else by its own counter.
 -- Source: this project's profile.
-use Rattle.std.specs.Prelude.{ℕ, Bool, not, ◌&&◌, ◌≤◌, ◌+◌, ◌-◌, ◌*◌, ◌%◌, ◌^◌, ◌==◌, min, max, if◌then◌else◌, Option, Some, None, is_none, IfSome}
+use Rattle.std.specs.Prelude.{ℕ, Bool, false, not, ◌&&◌, ◌≤◌, ◌+◌, ◌-◌, ◌*◌, ◌%◌, ◌^◌, ◌==◌, min, max, if◌then◌else◌, Option, Some, None, is_none, IfSome}
 use Rattle.irig_time.specs.declared.second.UtcSecond.{UtcSecond}
 use Rattle.irig_time.specs.declared.claim.Claim.{Claim}
 use Rattle.irig_time.specs.Seconds.{IsValid}
@@ -12,19 +12,21 @@ use Rattle.irig_reader.specs.declared.report.Report.{Report}
 use Rattle.irig_reader.specs.declared.rule.Step.{Step}
 use Rattle.irig_reader.specs.declared.rule.State.{State}
 use Rattle.irig_reader.specs.declared.rule.State.TheVariants.{Idle, Acquiring, Locked}
-use Rattle.irig_timekeeper.specs.declared.lines.Lines.{Lines}
-use Rattle.irig_timekeeper.specs.declared.lines.Vote.{Vote}
+use Rattle.irig_lines.specs.declared.lines.Lines.{Lines}
+use Rattle.irig_lines.specs.declared.lines.Vote.{Vote}
 use Rattle.irig_timekeeper.specs.declared.stamp.Announced.{Announced}
 use Rattle.irig_timekeeper.specs.declared.clock.Beat.{Beat}
-use Rattle.irig_timekeeper.specs.declared.setup.ClockRules.{ClockRules}
+use Rattle.irig_lines.specs.declared.setup.ClockRules.{ClockRules}
 use Rattle.irig_timekeeper.specs.declared.clock.ClockState.{ClockState}
-use Rattle.irig_timekeeper.specs.Counting.{edges_to_vote, edges_own, edge_behind}
-use Rattle.irig_timekeeper.specs.Steps.{settled, taken, tells_of, are_uneven, agreed, if_come, wait_by}
-use Rattle.irig_timekeeper.specs.declared.interval.Interval.{Interval}
-use Rattle.irig_timekeeper.specs.Intervals.{by_vote, carried_on, cut, contradicts}
-use Rattle.irig_timekeeper.specs.Rule.{step_behind}
+use Rattle.irig_lines.specs.Counting.{edges_to_vote, edges_own, edge_behind}
+use Rattle.irig_lines.specs.Steps.{settled, taken, tells_of, are_uneven, agreed, if_come, wait_by}
+use Rattle.irig_lines.specs.declared.interval.Interval.{Interval}
+use Rattle.irig_lines.specs.Intervals.{by_vote, carried_on, cut, contradicts}
+use Rattle.irig_lines.specs.declared.rate.Anchors.{Anchors}
+use Rattle.irig_lines.specs.Rates.{no_anchors, anchors_on, anchors_cut}
+use Rattle.irig_timekeeper.specs.Rule.{against_table, step_behind}
 use Rattle.std.specs.Option.{ForSome}
-use Rattle.irig_timekeeper.specs.Exactness.{most_vote_us, most_held_us}
+use Rattle.irig_lines.specs.Exactness.{most_vote_us, most_held_us}
 
 -- ---- a second that is announced
 
@@ -87,15 +89,16 @@ abbrev pub counted_on : (doubt : ℕ) → Option Claim → Step → Step
 counted_on doubt vote step = record step { report = unless_doubted doubt vote step.report }
 
 -- what is said of an edge by a step of the reader's rule, behind so many that were missed; that of
--- the last vote lay at most so far off
-abbrev pub beat_by : ClockRules → ClockState → Step → (missed edge voted : ℕ) → Beat
-beat_by c s step missed edge voted = record {
+-- the last vote lay at most so far off. Whether the vote's word goes against the table is told too
+abbrev pub beat_by : ClockRules → ClockState → (against : Bool) → Step → (missed edge voted : ℕ) → Beat
+beat_by c s against step missed edge voted = record {
   report = step.report;
   told = tells_of s.lines;
   edge_us = edge;
   bound_us = bound_of c.drift_us voted step.report.lock;
   missed = missed;
   moved = s.moved;
+  against_table = against;
 }
 
 -- where the clock then stands, with these lines, by this vote if there is one, behind so many seconds
@@ -108,6 +111,7 @@ beaten c s lines vote step missed edge voted = record {
   edge_us = Some edge;
   bound_us = voted;
   interval = s.interval;
+  anchors = s.anchors;
   strays = s.strays;
   doubt = s.doubt;
   moved = 0;
@@ -121,7 +125,8 @@ beaten c s lines vote step missed edge voted = record {
 -- the step at an edge to which so many seconds were counted, one or more
 abbrev pub step_to : ClockRules → TableValue → ClockState → ℕ → Option Claim → Step
 step_to c table s edges vote =
-    counted_on s.doubt vote (step_behind c.reader_rules table (edges - 1) s.reader vote)
+    counted_on s.doubt vote
+    (step_behind c.prefers_frames c.reader_rules table (edges - 1) s.reader vote)
 
 -- ---- lines agree on an edge
 
@@ -142,8 +147,8 @@ after_vote c table s vote edges =
 abbrev pub answer_to_vote : ClockRules → TableValue → ClockState → Vote → ℕ → Option Beat
 answer_to_vote c table s vote edges =
     if edges == 0 then None
-    else Some (beat_by c s (step_to c table s edges (Some vote.claim)) (edges - 1) vote.edge_us
-    vote.bound_us)
+    else Some (beat_by c s (against_table table (Some vote.claim))
+    (step_to c table s edges (Some vote.claim)) (edges - 1) vote.edge_us vote.bound_us)
 
 -- ---- they do not: so many have come by the own counter
 
@@ -163,8 +168,8 @@ after_own c table s edges =
 abbrev pub answer_alone : ClockRules → TableValue → ClockState → ℕ → Option Beat
 answer_alone c table s edges =
     if edges == 0 then None
-    else Some (beat_by c s (step_to c table s edges None) (edges - 1) (own_edge s.edge_us edges)
-    s.bound_us)
+    else Some (beat_by c s false (step_to c table s edges None) (edges - 1)
+    (own_edge s.edge_us edges) s.bound_us)
 
 -- ---- what is known of the edge by all votes
 
@@ -172,19 +177,32 @@ answer_alone c table s edges =
 abbrev pub known_then : ClockRules → ClockState → ℕ → Option Interval
 known_then c s seconds = carried_on c.drift_us seconds s.interval
 
+-- the anchors that still serve then
+abbrev pub anchors_then : ClockRules → ClockState → ℕ → Anchors
+anchors_then c s seconds = anchors_on seconds (known_then c s seconds) s.anchors
+
 -- a clock that then knows it by its own counter
 abbrev pub knowing : ClockRules → ClockState → ℕ → ClockState → ClockState
-knowing c s seconds next = record next { interval = known_then c s seconds }
+knowing c s seconds next = record next {
+  interval = known_then c s seconds;
+  anchors = anchors_then c s seconds;
+}
 
 -- behind a vote that contradicts those before it so many seconds have to be voted before one is
 -- announced again without a vote: as many as a holdover may last, 1,000 at most and one at least
 abbrev pub doubted_s : ClockRules → ℕ
 doubted_s c = max 1 (min 1000 c.reader_rules.holdover)
 
+-- a vote that contradicts what was known leaves no anchor of before
+abbrev pub anchors_unless : (strays : Bool) → Anchors → Anchors
+anchors_unless strays anchors = if strays then no_anchors else anchors
+
 -- a clock that then knows it by a vote too, and counts the votes that contradict what it knew
 abbrev pub knowing_vote : ClockRules → ClockState → Vote → ℕ → ClockState → ClockState
 knowing_vote c s vote seconds next = record next {
   interval = Some (cut (known_then c s seconds) (by_vote vote));
+  anchors = anchors_cut (cut (known_then c s seconds) (by_vote vote))
+      (anchors_unless (contradicts (known_then c s seconds) (by_vote vote)) (anchors_then c s seconds));
   strays = if contradicts (known_then c s seconds) (by_vote vote) then (s.strays + 1) % 2 ^ 32
       else s.strays;
   doubt = if contradicts (known_then c s seconds) (by_vote vote) then doubted_s c
@@ -222,6 +240,7 @@ is_unsteady c s now =
 abbrev pub settled_at : ClockRules → ClockState → ℕ → ClockState
 settled_at c s now = record s {
   lines = settled now s.lines;
+  anchors = anchors_unless (is_unsteady c s now) s.anchors;
   strays = if is_unsteady c s now then (s.strays + 1) % 2 ^ 32 else s.strays;
   doubt = if is_unsteady c s now then doubted_s c else s.doubt;
 }

@@ -2,9 +2,9 @@
 -- told that the counter is unsteady.
 -- Source: this project's profile.
 use Rattle.std.specs.Prelude.{◌≡◌, ℕ, ◌+◌, ◌%◌, ◌^◌, List, [], ◌∷◌, ◌++◌, Option, Some, None, ⊤}
-use Rattle.irig_timekeeper.specs.declared.lines.Vote.{Vote}
+use Rattle.irig_lines.specs.declared.lines.Vote.{Vote}
 use Rattle.irig_timekeeper.specs.declared.clock.Beat.{Beat}
-use Rattle.irig_timekeeper.specs.Counting.{edges_to_vote}
+use Rattle.irig_lines.specs.Counting.{edges_to_vote}
 use Rattle.irig_timekeeper.specs.Rule.{step_behind}
 use Rattle.irig_timekeeper.specs.Clock.{claim_voted}
 use Rattle.irig_timekeeper.specs.Keeping.{Keeping, vote_at, after_tick}
@@ -35,9 +35,10 @@ NoneStrays new (Tick now ∷ later) earlier =
     × NoneStrays new later earlier
 NoneStrays new (_ ∷ later) earlier = NoneStrays new later earlier
 
--- a tick says of an edge what the reader's rule says behind as many as were missed, by its vote
+-- a tick says of an edge what the reader's rule says behind as many as were missed, by its vote, where
+-- the leap table guards it
 abbrev pub SaysTheRule : Keeping → (clock : ℕ) → Beat → Type 0
 SaysTheRule k clock beat =
     beat.report
-    ≡ (step_behind k.clock.reader_rules k.table beat.missed k.state.reader
+    ≡ (step_behind k.clock.prefers_frames k.clock.reader_rules k.table beat.missed k.state.reader
     (claim_voted (vote_at k clock))).report

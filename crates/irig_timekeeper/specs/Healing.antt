@@ -6,7 +6,7 @@ use Rattle.irig_time.specs.declared.rules.Rules.{Rules}
 use Rattle.irig_time.specs.Timelines.{TimelineValue}
 use Rattle.irig_vote.specs.Vote.{f_of}
 use Rattle.irig_timekeeper.specs.declared.clock.Beat.{Beat}
-use Rattle.irig_timekeeper.specs.declared.lines.Vote.{Vote}
+use Rattle.irig_lines.specs.declared.lines.Vote.{Vote}
 use Rattle.irig_timekeeper.specs.Keeping.{vote_at, answer_at}
 use Rattle.irig_timekeeper.specs.Truth.{IsDevice}
 use Rattle.irig_timekeeper.specs.Life.{Call, Made, AreInOrder, AreTrueLately, AreTrueOver, life_of}

@@ -4,9 +4,9 @@ use Rattle.irig_time.specs.declared.rules.Rules.{Rules}
 use Rattle.irig_time.specs.Tables.{TableValue}
 use Rattle.irig_port.specs.declared.limits.Limits.{Limits}
 use Rattle.irig_port.specs.declared.port.Port.{Ghosts}
-use Rattle.irig_timekeeper.specs.declared.setup.ClockRules.{ClockRules}
+use Rattle.irig_lines.specs.declared.setup.ClockRules.{ClockRules}
 use Rattle.irig_timekeeper.specs.declared.keeper.Timekeeper.{Timekeeper}
-use Rattle.irig_timekeeper.specs.Steps.{AreNewLines}
+use Rattle.irig_lines.specs.Steps.{AreNewLines}
 use Rattle.irig_timekeeper.specs.Keeping.{Keeping, new_keeping}
 
 -- the timekeeper has these rules, limits, clock, table and state, and its ports stand for what was

@@ -9,13 +9,15 @@ use Rattle.irig_port.specs.declared.limits.Limits.{Limits}
 use Rattle.irig_port.specs.Limits.{told_within}
 use Rattle.irig_port.specs.Hearing.{heard_at}
 use Rattle.irig_reader.specs.declared.rule.State.TheVariants.{Idle}
-use Rattle.irig_timekeeper.specs.declared.lines.Vote.{Vote}
-use Rattle.irig_timekeeper.specs.declared.lines.Lines.{Lines}
+use Rattle.irig_lines.specs.declared.lines.Vote.{Vote}
+use Rattle.irig_lines.specs.declared.lines.Lines.{Lines}
 use Rattle.irig_timekeeper.specs.declared.clock.Beat.{Beat}
-use Rattle.irig_timekeeper.specs.declared.setup.ClockRules.{ClockRules}
+use Rattle.irig_lines.specs.declared.setup.ClockRules.{ClockRules}
 use Rattle.irig_timekeeper.specs.declared.clock.ClockState.{ClockState}
 use Rattle.irig_timekeeper.specs.declared.stamp.Stamp.{Stamp}
-use Rattle.irig_timekeeper.specs.Steps.{is_pulse, line_heard, line_at, with_line}
+use Rattle.irig_lines.specs.declared.rate.Rate.{Rate}
+use Rattle.irig_lines.specs.Rates.{no_anchors, rate_of, serving}
+use Rattle.irig_lines.specs.Steps.{is_pulse, line_heard, line_at, with_line}
 use Rattle.irig_timekeeper.specs.Clock.{clock_after, clock_answer, clock_wait, vote_of_lines}
 use Rattle.irig_timekeeper.specs.Stamps.{stamp_of}
 
@@ -66,6 +68,7 @@ new_state lines = record {
   edge_us = None;
   bound_us = 0;
   interval = None;
+  anchors = no_anchors;
   strays = 0;
   doubt = 0;
   moved = 0;
@@ -142,3 +145,7 @@ wait_at k now = clock_wait k.clock k.state now
 -- the stamp of an event
 abbrev pub stamp_at : Keeping → ℕ → Option Stamp
 stamp_at k time = stamp_of k.state.last k.state.before time
+
+-- what is measured of the counter
+abbrev pub rate_at : Keeping → Option Rate
+rate_at k = rate_of k.state.interval (serving k.state.anchors)

@@ -1,15 +1,8 @@
-pub mod Exactness
-pub mod Edges
-pub mod Lines
-pub mod Counting
-pub mod Delays
-pub mod Steps
 pub mod Rule
 pub mod Clock
 pub mod Stamps
 pub mod Keeping
 pub mod Keepers
-pub mod Refusals
 pub mod Truth
 pub mod Life
 pub mod Announcing
@@ -20,6 +13,6 @@ pub mod Quality
 pub mod States
 pub mod LineTruths
 pub mod Healing
-pub mod Intervals
 pub mod Lived
 pub mod Doubts
+pub mod Measures

@@ -10,9 +10,9 @@ use Rattle.irig_time.specs.Timelines.{TimelineValue}
 use Rattle.irig_port.specs.declared.limits.Limits.{Limits}
 use Rattle.irig_vote.specs.declared.redundancy.Redundancy.{Redundancy}
 use Rattle.irig_vote.specs.Vote.{ports_in, f_of}
-use Rattle.irig_timekeeper.specs.declared.setup.ClockRules.{ClockRules}
-use Rattle.irig_timekeeper.specs.declared.lines.Lines.{Lines}
-use Rattle.irig_timekeeper.specs.Steps.{is_pulse, AreNewLines}
+use Rattle.irig_lines.specs.declared.setup.ClockRules.{ClockRules}
+use Rattle.irig_lines.specs.declared.lines.Lines.{Lines}
+use Rattle.irig_lines.specs.Steps.{is_pulse, AreNewLines}
 use Rattle.irig_timekeeper.specs.Keeping.{Keeping, new_keeping, after_pulse, after_tick}
 use Rattle.irig_timekeeper.specs.Truth.{IsDevice}
 

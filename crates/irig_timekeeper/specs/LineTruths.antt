@@ -8,13 +8,13 @@ use Rattle.irig_time.specs.declared.claim.Claim.{Claim}
 use Rattle.irig_time.specs.Carries.{Carries}
 use Rattle.irig_time.specs.Timelines.{TimelineValue, IsSecond}
 use Rattle.irig_timekeeper.specs.declared.stamp.Announced.{Announced}
-use Rattle.irig_timekeeper.specs.declared.setup.ClockRules.{ClockRules}
+use Rattle.irig_lines.specs.declared.setup.ClockRules.{ClockRules}
 use Rattle.irig_timekeeper.specs.declared.clock.ClockState.{ClockState}
 use Rattle.irig_timekeeper.specs.declared.states.LineState.{LineState}
 use Rattle.irig_timekeeper.specs.declared.states.LineState.TheVariants as is
-use Rattle.irig_timekeeper.specs.Edges.{IsNear}
-use Rattle.irig_timekeeper.specs.Exactness.{end_off_us, most_vote_us, most_held_us}
-use Rattle.irig_timekeeper.specs.Lines.{AreEven, IsLastBefore}
+use Rattle.irig_lines.specs.Edges.{IsNear}
+use Rattle.irig_lines.specs.Exactness.{end_off_us, most_vote_us, most_held_us}
+use Rattle.irig_lines.specs.Lines.{AreEven, IsLastBefore}
 
 -- the second that ended at a told edge is T(n), and that edge lies no further from the one of T(n + 1)
 -- than its bound

@@ -9,10 +9,10 @@ use Rattle.irig_time.specs.Timelines.{TimelineValue}
 use Rattle.irig_port.specs.declared.limits.Limits.{Limits}
 use Rattle.irig_port.specs.declared.port.Port.{Ghosts}
 use Rattle.irig_vote.specs.Vote.{f_of}
-use Rattle.irig_timekeeper.specs.declared.setup.ClockRules.{ClockRules}
+use Rattle.irig_lines.specs.declared.setup.ClockRules.{ClockRules}
 use Rattle.irig_timekeeper.specs.declared.keeper.Timekeeper.{Timekeeper}
-use Rattle.irig_timekeeper.specs.declared.lines.Lines.{Lines}
-use Rattle.irig_timekeeper.specs.Steps.{AreNewLines}
+use Rattle.irig_lines.specs.declared.lines.Lines.{Lines}
+use Rattle.irig_lines.specs.Steps.{AreNewLines}
 use Rattle.irig_timekeeper.specs.Keepers.{IsKeeping}
 use Rattle.irig_timekeeper.specs.Life.{Call, Made, AreInOrder, AreTrueAtTicks, life_of}
 use Rattle.irig_timekeeper.specs.Truth.{IsDevice}

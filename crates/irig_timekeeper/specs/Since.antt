@@ -8,7 +8,7 @@ use Rattle.irig_timekeeper.specs.declared.stamp.Stamp.{Stamp}
 use Rattle.irig_timekeeper.specs.Keeping.{Keeping, answer_at}
 use Rattle.irig_timekeeper.specs.Life.{Call, Made, after_calls, device_of, life_of}
 use Rattle.irig_timekeeper.specs.Life.Call.{Tick}
-use Rattle.irig_timekeeper.specs.Exactness.{vote_us}
+use Rattle.irig_lines.specs.Exactness.{vote_us}
 
 -- none, if the cause is a vote; else so many
 abbrev pub unless_voted : Cause → ℕ → ℕ

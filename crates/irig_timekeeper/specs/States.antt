@@ -1,19 +1,25 @@
 -- What a line is, by its last whole frame and the seconds that were told last.
 -- Source: this project's profile.
-use Rattle.std.specs.Prelude.{ℕ, ◌+◌, ◌*◌, ◌%◌, ◌^◌, Bool, ◌&&◌, not, nat_le, nat_lt, if◌then◌else◌, Option, Some, None}
+use Rattle.std.specs.Prelude.{ℕ, ◌≤◌, ◌+◌, ◌*◌, ◌%◌, ◌^◌, Bool, ◌&&◌, not, nat_le, nat_lt, if◌then◌else◌, Option, Some, None}
+use Rattle.std.specs.Option.{ForSome}
 use Rattle.irig_sync.specs.Sync.{clock_gap}
 use Rattle.irig_time.specs.declared.claim.Claim.{Claim}
 use Rattle.irig_time.specs.Seconds.{same_second}
 use Rattle.irig_port.specs.declared.told.Told.{Told}
 use Rattle.irig_port.specs.declared.told.Told.TheVariants as tells
-use Rattle.irig_timekeeper.specs.declared.lines.KeptFrame.{KeptFrame}
-use Rattle.irig_timekeeper.specs.declared.setup.ClockRules.{ClockRules}
+use Rattle.irig_lines.specs.declared.lines.KeptFrame.{KeptFrame}
+use Rattle.irig_lines.specs.declared.setup.ClockRules.{ClockRules}
 use Rattle.irig_timekeeper.specs.declared.stamp.Announced.{Announced}
 use Rattle.irig_timekeeper.specs.declared.clock.ClockState.{ClockState}
 use Rattle.irig_timekeeper.specs.declared.states.LineState.{LineState}
 use Rattle.irig_timekeeper.specs.declared.states.LineState.TheVariants as is
-use Rattle.irig_timekeeper.specs.Exactness.{end_off_us}
-use Rattle.irig_timekeeper.specs.Steps.{line_at}
+use Rattle.irig_lines.specs.Exactness.{end_off_us, most_held_us, most_vote_us}
+use Rattle.irig_lines.specs.Steps.{line_at}
+
+-- seconds that ended at told edges are told with no greater bound than a held one may have
+pub record AreSmallEnds (last other : Option Announced) : Type 0 where
+  pub ended : ForSome last (λ a. a.bound_us ≤ most_vote_us + most_held_us)
+  pub before : ForSome other (λ a. a.bound_us ≤ most_vote_us + most_held_us)
 
 -- a frame's end lies at most so far from an edge, by a clock of 32 bits
 abbrev pub is_near : (off edge end : ℕ) → Bool

@@ -5,9 +5,9 @@ use Rattle.std.specs.List.{range_with_len}
 use Rattle.irig_sync.specs.Lines.{Pulse}
 use Rattle.irig_time.specs.declared.rules.Rules.{Rules}
 use Rattle.irig_time.specs.declared.second.UtcSecond.{UtcSecond}
-use Rattle.irig_time.specs.Timelines.{TimelineValue, IsSecond}
+use Rattle.irig_time.specs.Timelines.{TimelineValue, IsSecond, leap_of, mark_by}
 use Rattle.irig_time.specs.TimelineFaults.{IsTimeline}
-use Rattle.irig_time.specs.Tables.{TableValue}
+use Rattle.irig_time.specs.Tables.{TableValue, table_mark}
 use Rattle.irig_time.specs.Days.{is_month_end}
 use Rattle.irig_time.specs.declared.mark.Mark.TheVariants.{Unspoken}
 use Rattle.irig_hold.specs.Steps.{HoldValue}
@@ -17,14 +17,14 @@ use Rattle.irig_reader.specs.declared.rule.State.{State}
 use Rattle.irig_reader.specs.declared.rule.State.TheVariants.{Idle, Acquiring, Locked}
 use Rattle.irig_reader.specs.Lives.{KnowsMonthEnds}
 use Rattle.irig_timekeeper.specs.declared.clock.Beat.{Beat}
-use Rattle.irig_timekeeper.specs.declared.lines.Vote.{Vote}
-use Rattle.irig_timekeeper.specs.declared.lines.Lines.{Lines}
+use Rattle.irig_lines.specs.declared.lines.Vote.{Vote}
+use Rattle.irig_lines.specs.declared.lines.Lines.{Lines}
 use Rattle.irig_timekeeper.specs.declared.stamp.Stamp.{Stamp}
 use Rattle.irig_timekeeper.specs.Clock.{lasted}
-use Rattle.irig_timekeeper.specs.Edges.{IsQuartz, IsNear, IsTrueNear}
-use Rattle.irig_timekeeper.specs.Lines.{IfKept, IsInTurnOf}
-use Rattle.irig_timekeeper.specs.Steps.{line_at, claim_kept}
-use Rattle.irig_timekeeper.specs.Exactness.{vote_us, most_drift_us, most_vote_us, most_held_us}
+use Rattle.irig_lines.specs.Edges.{IsQuartz, IsNear, IsTrueNear}
+use Rattle.irig_lines.specs.Lines.{IfKept, IsInTurnOf}
+use Rattle.irig_lines.specs.Steps.{line_at, claim_kept}
+use Rattle.irig_lines.specs.Exactness.{vote_us, most_drift_us, most_vote_us, most_held_us}
 
 -- the lines keep frames of these pulses, and all but at most f of the five are such true lines; a
 -- line that is not there brought no pulse
@@ -137,6 +137,15 @@ pub record IsDevice (t : TimelineValue) (d : ℕ) (edges : ℕ → ℕ) (rules :
   pub sound : IsTimeline t
   pub knows : KnowsMonthEnds t rules table
   pub short : (rules.holdover + 2) * d ≤ most_held_us
+
+-- a leap table does not keep a device from the truth that frames tell: it yields to them, or is true
+abbrev pub FollowsTruth : TimelineValue → (prefers_frames : Bool) → TableValue → Type 0
+FollowsTruth t prefers_frames table = (prefers_frames ≡ true) ⊎ IsTrueTable t table
+
+-- the table knows how this day ends, if a month ends with it
+abbrev pub KnowsEnd : TimelineValue → TableValue → ℕ → Type 0
+KnowsEnd t table day =
+    is_month_end day ≡ true → table_mark table day ≡ mark_by (leap_of t.leaps day)
 
 -- the one second is T(m), and the other one T(n) for a greater n
 pub record IsLaterSecond (t : TimelineValue) (u v : UtcSecond) : Type 0 where

@@ -3,22 +3,22 @@
 ghost use Rattle.std.specs.Prelude.{◌≡◌, ◌<◌, ◌≤◌, ◌+◌, ◌-◌, ◌*◌, IfSome, Some, None};
 ghost use Rattle.irig_time.specs.Seconds.{IsValid};
 ghost use Rattle.irig_reader.specs.Rule.{count_of};
-ghost use Rattle.irig_timekeeper.specs.Counting.{edges_to_vote, edges_own};
-ghost use Rattle.irig_timekeeper.specs.Rule.{missed, step_behind};
-ghost use Rattle.irig_timekeeper.specs.Steps.{AreKeptOfUtc, AreNewLines};
+ghost use Rattle.irig_lines.specs.Counting.{edges_to_vote, edges_own};
+ghost use Rattle.irig_timekeeper.specs.Rule.{against_table, missed, step_behind};
+ghost use Rattle.irig_lines.specs.Steps.{AreKeptOfUtc, AreNewLines};
 ghost use Rattle.irig_timekeeper.specs.Keeping.{new_state};
-ghost use Rattle.irig_timekeeper.specs.Intervals.{IsShort};
+ghost use Rattle.irig_lines.specs.Intervals.{IsShort};
 ghost use Rattle.irig_timekeeper.specs.Clock.{knowing, knowing_vote, lasted, bound_of, announced_at, still_serves, beat_by, beaten, step_to, after_vote, answer_to_vote, after_own, answer_alone, doubted_s, settled_at, vote_of_lines, clock_after, clock_answer, clock_vote, clock_wait, held_second, second_ended, unless_doubted, SaysOfUtc, AnnouncedOfUtc, AreSmall};
-ghost use Rattle.irig_timekeeper.specs.Exactness.{most_drift_us, most_vote_us, most_held_us};
+ghost use Rattle.irig_lines.specs.Exactness.{most_drift_us, most_vote_us, most_held_us};
 
-use crate::counting::{edge_behind, edges_own, edges_to_vote};
-use crate::interval::{Interval, by_vote, carried_on, contradicts, cut};
-use crate::lines::{
-    Lines, Vote, agreed, are_uneven, if_come, lines_of_nothing, settle, take, tells_of, wait_by,
-};
-use crate::setup::ClockRules;
+use crate::check::{against_table, step_checked};
 use crate::stamp::Announced;
-use irig_reader::{Lock, ReaderRules, Report, State, Step, step_of};
+use irig_lines::{
+    Anchors, ClockRules, Interval, Lines, NO_ANCHORS, Vote, agreed, anchors_cut, anchors_on,
+    are_uneven, by_vote, carried_on, contradicts, cut, edge_behind, edges_own, edges_to_vote,
+    if_come, lines_of_nothing, settle, take, tells_of, wait_by,
+};
+use irig_reader::{Lock, Report, State, Step};
 use irig_time::{Claim, Leaps, UtcSecond};
 use irig_vote::Tells;
 use std::mem;
@@ -37,6 +37,8 @@ pub struct ClockState {
     /// In which the true edge lies by all votes since one that contradicted those before it, if it
     /// is known so well that seconds can be counted by it: at most 980,000 us.
     pub interval: Option<Interval>,
+    /// The intervals at up to two votes before, from which the length of a second is measured.
+    pub anchors: Anchors,
     /// How many votes contradicted those before them, and how many seconds were counted without a
     /// vote where frames told that the counter is not so steady as the setup says.
     pub strays: u32,
@@ -70,6 +72,9 @@ pub struct Beat {
     pub missed: u32,
     /// How often lines set the edge right since the one that was told before.
     pub moved: u32,
+    /// Whether the claim that has the vote and the leap table both say how its day ends, and
+    /// contradict one another. False without a vote.
+    pub against_table: bool,
 }
 
 /// What a tick answers: what is said of a second, if an edge has come, and what lines agreed on, if
@@ -91,6 +96,7 @@ pub fn clock_of_nothing() -> ClockState
         edge_us: None,
         bound_us: 0,
         interval: None,
+        anchors: NO_ANCHORS,
         strays: 0,
         doubt: 0,
         moved: 0,
@@ -104,7 +110,7 @@ pub fn clock_of_nothing() -> ClockState
 /// A tick: what is said of a second, if an edge has come since the last one. It may come at any
 /// time.
 ///
-/// The rules have no [`fault`](crate::clock_fault), each claim that a line keeps is of a
+/// The rules have no [`fault`](irig_lines::clock_fault), each claim that a line keeps is of a
 /// [`valid`](irig_time::valid) second, a reader that is acquiring had fewer votes than it locks
 /// after, the bound of the last vote is at most 899 us, and the interval at most 980,000 us long.
 pub fn tick<T: Leaps>(rules: &ClockRules, table: &T, state: &mut ClockState, now_us: u32) -> Ticked
@@ -207,6 +213,7 @@ fn tick_alone<T: Leaps>(
 {
     let edges = edges_own(state.edge_us, now_us);
     state.interval = carried_on(rules.drift_us, edges, state.interval);
+    state.anchors = anchors_on(edges, state.interval, state.anchors);
     let beat = match state.edge_us {
         Some(edge) if edges > 0 => {
             let edge_us = edge_behind(edge, edges);
@@ -230,6 +237,7 @@ fn settle_clock(rules: &ClockRules, state: &mut ClockState, now_us: u32) -> Opti
     if vote.is_none() && edges_own(state.edge_us, now_us) > 0 && are_uneven(rules, &state.lines) {
         state.strays = state.strays.wrapping_add(1);
         state.doubt = doubted_s(rules);
+        state.anchors = NO_ANCHORS;
     }
     vote
 }
@@ -252,13 +260,17 @@ fn know_vote(rules: &ClockRules, state: &mut ClockState, vote: Vote, edges: u32)
 {
     let known = carried_on(rules.drift_us, edges, state.interval);
     let voted = by_vote(vote);
-    state.interval = Some(cut(known, voted));
-    if contradicts(known, voted) {
+    let interval = cut(known, voted);
+    state.interval = Some(interval);
+    let anchors = if contradicts(known, voted) {
         state.strays = state.strays.wrapping_add(1);
         state.doubt = doubted_s(rules);
+        NO_ANCHORS
     } else {
         state.doubt = state.doubt.saturating_sub(edges);
-    }
+        anchors_on(edges, known, state.anchors)
+    };
+    state.anchors = anchors_cut(interval, anchors);
 }
 
 // An edge to which so many seconds were counted, with the vote on it, if there is one.
@@ -277,6 +289,7 @@ fn beat_at<T: Leaps>(
     requires ended { AreSmall state.old }
     requires some { 1 ≤ edges }
     ensures answer { result ≡ beat_by rules.now state.old
+        (against_table (T.says table.now) vote)
         (step_to rules.now (T.says table.now) state.old edges vote) (edges - 1) edge_us
         state.old.bound_us }
     ensures after { state.new ≡ beaten rules.now state.old state.old.lines vote
@@ -289,7 +302,7 @@ fn beat_at<T: Leaps>(
 {
     let reader = mem::replace(&mut state.reader, State::Idle);
     let held = held_second(&reader);
-    let step = step_behind(rules.reader_rules, table, edges - 1, reader, vote);
+    let step = step_behind(rules, table, edges - 1, reader, vote);
     let beat = Beat {
         report: unless_doubted(state.doubt, vote, step.report),
         told: tells_of(&state.lines),
@@ -297,6 +310,7 @@ fn beat_at<T: Leaps>(
         bound_us: bound_of(rules, state.bound_us, step.report.lock),
         missed: edges - 1,
         moved: state.moved,
+        against_table: against_table(table, vote),
     };
     state.reader = step.state;
     state.ended_before = if edges == 1 { state.ended } else { None };
@@ -314,24 +328,25 @@ fn beat_at<T: Leaps>(
 
 // The rule over edges that were missed, and one more.
 fn step_behind<T: Leaps>(
-    rules: ReaderRules,
+    rules: &ClockRules,
     table: &T,
     edges: u32,
     state: State,
     vote: Option<Claim>,
 ) -> Step
     requires valid { IfSome vote (λ claim. IsValid claim.at) }
-    requires counting { count_of state < rules.lock_after }
-    ensures step { result ≡ step_behind rules (T.says table.now) edges state vote }
-    ensures counting { count_of result.state < rules.lock_after }
-    ensures lasted { lasted result.report.lock ≤ rules.holdover }
+    requires counting { count_of state < rules.now.reader_rules.lock_after }
+    ensures step { result ≡ step_behind rules.now.prefers_frames rules.now.reader_rules
+        (T.says table.now) edges state vote }
+    ensures counting { count_of result.state < rules.now.reader_rules.lock_after }
+    ensures lasted { lasted result.report.lock ≤ rules.now.reader_rules.holdover }
     ensures valid { IfSome result.report.announce IsValid }
 {
     let mut state = state;
     for gone in 0..edges {
-        state = step_of(rules, table, state, None).state;
+        state = step_checked(rules.prefers_frames, rules.reader_rules, table, state, None).state;
     }
-    step_of(rules, table, state, vote)
+    step_checked(rules.prefers_frames, rules.reader_rules, table, state, vote)
 }
 
 // The second at which a locked reader stands.

@@ -11,17 +11,18 @@ ghost use Rattle.irig_port.specs.Hearing.{heard_at};
 ghost use Rattle.irig_vote.specs.Vote.{ports_in};
 ghost use Rattle.irig_reader.specs.Rule.{count_of};
 ghost use Rattle.irig_reader.specs.Rules.{IsReaderRules};
-ghost use Rattle.irig_timekeeper.specs.Steps.{line_at, line_heard, AreKeptOfUtc, IsKeptOfUtc, AreNewLines};
+ghost use Rattle.irig_lines.specs.Steps.{line_at, line_heard, AreKeptOfUtc, IsKeptOfUtc, AreNewLines};
 ghost use Rattle.irig_timekeeper.specs.Clock.{AreSmall};
-ghost use Rattle.irig_timekeeper.specs.Intervals.{IsShort};
-ghost use Rattle.irig_timekeeper.specs.Exactness.{most_drift_us, most_vote_us, most_held_us};
+ghost use Rattle.irig_lines.specs.Intervals.{IsShort};
+ghost use Rattle.irig_lines.specs.Exactness.{most_drift_us, most_vote_us, most_held_us};
 
 use crate::clock::{Beat, ClockState, clock_of_nothing, tick, wait_of};
-use crate::delay::{corrected, delay_at};
-use crate::lines::{Line, is_pulse, line_at, whole_frame, with_line};
-use crate::setup::{ClockFault, ClockRules, clock_fault};
 use crate::stamp::{Stamp, stamp_of};
 use crate::states::{LineState, state_of};
+use irig_lines::{
+    ClockFault, ClockRules, Line, Rate, clock_fault, corrected, delay_at, is_pulse, line_at,
+    rate_of, whole_frame, with_line,
+};
 use irig_port::{Limits, Port, Told, edge_within, hear};
 use irig_time::{LeapTable, Rules};
 
@@ -50,20 +51,23 @@ pub struct Timekeeper<P: Port> {
 }
 
 impl<P: Port> Timekeeper<P> {
-    ghost use Rattle.irig_timekeeper.specs.Refusals.{clock_fault};
-    ghost use Rattle.irig_timekeeper.specs.Delays.{corrected, delay_at};
+    ghost use Rattle.irig_lines.specs.Refusals.{clock_fault};
+    ghost use Rattle.irig_lines.specs.Delays.{corrected, delay_at};
     ghost use Rattle.irig_timekeeper.specs.States.{state_of};
     ghost use Rattle.irig_timekeeper.specs.LineTruths.{is_untrue, IsSaidRightly};
-    ghost use Rattle.irig_timekeeper.specs.Keeping.{place_told, one_pulse_more, after_pulse, after_tick, answer_at, restarted, heard_by, with_heard, wait_at, stamp_at};
+    ghost use Rattle.irig_timekeeper.specs.Keeping.{place_told, one_pulse_more, after_pulse, after_tick, answer_at, vote_at, restarted, heard_by, with_heard, wait_at, stamp_at, rate_at};
     ghost use Rattle.irig_timekeeper.specs.Keepers.{IsKeeping, IsNew, ForKeeping, Goes};
     ghost use Rattle.irig_timekeeper.specs.Life.{Call, AreInOrder, device_of, last_tick, pulses_on};
     ghost use Rattle.irig_timekeeper.specs.Life.Call.{Hear, Tick};
     ghost use Rattle.irig_timekeeper.specs.Lived.{MadeOf, HasLived, LivesWell, made_with};
     ghost use Rattle.irig_timekeeper.specs.Rows.{AreToldLast};
     ghost use Rattle.irig_timekeeper.specs.Doubts.{SaysTheRule};
-    ghost use Rattle.irig_timekeeper.specs.Lines.{IsTrueLately};
-    ghost use Rattle.irig_timekeeper.specs.Truth.{IsToldInHoldover, IsStampedTruly};
-    ghost use Rattle.irig_time.specs.Timelines.{TimelineValue};
+    ghost use Rattle.irig_lines.specs.Lines.{IsTrueLately};
+    ghost use Rattle.irig_timekeeper.specs.Truth.{KnowsEnd, IsToldInHoldover, IsStampedTruly};
+    ghost use Rattle.irig_timekeeper.specs.Measures.{IsMeasured};
+    ghost use Rattle.irig_lines.specs.declared.lines.Vote.{Vote};
+    ghost use Rattle.irig_time.specs.Timelines.{TimelineValue, IsSecond};
+    ghost use Rattle.irig_time.specs.TimelineFaults.{IsTimeline};
     ghost use Rattle.irig_time.specs.declared.second.UtcSecond.{UtcSecond};
 
     /// A timekeeper to which nothing has happened, with reader's rules that are
@@ -245,6 +249,12 @@ impl<P: Port> Timekeeper<P> {
             → now_us ≡ now % 2 ^ 32
             → LivesWell (IsTrueLately made.clock.within.us) t edges made start (Tick now ∷ calls)
             → result ≡ Some beat → ForKeeping self.old (λ k. SaysTheRule k now_us beat) }
+        // the law `a_right_table_guards_its_leaps`, whatever lines carry
+        ensures guarded { (t : TimelineValue) (n : ℕ) (vote : Vote) (beat : Beat) (u : UtcSecond)
+            → IsTimeline t → self.old.clock.prefers_frames ≡ false → result ≡ Some beat
+            → beat.report.announce ≡ Some u
+            → ForKeeping self.old (λ k. vote_at k now_us ≡ Some vote → IsSecond t n vote.claim.at
+            → KnowsEnd t k.table vote.claim.at.day → IsSecond t (n + 1) u) }
         ensures lines { self.new.clock ≡ self.old.clock }
     {
         tick(&self.clock, &self.table, &mut self.state, now_us).beat
@@ -274,6 +284,25 @@ impl<P: Port> Timekeeper<P> {
             → LivesWell (IsTrueLately made.clock.within.us) t edges made start calls → result ≡ 0 }
     {
         self.state.strays
+    }
+
+    /// How long seconds are by the device's own counter: the mean of the last so many, 1 to 2,000,
+    /// lies between the least and the most that are told, while all lines but f are true and the
+    /// counter is as steady as the setup says. At both ends of this time a true edge lies in an
+    /// interval that votes left; by the lengths of these over the time, and by 2 ns, the least and
+    /// the most differ at most. None until a second was counted behind the first vote, or behind the
+    /// vote that sets the first anchor after a stray (`strays`); while no interval is known; and once
+    /// both anchors are more than 2,000 s old.
+    pub fn rate(&self) -> Option<Rate>
+        ensures value { ForKeeping self.now (λ k. result ≡ rate_at k) }
+        // the law `what_is_measured_is_so`
+        ensures truth { (t : TimelineValue) (edges : ℕ → ℕ) (made : MadeOf) (start : ℕ)
+            (calls : List Call) (rate : Rate) → HasLived self.now made calls
+            → LivesWell (IsTrueLately made.clock.within.us) t edges made start calls
+            → result ≡ Some rate
+            → IsMeasured edges (last_tick start calls) self.now.state.edge_us rate }
+    {
+        rate_of(self.state.interval, self.state.anchors)
     }
 
     /// The time of an event, if it lies behind the edge of the last second that was told, or behind

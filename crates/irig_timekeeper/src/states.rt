@@ -2,14 +2,13 @@
 
 ghost use Rattle.std.specs.Prelude.{◌≡◌, ◌≤◌, ◌+◌};
 ghost use Rattle.std.specs.Option.{ForSome};
-ghost use Rattle.irig_timekeeper.specs.Exactness.{most_drift_us, most_held_us, most_vote_us};
+ghost use Rattle.irig_lines.specs.Exactness.{most_drift_us, most_held_us, most_vote_us};
 ghost use Rattle.irig_timekeeper.specs.Clock.{AreSmall};
-ghost use Rattle.irig_timekeeper.specs.States.{is_near, state_near, is_later, state_before, state_claiming, state_telling, state_seen, state_of};
+ghost use Rattle.irig_timekeeper.specs.States.{is_near, state_near, is_later, state_before, state_claiming, state_seen, state_of, AreSmallEnds};
 
 use crate::clock::ClockState;
-use crate::lines::{KeptFrame, line_at};
-use crate::setup::ClockRules;
 use crate::stamp::Announced;
+use irig_lines::{ClockRules, KeptFrame, line_at};
 use irig_port::Told;
 use irig_time::Claim;
 
@@ -50,7 +49,7 @@ fn state_near(rules: &ClockRules, end_us: u32, told: Announced) -> LineState
     requires small { told.bound_us ≤ most_vote_us + most_held_us }
     ensures { result ≡ state_near rules.now end_us told }
 {
-    let off_us = rules.within.us() - 1 + rules.drift_us.div_ceil(100) + told.bound_us;
+    let off_us = rules.end_off_us() + told.bound_us;
     if is_near(off_us, told.edge_us, end_us) {
         LineState::Agreed
     } else {
@@ -92,8 +91,7 @@ fn state_claiming(
     before: Option<Announced>,
 ) -> LineState
     requires steady { rules.now.drift_us ≤ most_drift_us }
-    requires small { ForSome ended (λ a. a.bound_us ≤ most_vote_us + most_held_us) }
-    requires small_before { ForSome before (λ a. a.bound_us ≤ most_vote_us + most_held_us) }
+    requires small { AreSmallEnds ended before }
     ensures { result ≡ state_claiming rules.now claim end_us ended before }
 {
     let Some(told) = ended else {
@@ -108,17 +106,27 @@ fn state_claiming(
     }
 }
 
-fn state_seen(
+/// What a line is, as of the last tick: by its last whole frame, if that is not gone, and by whether
+/// a pulse came on it. `ended` is the second that ended at the last edge, `before` the one that ended
+/// at the edge before, if they were told.
+pub fn state_seen(
     rules: &ClockRules,
-    frame: KeptFrame,
+    is_heard: bool,
+    frame: Option<KeptFrame>,
     ended: Option<Announced>,
     before: Option<Announced>,
 ) -> LineState
     requires steady { rules.now.drift_us ≤ most_drift_us }
-    requires small { ForSome ended (λ a. a.bound_us ≤ most_vote_us + most_held_us) }
-    requires small_before { ForSome before (λ a. a.bound_us ≤ most_vote_us + most_held_us) }
-    ensures { result ≡ state_telling rules.now frame.told frame.is_even frame.end_us ended before }
+    requires small { AreSmallEnds ended before }
+    ensures { result ≡ state_seen rules.now is_heard frame ended before }
 {
+    let Some(frame) = frame else {
+        return if is_heard {
+            LineState::Broken
+        } else {
+            LineState::Silent
+        };
+    };
     match frame.told {
         Told::Silence => LineState::Broken,
         Told::Fault(_) => LineState::Faulty,
@@ -141,9 +149,11 @@ pub fn state_of(rules: &ClockRules, state: &ClockState, port: u8) -> LineState
     ensures { result ≡ state_of rules.now state.now port }
 {
     let line = line_at(state.lines, port);
-    match line.seen {
-        Some(frame) => state_seen(rules, frame, state.ended, state.ended_before),
-        None if line.is_heard => LineState::Broken,
-        None => LineState::Silent,
-    }
+    state_seen(
+        rules,
+        line.is_heard,
+        line.seen,
+        state.ended,
+        state.ended_before,
+    )
 }

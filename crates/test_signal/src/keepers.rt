@@ -1,17 +1,18 @@
 //! A device that counts seconds by its own counter, which is 100 us a second slow and wraps in the
-//! fourth second. It hears two of three lines.
+//! fourth second. It hears two of three lines. Two others know by their leap table of the leap second
+//! at the end of 2016, and hear clocks that say that none comes.
 
 ghost use Rattle.std.specs.Prelude.{◌≡◌};
+ghost use Rattle.irig_reader.specs.Rules.{IsReaderRules};
 ghost use Rattle.irig_vote.specs.declared.redundancy.Redundancy.TheVariants.{Three};
 
 use irig_frame::Symbol;
-use irig_gen::{Generator, Zone};
+use irig_gen::{GenFault, Generator, Zone};
+use irig_lines::{ClockFault, ClockRules, NO_DELAYS, Within, clock_fault, nearest_within};
 use irig_port::FlowPort;
 use irig_reader::{Cause, ReaderRules};
-use irig_time::{LeapTable, Rules, Timeline, UtcSecond};
-use irig_timekeeper::{
-    Beat, ClockFault, ClockRules, NO_DELAYS, Timekeeper, Within, clock_fault, nearest_within,
-};
+use irig_time::{Leap, LeapTable, Rules, Timeline, UtcSecond};
+use irig_timekeeper::{Beat, Timekeeper};
 use irig_vote::Redundancy;
 use std::test::Fail;
 
@@ -23,6 +24,23 @@ const START: UtcSecond = UtcSecond {
     day: 6209,
     sod: 43200,
 };
+
+fn clock() -> ClockRules
+    ensures reader { IsReaderRules result.reader_rules }
+    ensures lines { result.redundancy ≡ Three }
+{
+    ClockRules {
+        reader_rules: ReaderRules {
+            lock_after: 3,
+            holdover: 100,
+        },
+        redundancy: Redundancy::Three,
+        within: nearest_within(450),
+        drift_us: 100,
+        delays: NO_DELAYS,
+        prefers_frames: false,
+    }
+}
 
 /// A whole frame on two lines, one 0.4 ms late and one early.
 fn tell_frame(keeper: &mut Timekeeper<FlowPort>, frame: [Symbol; 100], edge_us: u32)
@@ -85,23 +103,14 @@ fn it_locks_holds_and_comes_back(rt: HostRuntime) -> Result<(), Fail> {
         half_hours: 0,
         dst: false,
     };
-    let clock = ClockRules {
-        reader_rules: ReaderRules {
-            lock_after: 3,
-            holdover: 100,
-        },
-        redundancy: Redundancy::Three,
-        within: nearest_within(450),
-        drift_us: 100,
-        delays: NO_DELAYS,
-    };
     let (Ok(timeline), Ok(generator)) = (
         Timeline::new(rt.alloc(), START, &[]),
         Generator::new(rt.alloc(), zone, &[], Rules::PLAIN),
     ) else {
         return Err(Fail::from("no plant"));
     };
-    let Ok(mut keeper) = Timekeeper::<FlowPort>::new(Rules::PLAIN, clock, LeapTable::empty()) else {
+    let Ok(mut keeper) = Timekeeper::<FlowPort>::new(Rules::PLAIN, clock(), LeapTable::empty())
+    else {
         return Err(Fail::from("no timekeeper"));
     };
     for n in 0u32..20 {
@@ -122,6 +131,92 @@ fn it_locks_holds_and_comes_back(rt: HostRuntime) -> Result<(), Fail> {
     }
     keeper.restart();
     assert!(rt; keeper.tick(BEGIN_US).is_none() && keeper.stamp(BEGIN_US).is_none());
+    Ok(())
+}
+
+/// The clocks begin at 23:58:58, and say from 23:59:01 on that no leap comes.
+const BEFORE_LEAP: UtcSecond = UtcSecond {
+    day: 6209,
+    sod: 86338,
+};
+
+/// Whether nothing is announced at an edge: before the third vote, at the leap second that the clocks
+/// deny, and up to the third vote behind it.
+fn is_silent(edge: u32) -> bool {
+    edge < 3 || (edge >= 62 && edge < 65)
+}
+
+/// A device hears two clocks whose leap bits are 0, and its table has the leap second. Whether it tells
+/// from 58 seconds before that one on that the votes speak against its table, is silent at it, and then
+/// follows the clocks as they show the time.
+fn guards_its_leap(clocks: &mut Generator, shown: &Timeline) -> Result<bool, Fail>
+    requires { clocks.old.edge ≡ 0 }
+{
+    let Ok(table) = LeapTable::new(6209, &[(6209, Leap::Insert)]) else {
+        return Err(Fail::from("no table"));
+    };
+    let Ok(mut keeper) = Timekeeper::<FlowPort>::new(Rules::PLAIN, clock(), table) else {
+        return Err(Fail::from("no timekeeper"));
+    };
+    clocks.fault(GenFault::NoPending);
+    for n in 0u32..70 {
+        let edge_us = BEGIN_US.wrapping_add(n * SECOND_US);
+        if let Some(frame) = clocks.frame(shown) {
+            tell_frame(&mut keeper, frame, edge_us);
+        }
+        clocks.step();
+        let Some(beat) = poll(&mut keeper, edge_us.wrapping_add(SECOND_US)) else {
+            return Err(Fail::from("no second"));
+        };
+        let announced = if is_silent(n + 1) {
+            None
+        } else {
+            shown.at(u64::from(n + 1))
+        };
+        let is_against = n >= 3 && n < 62;
+        let is_guarded = n == 61;
+        if beat.report.announce != announced
+            || beat.against_table != is_against
+            || (beat.report.cause == Cause::LeapGuard) != is_guarded
+        {
+            return Ok(false);
+        }
+    }
+    Ok(true)
+}
+
+/// The clocks step rightly: behind 23:59:60 the device tells 00:00:02 first.
+#[test]
+fn a_leap_that_no_frame_announces_is_not_told(rt: HostRuntime) -> Result<(), Fail> {
+    let zone = Zone {
+        half_hours: 0,
+        dst: false,
+    };
+    let (Ok(shown), Ok(mut clocks)) = (
+        Timeline::new(rt.alloc(), BEFORE_LEAP, &[(6209, Leap::Insert)]),
+        Generator::new(rt.alloc(), zone, &[], Rules::PLAIN),
+    ) else {
+        return Err(Fail::from("no plant"));
+    };
+    assert!(rt; guards_its_leap(&mut clocks, &shown)?);
+    Ok(())
+}
+
+/// The clocks show no 23:59:60: the device is silent for three seconds, and then a second early with
+/// them, since no table says what follows a day.
+#[test]
+fn clocks_that_ignore_a_leap_are_followed_behind_it(rt: HostRuntime) -> Result<(), Fail> {
+    let zone = Zone {
+        half_hours: 0,
+        dst: false,
+    };
+    let (Ok(shown), Ok(mut clocks)) = (
+        Timeline::new(rt.alloc(), BEFORE_LEAP, &[]),
+        Generator::new(rt.alloc(), zone, &[], Rules::PLAIN),
+    ) else {
+        return Err(Fail::from("no plant"));
+    };
+    assert!(rt; guards_its_leap(&mut clocks, &shown)?);
     Ok(())
 }
 

@@ -17,6 +17,8 @@ mod keepers;
 #[cfg(test)]
 mod ports;
 #[cfg(test)]
+mod rates;
+#[cfg(test)]
 mod readers;
 #[cfg(test)]
 mod texts;

@@ -44,9 +44,9 @@ static WORDS: [Meaning; 21] = [
     },
     Meaning {
         name: "leap-guard",
-        cause: "counting alone the reader came to 23:59:58 of a month's last day, and no frame or table told if a leap second comes",
+        cause: "counting alone the reader came to 23:59:58 of a month's last day, and no frame or table told if a leap second comes; or, of a timekeeper, frames and its leap table contradict one another",
         example: "61 relay - unlocked leap-guard, after 2017-03-31T23:59:58Z holdover:57 held",
-        cure: "give the reader a leap table that goes so far",
+        cure: "give the reader a leap table that goes so far; if frames and table contradict one another, see which is wrong",
     },
     Meaning {
         name: "jump",

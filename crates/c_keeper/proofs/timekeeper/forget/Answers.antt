@@ -1,8 +1,8 @@
 use Rattle.std.proofs.Common.{◌∙◌, sym, ap, subst}
-use Rattle.irig_timekeeper.specs.Steps.{AreNewLines}
-use Rattle.c_keeper.specs.declared.line.IrigLines.{IrigLines}
+use Rattle.irig_lines.specs.Steps.{AreNewLines}
+use Rattle.c_lines.specs.declared.line.IrigLines.{IrigLines}
 use Rattle.c_keeper.specs.declared.timekeeper.IrigTimekeeper.{IrigTimekeeper}
-use Rattle.c_keeper.specs.Lines.{lines_in, KeepNoMore}
+use Rattle.c_lines.specs.Lines.{lines_in, KeepNoMore}
 use Rattle.c_keeper.proofs.timekeeper.forget.Goals as goal
 
 pub returns-clause-lines : goal.returns-clause-lines

@@ -3,9 +3,9 @@ use Rattle.c_numbers.specs.declared.state.IrigState.{IrigState}
 use Rattle.c_numbers.specs.declared.setup.IrigSetup.{IrigSetup}
 use Rattle.c_numbers.specs.States.{state_in, IsState}
 use Rattle.c_numbers.specs.Setups.{limits_in, rules_in}
-use Rattle.c_keeper.specs.declared.line.IrigLines.{IrigLines}
+use Rattle.c_lines.specs.declared.line.IrigLines.{IrigLines}
 use Rattle.c_keeper.specs.declared.timekeeper.IrigTimekeeper.{IrigTimekeeper}
-use Rattle.c_keeper.specs.Lines.{frames_in, lines_in, KeepNoMore}
+use Rattle.c_lines.specs.Lines.{frames_in, lines_in, KeepNoMore}
 use Rattle.c_keeper.specs.Timekeepers.{edge_in}
 use Rattle.c_keeper.proofs.timekeeper.keep.Goals as goal
 
@@ -52,6 +52,7 @@ returns-clause-rest c =
       edge_us = edge i;
       bound_us = bound i;
       interval = c.set_interval.ensures.interval i;
+      anchors = c.anchors_for_c-timekeeper.ensures i;
       strays = c.args.state.now.strays;
       doubt = c.args.state.now.doubt;
       moved = c.args.state.now.moved;

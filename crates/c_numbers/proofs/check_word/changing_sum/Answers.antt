@@ -1,10 +1,12 @@
-use Rattle.std.proofs.Common.{rules, arith}
-use Rattle.c_numbers.specs.CheckWord.{check_of}
-use Rattle.c_numbers.proofs.CheckLaws.{by_parts}
+use Rattle.std.proofs.Common.{rules, refl, arith}
+use Rattle.c_numbers.specs.CheckWord.{check_of, port_numbers, state_numbers}
+use Rattle.c_numbers.proofs.CheckLaws.{by_parts, append_at}
 use Rattle.c_numbers.proofs.check_word.changing_sum.Goals as goal
 
 pub returns : goal.returns
 unfolding check_of
 returns c =
-    let parts = by_parts c.args.reader.now (search rules) in
-    omega (arith, parts, c.state_sum.ensures.value, c.ports_sum.ensures)
+    let r = c.args.reader.now in
+    let parts = by_parts r (search rules) in
+    let sum = c.weighed.ensures _ (c.with_state.ensures (port_numbers r.ports) c.ports_sums.ensures) in
+    omega (arith, parts, sum, append_at 279 291 (state_numbers r.state) (port_numbers r.ports) refl)

@@ -2,12 +2,12 @@ use Rattle.std.proofs.Common.{rules, ◌≡◌, ◌<◌, ◌∙◌, ℕ, true, s
 use Rattle.irig_reader.proofs.FedLaws.{at_most_five}
 use Rattle.c_numbers.specs.Setups.{redundancy_in}
 use Rattle.irig_sync.specs.Sync.{place_of}
-use Rattle.irig_timekeeper.specs.declared.setup.ClockRules.{ClockRules}
-use Rattle.irig_timekeeper.specs.Delays.{corrected, delay_at}
+use Rattle.irig_lines.specs.declared.setup.ClockRules.{ClockRules}
+use Rattle.irig_lines.specs.Delays.{corrected, delay_at}
 use Rattle.irig_timekeeper.specs.Keeping.{one_pulse_more}
 use Rattle.irig_timekeeper.specs.Life.{device_of}
 use Rattle.irig_timekeeper.specs.Lived.{made_with}
-use Rattle.irig_timekeeper.specs.Steps.{is_pulse, line_at}
+use Rattle.irig_lines.specs.Steps.{is_pulse, line_at}
 use Rattle.irig_timekeeper.proofs.LivedLaws.{as_made}
 use Rattle.c_keeper.specs.Lives.{calls_of}
 use Rattle.c_keeper.specs.Timekeepers.{delays_in, IsTimekeeperOf}

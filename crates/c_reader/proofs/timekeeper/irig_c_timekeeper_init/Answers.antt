@@ -1,15 +1,15 @@
 use Rattle.std.proofs.Common.{rules, ◌≡◌, ◌∙◌, false, is_some, Option, Some, None, sym, ap, subst, refl, arith, inl}
 use Rattle.irig_reader.specs.declared.rules.ReaderRules.{ReaderRules}
-use Rattle.irig_timekeeper.specs.declared.setup.ClockFault.{ClockFault}
+use Rattle.irig_lines.specs.declared.setup.ClockFault.{ClockFault}
 use Rattle.irig_timekeeper.specs.Keeping.{new_state}
-use Rattle.irig_timekeeper.specs.Refusals.{clock_fault}
+use Rattle.irig_lines.specs.Refusals.{clock_fault}
 use Rattle.c_numbers.specs.declared.setup.IrigSetup.{IrigSetup}
 use Rattle.c_numbers.specs.declared.state.IrigState.{IrigState}
 use Rattle.c_numbers.specs.declared.table.IrigTable.{IrigTable}
 use Rattle.c_numbers.specs.LeapTables.{table_in}
 use Rattle.c_numbers.specs.Setups.{limits_in, rules_in, reader_rules_in, IsSetup}
 use Rattle.c_keeper.specs.CheckWord.{check_of}
-use Rattle.c_keeper.specs.Lines.{lines_in}
+use Rattle.c_lines.specs.Lines.{lines_in}
 use Rattle.c_keeper.specs.Lives.{made_in}
 use Rattle.c_keeper.specs.declared.timekeeper.IrigWires.{IrigWires}
 use Rattle.c_keeper.specs.Timekeepers.{clock_in, AreWires}

@@ -1,20 +1,21 @@
 use Rattle.std.specs.Prelude.{◌==◌}
 use Rattle.std.proofs.Common.{cond, ◌≡◌, ◌∙◌, ◌∷◌, ◌++◌, ℕ, Bool, true, false, List, Option, Some, None, sym, ap, subst, refl, arith, ◌+◌}
 use Rattle.irig_sync.specs.Lines.{Pulse}
+use Rattle.irig_lines.specs.Clocks.{IsTrueByItsClock}
 use Rattle.irig_reader.specs.declared.report.Report.{Report}
-use Rattle.irig_timekeeper.specs.Exactness.{fault_early_us, fault_late_us, vote_us}
+use Rattle.irig_lines.specs.Exactness.{fault_early_us, fault_late_us, vote_us}
 use Rattle.irig_timekeeper.specs.Clock.{claim_voted, vote_of_lines}
-use Rattle.irig_timekeeper.specs.declared.lines.Vote.{Vote}
+use Rattle.irig_lines.specs.declared.lines.Vote.{Vote}
 use Rattle.irig_timekeeper.specs.declared.clock.Beat.{Beat}
 use Rattle.irig_timekeeper.specs.Keeping.{Keeping, nothing_heard}
-use Rattle.irig_timekeeper.specs.Lines.{IsTrueLately, IsTrueOrFaulty}
+use Rattle.irig_lines.specs.Lines.{IsTrueLately, IsTrueOrFaulty}
 use Rattle.irig_timekeeper.specs.declared.clock.ClockState.{ClockState}
 use Rattle.irig_timekeeper.specs.Life.{device_of, life_of}
 use Rattle.irig_timekeeper.specs.Life.Call.{Tick}
-use Rattle.irig_timekeeper.specs.declared.setup.ClockRules.{ClockRules}
+use Rattle.irig_lines.specs.declared.setup.ClockRules.{ClockRules}
 use Rattle.irig_timekeeper.specs.Lived.{made_with}
 use Rattle.irig_timekeeper.proofs.DoubtLaws.{says_nothing}
-use Rattle.irig_timekeeper.proofs.LineLaws.{true_lately, true_by_any}
+use Rattle.irig_lines.proofs.LineLaws.{true_lately, true_by_any}
 use Rattle.irig_timekeeper.proofs.LivedLaws.{as_made}
 use Rattle.irig_timekeeper.proofs.StateLaws.{true_at_tick}
 use Rattle.irig_timekeeper.proofs.StrayLaws.{never_strays}
@@ -27,7 +28,7 @@ use Rattle.c_numbers.specs.Reports.{report_in}
 use Rattle.c_numbers.specs.Setups.{limits_in, redundancy_in, rules_in, IsSetup}
 use Rattle.c_keeper.specs.declared.second.IrigSecond.{IrigSecond}
 use Rattle.c_keeper.specs.CheckWord.{check_of}
-use Rattle.c_keeper.specs.Lines.{frames_in}
+use Rattle.c_lines.specs.Lines.{frames_in}
 use Rattle.c_keeper.specs.Lives.{calls_of}
 use Rattle.c_keeper.specs.Lives.Moment.{Ticked}
 use Rattle.c_keeper.specs.Seconds.{IsSecondOf}
@@ -36,7 +37,7 @@ use Rattle.c_keeper.specs.Timekeepers.{answer_in, clock_in, clock_state_in, AreW
 use Rattle.c_keeper.proofs.AbsentLaws.{all_heard, pulses_there}
 use Rattle.c_keeper.proofs.AnnouncedLaws.{has_announced, has_announced_by_wait}
 use Rattle.c_keeper.proofs.LivedLaws.{lived_tick}
-use Rattle.c_keeper.proofs.LivesLaws.{faulty_lines, tells_truly, tells_in_order, tells_calmly, tells_apart, whole_lines}
+use Rattle.c_keeper.proofs.LivesLaws.{clock_lines, faulty_lines, tells_truly, tells_in_order, tells_calmly, tells_apart, whole_lines}
 use Rattle.c_keeper.proofs.StampedLaws.{lasts_as}
 use Rattle.c_keeper.proofs.ValueLaws.{answers_as, beat_of, clock_as, stands_as, steady_as}
 use Rattle.c_reader.proofs.MaskLaws.{in_no_mask}
@@ -89,7 +90,7 @@ returns-clause-after c k h =
         ended = new.ended;
         ended_before = new.ended_before;
         absent = new.absent;
-        sealed = c.check_of-timekeeper.ensures;
+        sealed = new.sealed;
       };
     }
 
@@ -258,3 +259,24 @@ returns-clause-strays c t edges made start now past h clock well =
     of : {n : ℕ} (b : Bool) → n ≡ 0 → cond b 0 n ≡ 0
     of true same = refl
     of false same = same
+
+pub returns-then-not-is_accepted-clause-clocks_off : goal.returns-then-not-is_accepted-clause-clocks_off
+returns-then-not-is_accepted-clause-clocks_off c t edges made off start now past u few h clock = absurd (never (sym c.if-not-is_accepted.true ∙ c.is_accepted.ensures.1 h.is.accepted))
+
+pub returns-then-not-is_accepted-clause-clocks_off_order : goal.returns-then-not-is_accepted-clause-clocks_off_order
+returns-then-not-is_accepted-clause-clocks_off_order c t edges made off start before now earlier later first u v few h clock = absurd (never (sym c.if-not-is_accepted.true ∙ c.is_accepted.ensures.1 h.is.accepted))
+
+pub returns-then-not-is_accepted-clause-clocks_off_calm : goal.returns-then-not-is_accepted-clause-clocks_off_calm
+returns-then-not-is_accepted-clause-clocks_off_calm c t edges made off start now past few h clock = absurd (never (sym c.if-not-is_accepted.true ∙ c.is_accepted.ensures.1 h.is.accepted))
+
+pub returns-clause-clocks_off : goal.returns-clause-clocks_off
+returns-clause-clocks_off c t edges made off start now past u few h clock =
+    tells_truly (IsTrueByItsClock off made.clock.within.us made.clock.drift_us) off off _ t edges made (clock_lines off made.clock.within made.clock.drift_us few) start now past c.tick_accepted.result u (returns-clause-lived c made past now h clock)
+
+pub returns-clause-clocks_off_order : goal.returns-clause-clocks_off_order
+returns-clause-clocks_off_order c t edges made off start before now earlier later first u v few h clock =
+    tells_in_order (IsTrueByItsClock off made.clock.within.us made.clock.drift_us) off off _ t edges made (clock_lines off made.clock.within made.clock.drift_us few) start before now earlier later first c.tick_accepted.result u v (returns-clause-lived c made (later ++ (Ticked before first ∷ earlier)) now h clock)
+
+pub returns-clause-clocks_off_calm : goal.returns-clause-clocks_off_calm
+returns-clause-clocks_off_calm c t edges made off start now past few h clock =
+    tells_calmly (IsTrueByItsClock off made.clock.within.us made.clock.drift_us) off off _ t edges made (clock_lines off made.clock.within made.clock.drift_us few) start now past c.tick_accepted.result (returns-clause-lived c made past now h clock)

@@ -5,4 +5,4 @@ pub returns-clause-step : goal.returns-clause-step
 returns-clause-step _ rules table missed state votes vote e = beat_is_vote rules table missed state votes vote e
 
 pub returns-clause-lock : goal.returns-clause-lock
-returns-clause-lock _ t n k vote before earlier u sound some silent there stands are = beats_lock t n k vote before earlier u sound some silent there stands are
+returns-clause-lock _ t n k vote before earlier u sound follows some silent there stands are = beats_lock t n k vote before earlier u sound follows some silent there stands are

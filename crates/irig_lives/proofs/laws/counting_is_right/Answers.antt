@@ -1,4 +1,4 @@
-use Rattle.irig_timekeeper.proofs.CountingLaws.{counts, wraps}
+use Rattle.irig_lines.proofs.CountingLaws.{counts, wraps}
 use Rattle.irig_lives.proofs.laws.counting_is_right.Goals as goal
 
 pub returns-clause-count : goal.returns-clause-count

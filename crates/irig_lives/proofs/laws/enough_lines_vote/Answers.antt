@@ -1,10 +1,10 @@
 use Rattle.std.proofs.Common.{arith}
-use Rattle.irig_timekeeper.specs.Lines.{IsTrueLately}
-use Rattle.irig_timekeeper.proofs.LineLaws.{true_lately}
+use Rattle.irig_lines.specs.Lines.{IsTrueLately}
+use Rattle.irig_lines.proofs.LineLaws.{true_lately}
 use Rattle.std.specs.Prelude.{count_by}
 use Rattle.std.proofs.lemmas.Bool.{lt-ltb}
-use Rattle.irig_timekeeper.specs.Exactness.{window_us}
-use Rattle.irig_timekeeper.specs.Steps.{agrees, all_kept, claim_kept, line_at}
+use Rattle.irig_lines.specs.Exactness.{window_us}
+use Rattle.irig_lines.specs.Steps.{agrees, all_kept, claim_kept, line_at}
 use Rattle.irig_vote.specs.Vote.{f_of}
 use Rattle.irig_timekeeper.proofs.VoteLaws.{vote_comes, ready_by}
 use Rattle.irig_timekeeper.proofs.WaitLaws.{one_is_agreed}

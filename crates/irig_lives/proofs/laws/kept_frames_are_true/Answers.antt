@@ -1,4 +1,4 @@
-use Rattle.irig_timekeeper.proofs.LineLaws.{frame_is_true}
+use Rattle.irig_lines.proofs.LineLaws.{frame_is_true}
 use Rattle.irig_lives.proofs.laws.kept_frames_are_true.Goals as goal
 
 pub returns : goal.returns

@@ -3,9 +3,9 @@ use Rattle.irig_sync.specs.Sync.{place_of}
 use Rattle.irig_sync.specs.Lines.{pulse_at, place_after}
 use Rattle.irig_sync.proofs.LineLaws.{place_at_time}
 use Rattle.irig_port.proofs.RunLaws.{hears}
-use Rattle.irig_timekeeper.specs.Lines.{IsAnyEnd}
-use Rattle.irig_timekeeper.proofs.LineLaws.{kept_more}
-use Rattle.irig_timekeeper.proofs.WholeLaws.{begin_more, even_here}
+use Rattle.irig_lines.specs.Lines.{IsAnyEnd}
+use Rattle.irig_lines.proofs.LineLaws.{kept_more}
+use Rattle.irig_lines.proofs.WholeLaws.{begin_more, even_here}
 use Rattle.irig_lives.proofs.laws.lines_keep_frames.Goals as goal
 
 pub returns-clause-kept : goal.returns-clause-kept

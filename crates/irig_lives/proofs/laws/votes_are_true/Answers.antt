@@ -7,12 +7,12 @@ use Rattle.irig_time.specs.TimelineFaults.{IsTimeline}
 use Rattle.irig_vote.specs.Vote.{f_of}
 use Rattle.irig_reader.specs.declared.report.Cause.TheVariants.{Voted}
 use Rattle.irig_timekeeper.specs.declared.clock.Beat.{Beat}
-use Rattle.irig_timekeeper.specs.Edges.{IsQuartz}
-use Rattle.irig_timekeeper.specs.Exactness.{vote_us}
+use Rattle.irig_lines.specs.Edges.{IsQuartz}
+use Rattle.irig_lines.specs.Exactness.{vote_us}
 use Rattle.irig_timekeeper.specs.Keeping.{Keeping, answer_at}
-use Rattle.irig_timekeeper.specs.Lines.{IsTrueLately}
+use Rattle.irig_lines.specs.Lines.{IsTrueLately}
 use Rattle.irig_timekeeper.specs.Truth.{AreHeardTruly, IsToldTruly}
-use Rattle.irig_timekeeper.proofs.LineLaws.{true_lately, true_by_any}
+use Rattle.irig_lines.proofs.LineLaws.{true_lately, true_by_any}
 use Rattle.irig_timekeeper.proofs.VoteLaws.{vote_is_true}
 use Rattle.irig_timekeeper.proofs.VotedLaws.{IsToldBy, nearer, tick_voted, tick_voted_by}
 use Rattle.irig_lives.proofs.laws.votes_are_true.Goals as goal

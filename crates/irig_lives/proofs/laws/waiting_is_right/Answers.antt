@@ -1,6 +1,6 @@
 use Rattle.irig_timekeeper.proofs.WaitLaws.{counts_then, waits}
 use Rattle.std.proofs.Common.{◌≡◌, ◌%◌, ◌^◌, Some, ap, arith}
-use Rattle.irig_timekeeper.specs.Steps.{wait_by}
+use Rattle.irig_lines.specs.Steps.{wait_by}
 use Rattle.irig_timekeeper.specs.Keeping.{Keeping, wait_at}
 use Rattle.irig_timekeeper.specs.Life.{after_calls, device_of}
 use Rattle.irig_timekeeper.proofs.LifeLaws.{begins}

@@ -1,6 +1,6 @@
 use Rattle.std.proofs.Common.{◌≡◌, false, Option, Some, None, refl}
-use Rattle.irig_timekeeper.specs.declared.interval.Interval.{Interval}
-use Rattle.irig_timekeeper.specs.Intervals.{LiesBetween, common, is_nothing, or_alone}
+use Rattle.irig_lines.specs.declared.interval.Interval.{Interval}
+use Rattle.irig_lines.specs.Intervals.{LiesBetween, common, is_nothing, or_alone}
 use Rattle.irig_timekeeper.proofs.StrayLaws.{apart_contradicts, carried_lies, lies_in_both, vote_lies}
 use Rattle.irig_lives.proofs.laws.what_strays_is_seen.Goals as goal
 

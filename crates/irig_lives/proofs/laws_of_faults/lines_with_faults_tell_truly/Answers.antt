@@ -1,7 +1,7 @@
 use Rattle.std.proofs.Common.{◌+◌, ◌≤◌, arith}
 use Rattle.std.proofs.Math.Nat.{mul-le-mul_left}
-use Rattle.irig_timekeeper.specs.Lines.{IsTrueButForFaults, IsTrueOrFaulty}
-use Rattle.irig_timekeeper.specs.Exactness.{fault_early_us, fault_late_us}
+use Rattle.irig_lines.specs.Lines.{IsTrueButForFaults, IsTrueOrFaulty}
+use Rattle.irig_lines.specs.Exactness.{fault_early_us, fault_late_us}
 use Rattle.irig_timekeeper.proofs.LifeLaws.{device_true, device_calm, device_in_order}
 use Rattle.irig_timekeeper.proofs.FaultLines.{fault_small, faults_are_true, faults_tell_truly, either_tells_truly, whole_is_true}
 use Rattle.irig_gen.proofs.GenLaws.{true_frames}

@@ -1,5 +1,5 @@
-use Rattle.irig_timekeeper.specs.Lines.{IsTrueLately}
-use Rattle.irig_timekeeper.proofs.LineLaws.{true_lately}
+use Rattle.irig_lines.specs.Lines.{IsTrueLately}
+use Rattle.irig_lines.proofs.LineLaws.{true_lately}
 use Rattle.irig_timekeeper.proofs.StateLaws.{true_line, true_at_tick, said_rightly}
 use Rattle.irig_lives.proofs.laws_of_lines.what_is_said_of_lines_is_so.Goals as goal
 

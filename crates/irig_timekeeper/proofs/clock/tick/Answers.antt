@@ -1,10 +1,10 @@
 use Rattle.std.specs.Prelude.{IfSome}
 use Rattle.std.proofs.Common.{sym, ap, subst, Option}
 use Rattle.irig_time.specs.Seconds.{IsValid}
-use Rattle.irig_timekeeper.specs.declared.lines.Vote.{Vote}
+use Rattle.irig_lines.specs.declared.lines.Vote.{Vote}
 use Rattle.irig_timekeeper.specs.declared.clock.ClockState.{ClockState}
-use Rattle.irig_timekeeper.specs.Steps.{AreKeptOfUtc, settled}
-use Rattle.irig_timekeeper.proofs.ValidLines.{settled_valid, agreed_valid}
+use Rattle.irig_lines.specs.Steps.{AreKeptOfUtc, settled}
+use Rattle.irig_lines.proofs.ValidLines.{settled_valid, agreed_valid}
 use Rattle.irig_timekeeper.proofs.clock.tick.Goals as goal
 
 pub tick_by_vote-requires-clause-valid : goal.tick_by_vote-requires-clause-valid

@@ -1,9 +1,9 @@
 use Rattle.std.proofs.Common.{◌≡◌, ◌∙◌, ℕ, ◌%◌, ◌^◌, true, sym, ap, subst, w16, rules}
 use mir.Val.{SFits}
 use Rattle.std.proofs.lemmas.Int.{to_z-of_z}
-use Rattle.irig_timekeeper.specs.declared.setup.ClockRules.{ClockRules}
-use Rattle.irig_timekeeper.specs.Delays.{corrected, delay_at}
-use Rattle.irig_timekeeper.specs.Steps.{is_pulse}
+use Rattle.irig_lines.specs.declared.setup.ClockRules.{ClockRules}
+use Rattle.irig_lines.specs.Delays.{corrected, delay_at}
+use Rattle.irig_lines.specs.Steps.{is_pulse}
 use Rattle.irig_timekeeper.specs.Keeping.{Keeping, one_pulse_more, after_pulse}
 use Rattle.irig_timekeeper.specs.Keepers.{IsKeeping}
 use Rattle.irig_timekeeper.specs.Life.{device_of, life_of}

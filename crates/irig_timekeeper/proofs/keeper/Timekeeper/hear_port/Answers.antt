@@ -2,8 +2,8 @@ use Rattle.std.proofs.Common.{◌≡◌, ◌∙◌, ap, arith}
 use Rattle.irig_port.specs.Limits.{told_within}
 use Rattle.irig_port.specs.Hearing.{heard_at}
 use Rattle.irig_reader.proofs.FedLaws.{at_most_five}
-use Rattle.irig_timekeeper.specs.declared.setup.ClockRules.{ClockRules}
-use Rattle.irig_timekeeper.specs.Steps.{line_heard}
+use Rattle.irig_lines.specs.declared.setup.ClockRules.{ClockRules}
+use Rattle.irig_lines.specs.Steps.{line_heard}
 use Rattle.irig_timekeeper.proofs.keeper.Timekeeper.hear_port.Goals as goal
 
 pub returns-in-0-clause-heard : goal.returns-in-0-clause-heard

@@ -2,14 +2,14 @@ use Rattle.std.proofs.Common.{◌≡◌, ◌∙◌, ℕ, sym, ap, subst}
 use Rattle.std.proofs.Math.Logic.{∥∥₁_map}
 use Rattle.irig_sync.specs.Sync.{place_of}
 use Rattle.irig_timekeeper.specs.declared.clock.ClockState.{ClockState}
-use Rattle.irig_timekeeper.specs.declared.lines.Line.{Line}
-use Rattle.irig_timekeeper.specs.declared.lines.Lines.{Lines}
+use Rattle.irig_lines.specs.declared.lines.Line.{Line}
+use Rattle.irig_lines.specs.declared.lines.Lines.{Lines}
 use Rattle.irig_port.specs.Limits.{told_within}
 use Rattle.irig_port.specs.Hearing.{heard_at}
-use Rattle.irig_timekeeper.specs.Steps.{IsKeptOfUtc, AreKeptOfUtc, line_at, with_line, line_heard}
+use Rattle.irig_lines.specs.Steps.{IsKeptOfUtc, AreKeptOfUtc, line_at, with_line, line_heard}
 use Rattle.irig_timekeeper.specs.Keeping.{Keeping, heard_by, with_lines}
 use Rattle.irig_timekeeper.proofs.TickLaws.{pulse_by}
-use Rattle.irig_timekeeper.proofs.ValidLines.{all_valid, line_valid, with_valid}
+use Rattle.irig_lines.proofs.ValidLines.{all_valid, line_valid, with_valid}
 use Rattle.irig_timekeeper.proofs.keeper.Timekeeper.hear_pulse.Goals as goal
 
 pub hear_port-place-requires-clause-valid : goal.hear_port-place-requires-clause-valid

@@ -1,15 +1,15 @@
 use Rattle.std.proofs.Common.{◌∙◌, ◌<◌, sym, ap, subst, arith}
 use Rattle.irig_reader.proofs.FedLaws.{at_most_five}
-use Rattle.irig_timekeeper.specs.declared.setup.ClockRules.{ClockRules}
+use Rattle.irig_lines.specs.declared.setup.ClockRules.{ClockRules}
 use Rattle.irig_timekeeper.specs.declared.clock.ClockState.{ClockState}
 use Rattle.irig_timekeeper.specs.declared.states.LineState.{LineState}
 use Rattle.irig_timekeeper.specs.Keeping.{Keeping}
 use Rattle.irig_timekeeper.specs.Life.{life_of, device_of, last_tick, pulses_on}
-use Rattle.irig_timekeeper.specs.Lines.{IsTrueLately}
+use Rattle.irig_lines.specs.Lines.{IsTrueLately}
 use Rattle.irig_timekeeper.specs.Lived.{made_with}
 use Rattle.irig_timekeeper.specs.States.{state_of}
 use Rattle.irig_timekeeper.specs.LineTruths.{is_untrue, IsSaidRightly}
-use Rattle.irig_timekeeper.proofs.LineLaws.{true_lately}
+use Rattle.irig_lines.proofs.LineLaws.{true_lately}
 use Rattle.irig_timekeeper.proofs.LivedLaws.{as_made}
 use Rattle.irig_timekeeper.proofs.StateLaws.{true_line, said_rightly}
 use Rattle.irig_timekeeper.proofs.keeper.Timekeeper.line.Goals as goal

@@ -2,10 +2,10 @@ use Rattle.std.proofs.Common.{◌∙◌, sym, ap, arith}
 use Rattle.irig_timekeeper.specs.declared.clock.ClockState.{ClockState}
 use Rattle.irig_timekeeper.specs.Keeping.{Keeping, stamp_at}
 use Rattle.irig_timekeeper.specs.Life.{life_of}
-use Rattle.irig_timekeeper.specs.Lines.{IsTrueLately}
+use Rattle.irig_lines.specs.Lines.{IsTrueLately}
 use Rattle.irig_timekeeper.specs.Lived.{made_with}
 use Rattle.irig_timekeeper.specs.Stamps.{stamp_of}
-use Rattle.irig_timekeeper.proofs.LineLaws.{true_lately}
+use Rattle.irig_lines.proofs.LineLaws.{true_lately}
 use Rattle.irig_timekeeper.proofs.RowLaws.{in_a_row, none_lost}
 use Rattle.irig_timekeeper.proofs.StampLaws.{stamped}
 use Rattle.irig_timekeeper.proofs.keeper.Timekeeper.stamp.Goals as goal

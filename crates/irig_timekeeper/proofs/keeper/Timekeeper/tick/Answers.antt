@@ -1,18 +1,19 @@
 use Rattle.std.proofs.Common.{◌≡◌, false, ◌∙◌, ◌∷◌, sym, ap, arith}
 use Rattle.irig_time.specs.Tables.{TableValue}
-use Rattle.irig_timekeeper.specs.declared.setup.ClockRules.{ClockRules}
+use Rattle.irig_lines.specs.declared.setup.ClockRules.{ClockRules}
 use Rattle.irig_timekeeper.specs.declared.clock.ClockState.{ClockState}
 use Rattle.irig_timekeeper.specs.Clock.{clock_answer, is_unsteady}
 use Rattle.irig_timekeeper.specs.Keeping.{Keeping, answer_at}
 use Rattle.irig_timekeeper.specs.Life.{life_of, LivesTruly}
 use Rattle.irig_timekeeper.specs.Life.Call.{Tick}
-use Rattle.irig_timekeeper.specs.Lines.{IsTrueLately}
+use Rattle.irig_lines.specs.Lines.{IsTrueLately}
 use Rattle.irig_timekeeper.specs.Lived.{made_with}
 use Rattle.irig_timekeeper.proofs.LifeLaws.{device_true}
-use Rattle.irig_timekeeper.proofs.LineLaws.{true_lately}
+use Rattle.irig_lines.proofs.LineLaws.{true_lately}
 use Rattle.irig_timekeeper.proofs.StrayLaws.{never_doubts, never_unsteady}
 use Rattle.irig_timekeeper.proofs.DoubtLaws.{says_rule}
-use Rattle.irig_timekeeper.proofs.ValidLines.{all_valid}
+use Rattle.irig_timekeeper.proofs.GuardedTicks.{tick_guards_vote}
+use Rattle.irig_lines.proofs.ValidLines.{all_valid}
 use Rattle.irig_timekeeper.proofs.keeper.Timekeeper.tick.Goals as goal
 
 pub tick-requires-clause-valid : goal.tick-requires-clause-valid
@@ -47,3 +48,12 @@ returns-clause-rule g c t edges made start now calls beat h clock well told k is
     ∙ ap (is_unsteady (life_of device calls).clock (life_of device calls).state) clock
     ∙ never_unsteady t edges device start calls now lives in
     says_rule k c.args.now_us beat certain steady (sym value ∙ told)
+
+pub returns-clause-guarded : goal.returns-clause-guarded
+returns-clause-guarded g c t n vote beat u sound guards told says k is voted at knows =
+    let self = c.args.self.now in
+    let value = c.tick.ensures.answer
+    ∙ (ap (λ (rules : ClockRules). clock_answer rules self.table self.state c.args.now_us) is.clock
+    ∙ (ap (λ (table : TableValue). clock_answer k.clock table self.state c.args.now_us) is.table
+    ∙ ap (λ (s : ClockState). clock_answer k.clock k.table s c.args.now_us) is.state)) in
+    tick_guards_vote k c.args.now_us beat (sym value ∙ told) t sound (ap (λ (rules : ClockRules). rules.prefers_frames) (sym is.clock) ∙ guards) n u says vote voted at knows

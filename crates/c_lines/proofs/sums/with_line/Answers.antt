@@ -1,0 +1,14 @@
+use Rattle.std.proofs.Common.{◌∙◌}
+use Rattle.c_numbers.proofs.CheckLaws.{led}
+use Rattle.c_lines.proofs.sums.with_line.Goals as goal
+
+pub returns : goal.returns
+returns c ns h =
+    let h1 = led (c.from.ensures ∙ c.flags_of.ensures) (c.with_first.ensures ns h) in
+    let h2 = led c.from-2.ensures (c.with_first-2.ensures _ h1) in
+    let h3 = led c.from-3.ensures (c.with_first-behind.ensures _ h2) in
+    let h4 = c.with_tally.ensures _ h3 in
+    let h5 = c.with_tally-2.ensures _ h4 in
+    let h6 = led c.from-4.ensures (c.with_first-3.ensures _ h5) in
+    let h7 = led c.from-5.ensures (c.with_first-4.ensures _ h6) in
+    led c.from-6.ensures (c.with_first-5.ensures _ h7)

@@ -1,0 +1,5 @@
+pub mod Announced
+pub mod Lines
+pub mod CheckWord
+pub mod States
+pub mod Quiet

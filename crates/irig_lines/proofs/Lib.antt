@@ -1,0 +1,9 @@
+pub mod CountingLaws
+pub mod ValidLines
+pub mod LineLaws
+pub mod AgreeLaws
+pub mod WholeLaws
+pub mod PartLaws
+pub mod ReachLaws
+pub mod StandardFacts
+pub mod RateLaws

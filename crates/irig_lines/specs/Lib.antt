@@ -1,0 +1,10 @@
+pub mod Exactness
+pub mod Edges
+pub mod Lines
+pub mod Clocks
+pub mod Counting
+pub mod Delays
+pub mod Steps
+pub mod Refusals
+pub mod Intervals
+pub mod Rates

@@ -1,0 +1,24 @@
+-- What is refused of a setup, and the nearest that is not.
+-- Source: this project's profile.
+use Rattle.std.specs.Prelude.{ℕ, ◌+◌, ◌-◌, ◌*◌, nat_lt, if◌then◌else◌, Option, Some, None}
+use Rattle.std.proofs.Common.{arith}
+use Rattle.irig_reader.specs.declared.rules.ReaderRules.{ReaderRules}
+use Rattle.irig_lines.specs.declared.setup.ClockFault.{ClockFault}
+use Rattle.irig_lines.specs.declared.setup.ClockFault.TheVariants.{Drift, Holdover}
+use Rattle.irig_lines.specs.declared.within.Within.{Within}
+use Rattle.irig_lines.specs.Exactness.{most_within_us, most_drift_us, most_held_us}
+
+-- lines that are so exact, or as near that as a setup may say
+abbrev pub within_of : ℕ → Within
+within_of us = record {
+  us = most_within_us - (most_within_us - 1 - (us - 1));
+  some = omega arith;
+  few = omega arith;
+}
+
+-- the counter is more than 100 us a second wrong, or so much that it could be half a second wrong
+-- when the holdover ends
+abbrev pub clock_fault : ReaderRules → ℕ → Option ClockFault
+clock_fault rules drift =
+    if nat_lt most_drift_us drift then Some Drift
+    else (if nat_lt most_held_us ((rules.holdover + 2) * drift) then Some Holdover else None)

@@ -1,0 +1,86 @@
+//! Times by a clock of 32 bits.
+
+ghost use Rattle.std.specs.Prelude.{◌≡◌, ◌≤◌};
+ghost use Rattle.irig_lines.specs.Counting.{edges_to, edges_to_vote, edges_own, edge_behind, is_late, is_gone, has_come};
+
+const SECOND_US: u32 = 1_000_000;
+
+/// How long behind its edge a second is counted by the own counter.
+const PATIENCE_US: u32 = 5_000;
+
+/// How long behind its edge a frame may be taken.
+const LATE_US: u32 = 100_000;
+
+/// How long behind its edge a frame still says what its line is.
+const GONE_US: u32 = 1_500_000;
+
+/// How long before its edge a frame may be told: by a pulse that rises 10 ms before it, and is told
+/// 4 ms before it rose.
+const AHEAD_US: u32 = 14_000;
+
+/// What lies this far behind is taken to lie ahead.
+const FAR_US: u32 = 1 << 31;
+
+/// The seconds from an edge to one that lines agree on, to the nearest.
+fn edges_to(edge_us: u32, end_us: u32) -> u32
+    ensures value { result ≡ edges_to edge_us end_us }
+    ensures few { result ≤ 4294 }
+{
+    end_us.wrapping_add(SECOND_US / 2).wrapping_sub(edge_us) / SECOND_US
+}
+
+/// The same behind the last edge, if there was one.
+pub fn edges_to_vote(edge_us: Option<u32>, end_us: u32) -> u32
+    ensures value { result ≡ edges_to_vote edge_us end_us }
+    ensures few { result ≤ 4294 }
+{
+    match edge_us {
+        None => 1,
+        Some(edge) => edges_to(edge, end_us),
+    }
+}
+
+/// The edges that have come by the own counter.
+pub fn edges_own(edge_us: Option<u32>, now_us: u32) -> u32
+    ensures value { result ≡ edges_own edge_us now_us }
+    ensures few { result ≤ 4294 }
+{
+    let Some(edge) = edge_us else {
+        return 0;
+    };
+    let gap = now_us.wrapping_sub(edge);
+    if gap < FAR_US {
+        gap.saturating_sub(PATIENCE_US) / SECOND_US
+    } else {
+        0
+    }
+}
+
+/// The time so many seconds behind another.
+pub fn edge_behind(edge_us: u32, seconds: u32) -> u32
+    requires { seconds ≤ 4294 }
+    ensures { result ≡ edge_behind edge_us seconds }
+{
+    edge_us.wrapping_add(seconds * SECOND_US)
+}
+
+/// Whether an end lies more than 100 ms behind now, or more than 14 ms ahead.
+pub fn is_late(end_us: u32, now_us: u32) -> bool
+    ensures { result ≡ is_late end_us now_us }
+{
+    now_us.wrapping_sub(end_us).wrapping_add(AHEAD_US) > LATE_US + AHEAD_US
+}
+
+/// Whether an end lies more than 1.5 s behind now, or more than 14 ms ahead.
+pub fn is_gone(end_us: u32, now_us: u32) -> bool
+    ensures { result ≡ is_gone end_us now_us }
+{
+    now_us.wrapping_sub(end_us).wrapping_add(AHEAD_US) > GONE_US + AHEAD_US
+}
+
+/// Whether an end does not lie ahead of now, nor more than 100 ms behind.
+pub fn has_come(end_us: u32, now_us: u32) -> bool
+    ensures { result ≡ has_come end_us now_us }
+{
+    now_us.wrapping_sub(end_us) <= LATE_US
+}
