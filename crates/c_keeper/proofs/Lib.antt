@@ -14,3 +14,4 @@ pub mod RowLaws
 pub mod WaitedLaws
 pub mod AnnouncedLaws
 pub mod QuietLaws
+pub mod TickLaws

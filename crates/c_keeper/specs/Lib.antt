@@ -9,3 +9,4 @@ pub mod Rows
 pub mod Anchors
 pub mod Quiet
 pub mod Rates
+pub mod Ticks

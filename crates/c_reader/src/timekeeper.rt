@@ -10,9 +10,8 @@ ghost use Rattle.irig_time.specs.declared.second.UtcSecond.{UtcSecond};
 ghost use Rattle.irig_time.specs.Seconds.{IsValid};
 ghost use Rattle.irig_time.specs.Timelines.{TimelineValue, IsSecond};
 ghost use Rattle.irig_time.specs.TimelineFaults.{IsTimeline};
-ghost use Rattle.irig_vote.specs.Vote.{ports_in};
 ghost use Rattle.irig_reader.specs.declared.report.Cause.TheVariants as Cause;
-ghost use Rattle.irig_lines.specs.Exactness.{most_drift_us, most_vote_us, fault_early_us, fault_late_us, vote_us};
+ghost use Rattle.irig_lines.specs.Exactness.{fault_early_us, fault_late_us, vote_us};
 ghost use Rattle.irig_timekeeper.specs.declared.clock.Beat.{Beat};
 ghost use Rattle.irig_timekeeper.specs.declared.stamp.Stamp.{Stamp};
 ghost use Rattle.irig_lines.specs.declared.lines.Vote.{Vote};
@@ -27,28 +26,28 @@ ghost use Rattle.irig_timekeeper.specs.Life.Call.{Tick};
 ghost use Rattle.irig_timekeeper.specs.Lived.{MadeOf, LivesWell};
 ghost use Rattle.irig_lines.specs.Lines.{IsTrueLately, IsTrueOrFaulty};
 ghost use Rattle.irig_timekeeper.specs.Loops.{AreMadeInTurn, AreToldInTime, TicksEach};
-ghost use Rattle.irig_timekeeper.specs.Keeping.{Heard, Keeping, new_keeping, place_told, one_pulse_more, after_pulse, after_tick, answer_at, wait_at, stamp_at, rate_at, restarted};
+ghost use Rattle.irig_timekeeper.specs.Keeping.{Keeping, new_keeping, place_told, one_pulse_more, after_pulse, after_tick, answer_at, wait_at, stamp_at, rate_at, restarted};
 ghost use Rattle.irig_lines.specs.Refusals.{clock_fault, within_of};
 ghost use Rattle.irig_lines.specs.Steps.{is_pulse, AreNewLines};
-ghost use Rattle.irig_timekeeper.specs.Truth.{FollowsTruth, IsToldTruly, IsToldInHoldover, IsLaterSecond, IsEdgeAt, IsInstant, IsStampedTruly, AreApartBeats};
+ghost use Rattle.irig_timekeeper.specs.Truth.{FollowsTruth, KnowsEnd, IsToldTruly, IsToldInHoldover, IsLaterSecond, IsEdgeAt, IsInstant, IsStampedTruly, AreApartBeats};
 ghost use Rattle.c_numbers.specs.LeapTables.{table_in, HasKinds, IsTable, code_of_table};
 ghost use Rattle.c_numbers.specs.Numbers.{sense_in};
 ghost use Rattle.c_numbers.specs.Reports.{report_in, voices_in};
 ghost use Rattle.c_numbers.specs.Setups.{rules_in, limits_in, reader_rules_in, redundancy_in, IsPort, IsSetup};
-ghost use Rattle.c_numbers.specs.States.{state_in, IsState};
+ghost use Rattle.c_numbers.specs.States.{state_in};
 ghost use Rattle.c_numbers.specs.Against.{held_by};
 ghost use Rattle.c_numbers.specs.CheckWord.{setup_numbers, table_numbers, weighted};
 ghost use Rattle.c_numbers.specs.Voices.{voices_to};
 ghost use Rattle.c_keeper.specs.Announcing.{AreAsked, ComeInARow, GoesByWait, HasAnnounced};
 ghost use Rattle.c_keeper.specs.CheckWord.{IsSealed};
-ghost use Rattle.c_lines.specs.Lines.{frames_in, lines_in, numbers_at, HaveHeard, KeepNoMore};
+ghost use Rattle.c_lines.specs.Lines.{frames_in, lines_in, numbers_at};
 ghost use Rattle.c_keeper.specs.Lives.{Moment, AreTogether, HasLived, HasHealed, HasItsBound, GoesOnTruly, StampsTruly, agreed_in, beat_in, calls_of, made_in, since_vote};
 ghost use Rattle.c_keeper.specs.Lives.Moment.{Pulsed, Ticked, Waited};
 ghost use Rattle.c_keeper.specs.Rates.{rate_in, rate_told};
 ghost use Rattle.c_keeper.specs.Rows.{AreGivenLast};
 ghost use Rattle.c_keeper.specs.Seconds.{against_at, stamp_in, IsSecondOf, IsToldOf};
-ghost use Rattle.c_lines.specs.Announced.{IsAnnounced, IsSmall};
-ghost use Rattle.c_keeper.specs.Timekeepers.{answer_in, clock_in, clock_state_in, edge_in, delays_in, stamp_for, state_behind, vote_in, wait_in, AreWires, HasShortInterval, HeardTruly, IsAccepted, IsTimekeeperOf};
+ghost use Rattle.c_keeper.specs.Ticks.{IsGivenAtTick, IsLeftAtTick};
+ghost use Rattle.c_keeper.specs.Timekeepers.{answer_in, clock_in, clock_state_in, edge_in, delays_in, stamp_for, state_behind, vote_in, wait_in, AreWires, HeardTruly, IsAccepted, IsTimekeeperOf};
 ghost use Rattle.c_lines.specs.States.{bit_at, is_untrue_number};
 ghost use Rattle.c_keeper.specs.States.{masks_of};
 ghost use Rattle.c_keeper.specs.Said.{said_of};
@@ -245,6 +244,14 @@ pub extern "C" fn irig_c_timekeeper_tick(
         → (beat : Beat) × IsToldOf second.new beat
         × IsToldTruly t edges (vote_us timekeeper.old.wires.within_us d)
         (vote_us timekeeper.old.wires.within_us d) now beat u }
+    // By a vote for the true second T(n) it announces T(n + 1), if any, whatever frames say of a leap, if
+    // the table knows how the day of T(n) ends and frames are not preferred (the law
+    // `a_right_table_guards_its_leaps`).
+    ensures guarded { (t : TimelineValue) (n : ℕ) (claim : Claim) (u : UtcSecond)
+        → result ≡ 0 → IsTimeline t → timekeeper.old.wires.prefers_frames ≡ 0
+        → vote_in timekeeper.old now_us ≡ Some claim → IsSecond t n claim.at
+        → KnowsEnd t (table_in timekeeper.old.table) claim.at.day
+        → (report_in second.new.report).announce ≡ Some u → IsSecond t (n + 1) u }
     // Its life goes on.
     ensures lived { (made : MadeOf) (past : List Moment) (now : ℕ)
         → HasLived timekeeper.old made past → now_us ≡ now % 2 ^ 32
@@ -294,6 +301,7 @@ pub extern "C" fn irig_c_timekeeper_tick(
     // While it was above 0 nothing is announced without a vote, whatever lies in the numbers.
     ensures doubted { result ≡ 0 → 0 < timekeeper.old.doubt
         → vote_in timekeeper.old now_us ≡ None → (report_in second.new.report).announce ≡ None }
+    // No vote has strayed in a life in which all lines but f were true at each tick.
     ensures strays { (t : TimelineValue) (edges : ℕ → ℕ) (made : MadeOf) (start now : ℕ)
         (past : List Moment) → HasLived timekeeper.old made past → now_us ≡ now % 2 ^ 32
         → LivesWell (IsTrueLately made.clock.within.us) t edges made start
@@ -398,34 +406,8 @@ fn tick_accepted(fixed: u64, timekeeper: &mut IrigTimekeeper, now_us: u32) -> Ir
     requires accepted { IsAccepted timekeeper.old }
     requires fixed { fixed ≡ (weighted 3 (setup_numbers timekeeper.old.setup)
         + weighted 19 (table_numbers timekeeper.old.table)) % 2 ^ 64 }
-    ensures said { IsSecondOf result (answer_in timekeeper.old now_us) }
-    ensures valid { IfSome (report_in result.report).announce IsValid }
-    ensures voices { (beat : Beat) → answer_in timekeeper.old now_us ≡ Some beat
-        → voices_in result.report ≡ voices_to (vote_in timekeeper.old now_us) beat.told
-        (redundancy_in timekeeper.old.setup) (sense_in timekeeper.old.setup.sense)
-        (frames_in timekeeper.old.lines) }
-    ensures against { (beat : Beat) → answer_in timekeeper.old now_us ≡ Some beat
-        → result.report.against_hold ≡ against_at (held_by (state_in timekeeper.old.state)) beat
-        (redundancy_in timekeeper.old.setup) }
-    ensures stands { clock_state_in timekeeper.new ≡ state_behind timekeeper.old now_us }
-    ensures heard { (heard : Heard) → HaveHeard timekeeper.old.lines heard
-        → HaveHeard timekeeper.new.lines heard }
-    ensures is_state { IsState timekeeper.new.setup.lock_after timekeeper.new.state }
-    ensures last { IsAnnounced timekeeper.new.last }
-    ensures before { IsAnnounced timekeeper.new.before }
-    ensures absent { KeepNoMore (ports_in (redundancy_in timekeeper.new.setup))
-        timekeeper.new.lines }
-    ensures setup { timekeeper.new.setup ≡ timekeeper.old.setup }
-    ensures table { timekeeper.new.table ≡ timekeeper.old.table }
-    ensures wires { timekeeper.new.wires ≡ timekeeper.old.wires }
-    ensures bound { timekeeper.new.bound_us ≤ most_vote_us }
-    ensures known { HasShortInterval timekeeper.new }
-    ensures ended { IsSmall timekeeper.new.ended }
-    ensures ended_before { IsSmall timekeeper.new.ended_before }
-    ensures strays { result.strays ≡ (if result.is_told == 0 then 0 else timekeeper.new.strays) }
-    ensures doubt { result.doubt ≡ (if result.is_told == 0 then 0 else timekeeper.new.doubt) }
-    ensures lines { (beat : Beat) → answer_in timekeeper.old now_us ≡ Some beat
-        → result.lines ≡ masks_of (clock_in timekeeper.old) (clock_state_in timekeeper.new) }
+    ensures given { IsGivenAtTick timekeeper.old timekeeper.new now_us result }
+    ensures left { IsLeftAtTick timekeeper.old timekeeper.new now_us }
     ensures sealed { IsSealed timekeeper.new }
 {
     if is_quiet(timekeeper, now_us) {
@@ -439,34 +421,8 @@ fn tick_accepted(fixed: u64, timekeeper: &mut IrigTimekeeper, now_us: u32) -> Ir
 // One that may have something to do. The check word stays.
 fn tick_at_work(timekeeper: &mut IrigTimekeeper, now_us: u32) -> IrigSecond
     requires { IsAccepted timekeeper.old }
-    ensures said { IsSecondOf result (answer_in timekeeper.old now_us) }
-    ensures valid { IfSome (report_in result.report).announce IsValid }
-    ensures voices { (beat : Beat) → answer_in timekeeper.old now_us ≡ Some beat
-        → voices_in result.report ≡ voices_to (vote_in timekeeper.old now_us) beat.told
-        (redundancy_in timekeeper.old.setup) (sense_in timekeeper.old.setup.sense)
-        (frames_in timekeeper.old.lines) }
-    ensures against { (beat : Beat) → answer_in timekeeper.old now_us ≡ Some beat
-        → result.report.against_hold ≡ against_at (held_by (state_in timekeeper.old.state)) beat
-        (redundancy_in timekeeper.old.setup) }
-    ensures stands { clock_state_in timekeeper.new ≡ state_behind timekeeper.old now_us }
-    ensures heard { (heard : Heard) → HaveHeard timekeeper.old.lines heard
-        → HaveHeard timekeeper.new.lines heard }
-    ensures is_state { IsState timekeeper.new.setup.lock_after timekeeper.new.state }
-    ensures last { IsAnnounced timekeeper.new.last }
-    ensures before { IsAnnounced timekeeper.new.before }
-    ensures absent { KeepNoMore (ports_in (redundancy_in timekeeper.new.setup))
-        timekeeper.new.lines }
-    ensures setup { timekeeper.new.setup ≡ timekeeper.old.setup }
-    ensures table { timekeeper.new.table ≡ timekeeper.old.table }
-    ensures wires { timekeeper.new.wires ≡ timekeeper.old.wires }
-    ensures bound { timekeeper.new.bound_us ≤ most_vote_us }
-    ensures known { HasShortInterval timekeeper.new }
-    ensures ended { IsSmall timekeeper.new.ended }
-    ensures ended_before { IsSmall timekeeper.new.ended_before }
-    ensures strays { result.strays ≡ (if result.is_told == 0 then 0 else timekeeper.new.strays) }
-    ensures doubt { result.doubt ≡ (if result.is_told == 0 then 0 else timekeeper.new.doubt) }
-    ensures lines { (beat : Beat) → answer_in timekeeper.old now_us ≡ Some beat
-        → result.lines ≡ masks_of (clock_in timekeeper.old) (clock_state_in timekeeper.new) }
+    ensures given { IsGivenAtTick timekeeper.old timekeeper.new now_us result }
+    ensures left { IsLeftAtTick timekeeper.old timekeeper.new now_us }
 {
     let rules = clock_rules_of(timekeeper);
     let mut state = unread_state_of(timekeeper);

@@ -1,6 +1,8 @@
-use Rattle.std.specs.Prelude.{◌==◌}
+use Rattle.std.specs.Prelude.{◌==◌, not}
 use Rattle.std.proofs.Common.{cond, ◌≡◌, ◌∙◌, ◌∷◌, ◌++◌, ℕ, Bool, true, false, List, Option, Some, None, sym, ap, subst, refl, arith, ◌+◌}
 use Rattle.irig_sync.specs.Lines.{Pulse}
+use Rattle.irig_time.specs.declared.claim.Claim.{Claim}
+use Rattle.irig_time.specs.Timelines.{IsSecond}
 use Rattle.irig_lines.specs.Clocks.{IsTrueByItsClock}
 use Rattle.irig_reader.specs.declared.report.Report.{Report}
 use Rattle.irig_lines.specs.Exactness.{fault_early_us, fault_late_us, vote_us}
@@ -11,10 +13,12 @@ use Rattle.irig_timekeeper.specs.Keeping.{Keeping, nothing_heard}
 use Rattle.irig_lines.specs.Lines.{IsTrueLately, IsTrueOrFaulty}
 use Rattle.irig_timekeeper.specs.declared.clock.ClockState.{ClockState}
 use Rattle.irig_timekeeper.specs.Life.{device_of, life_of}
+use Rattle.irig_timekeeper.specs.Truth.{KnowsEnd}
 use Rattle.irig_timekeeper.specs.Life.Call.{Tick}
 use Rattle.irig_lines.specs.declared.setup.ClockRules.{ClockRules}
 use Rattle.irig_timekeeper.specs.Lived.{made_with}
 use Rattle.irig_timekeeper.proofs.DoubtLaws.{says_nothing}
+use Rattle.irig_timekeeper.proofs.GuardedTicks.{tick_guards_vote}
 use Rattle.irig_lines.proofs.LineLaws.{true_lately, true_by_any}
 use Rattle.irig_timekeeper.proofs.LivedLaws.{as_made}
 use Rattle.irig_timekeeper.proofs.StateLaws.{true_at_tick}
@@ -27,6 +31,7 @@ use Rattle.c_numbers.specs.Numbers.{sense_in}
 use Rattle.c_numbers.specs.Reports.{report_in}
 use Rattle.c_numbers.specs.Setups.{limits_in, redundancy_in, rules_in, IsSetup}
 use Rattle.c_keeper.specs.declared.second.IrigSecond.{IrigSecond}
+use Rattle.c_keeper.specs.declared.timekeeper.IrigTimekeeper.{IrigTimekeeper}
 use Rattle.c_keeper.specs.CheckWord.{check_of}
 use Rattle.c_lines.specs.Lines.{frames_in}
 use Rattle.c_keeper.specs.Lives.{calls_of}
@@ -37,7 +42,7 @@ use Rattle.c_keeper.specs.Timekeepers.{answer_in, clock_in, clock_state_in, AreW
 use Rattle.c_keeper.proofs.AbsentLaws.{all_heard, pulses_there}
 use Rattle.c_keeper.proofs.AnnouncedLaws.{has_announced, has_announced_by_wait}
 use Rattle.c_keeper.proofs.LivedLaws.{lived_tick}
-use Rattle.c_keeper.proofs.LivesLaws.{clock_lines, faulty_lines, tells_truly, tells_in_order, tells_calmly, tells_apart, whole_lines}
+use Rattle.c_keeper.proofs.LivesLaws.{announced_beat, clock_lines, faulty_lines, tells_truly, tells_in_order, tells_calmly, tells_apart, whole_lines}
 use Rattle.c_keeper.proofs.StampedLaws.{lasts_as}
 use Rattle.c_keeper.proofs.ValueLaws.{answers_as, beat_of, clock_as, stands_as, steady_as}
 use Rattle.c_reader.proofs.MaskLaws.{in_no_mask}
@@ -63,14 +68,14 @@ returns-clause-answer c = (λ done. c.is_accepted.ensures.0 c.if-not-is_accepted
 
 pub returns-clause-second : goal.returns-clause-second
 returns-clause-second c k h =
-    subst (λ (a : Option Beat). IsSecondOf c.tick_accepted.result a) (answers_as c.args.timekeeper.now k c.args.now_us h) c.tick_accepted.ensures.said
+    subst (λ (a : Option Beat). IsSecondOf c.tick_accepted.result a) (answers_as c.args.timekeeper.now k c.args.now_us h) c.tick_accepted.ensures.given.said
 
 pub returns-clause-after : goal.returns-clause-after
 unfolding check_of
 returns-clause-after c k h =
     let t = c.args.timekeeper.now in
     let q = c.tick_accepted.new.timekeeper in
-    let new = c.tick_accepted.ensures in
+    let new = c.tick_accepted.ensures.left in
     record {
       rules = ap (λ (s : IrigSetup). rules_in s) new.setup ∙ h.rules;
       limits = ap (λ (s : IrigSetup). limits_in s) new.setup ∙ h.limits;
@@ -90,9 +95,64 @@ returns-clause-after c k h =
         ended = new.ended;
         ended_before = new.ended_before;
         absent = new.absent;
-        sealed = new.sealed;
+        sealed = c.tick_accepted.ensures.sealed;
       };
     }
+
+-- ---- whatever lies in the numbers
+
+pub returns-clause-valid : goal.returns-clause-valid
+returns-clause-valid c done = c.tick_accepted.ensures.given.valid
+
+pub returns-clause-said : goal.returns-clause-said
+returns-clause-said c done = c.tick_accepted.ensures.given.said
+
+pub returns-clause-stands : goal.returns-clause-stands
+returns-clause-stands c done = c.tick_accepted.ensures.left.stands
+
+pub returns-clause-voices : goal.returns-clause-voices
+returns-clause-voices c beat done = c.tick_accepted.ensures.given.voices beat
+
+pub returns-clause-against : goal.returns-clause-against
+returns-clause-against c beat done = c.tick_accepted.ensures.given.against beat
+
+pub returns-clause-strayed : goal.returns-clause-strayed
+returns-clause-strayed c done = c.tick_accepted.ensures.given.strays
+
+pub returns-clause-doubt : goal.returns-clause-doubt
+returns-clause-doubt c done = c.tick_accepted.ensures.given.doubt
+
+pub returns-clause-lines : goal.returns-clause-lines
+returns-clause-lines c beat done = c.tick_accepted.ensures.given.lines beat
+
+-- the value that the numbers are, of which nothing was heard
+abbrev value_of : IrigTimekeeper → Keeping
+value_of t = record {
+  rules = rules_in t.setup;
+  limits = limits_in t.setup;
+  clock = clock_in t;
+  table = table_in t.table;
+  heard = nothing_heard;
+  state = clock_state_in t;
+}
+
+-- a vote of lines has the claim
+record HasClaim (vote : Option Vote) (claim : Claim) : Type 0 where
+  pub by : Vote
+  pub is : vote ≡ Some by
+  pub claims : by.claim ≡ claim
+
+vote_for : (vote : Option Vote) (claim : Claim) → claim_voted vote ≡ Some claim → HasClaim vote claim
+vote_for None claim voted = absurd cc
+vote_for (Some vote) claim voted = record { by = vote; is = refl; claims = (let both : Some vote.claim ≡ Some claim = voted in cc) }
+
+pub returns-clause-guarded : goal.returns-clause-guarded
+returns-clause-guarded c t n claim u done sound follows voted at knows says =
+    let numbers = c.args.timekeeper.now in
+    let told = announced_beat c.tick_accepted.result (answer_in numbers c.args.now_us) u c.tick_accepted.ensures.given.said says in
+    let vote = vote_for (vote_of_lines (clock_in numbers) (clock_state_in numbers) c.args.now_us) claim voted in
+    tick_guards_vote (value_of numbers) c.args.now_us told.0 told.1.is t sound (ap (λ (prefers : ℕ). not (prefers == 0)) follows) n u (ap (λ (r : Report). r.announce) (sym told.1.told.report) ∙ says)
+    vote.by vote.is (subst (λ (x : Claim). IsSecond t n x.at) (sym vote.claims) at) (subst (λ (x : Claim). KnowsEnd t (table_in numbers.table) x.at.day) (sym vote.claims) knows)
 
 -- without a vote of lines there is none of a claim
 none_voted : (vote : Option Vote) → claim_voted vote ≡ None → vote ≡ None
@@ -107,8 +167,8 @@ silent s (Some beat) told none = ap (λ (r : Report). r.announce) told.report �
 pub returns-clause-doubted : goal.returns-clause-doubted
 returns-clause-doubted c done some alone =
     let numbers = c.args.timekeeper.now in
-    let k : Keeping = record { rules = rules_in numbers.setup; limits = limits_in numbers.setup; clock = clock_in numbers; table = table_in numbers.table; heard = nothing_heard; state = clock_state_in numbers } in
-    silent c.tick_accepted.result (answer_in numbers c.args.now_us) c.tick_accepted.ensures.said (λ b is. says_nothing k c.args.now_us b (omega (arith, some)) (none_voted (vote_of_lines (clock_in numbers) (clock_state_in numbers) c.args.now_us) alone) is)
+    let k = value_of numbers in
+    silent c.tick_accepted.result (answer_in numbers c.args.now_us) c.tick_accepted.ensures.given.said (λ b is. says_nothing k c.args.now_us b (omega (arith, some)) (none_voted (vote_of_lines (clock_in numbers) (clock_state_in numbers) c.args.now_us) alone) is)
 
 pub returns-clause-truth : goal.returns-clause-truth
 returns-clause-truth c t edges now pulses u done clock steady sound some told voted says =
@@ -117,8 +177,8 @@ returns-clause-truth c t edges now pulses u done clock steady sound some told vo
     let exact : numbers.wires.within_us ≡ (clock_in numbers).within.us = omega (arith, accepted.wires.0, accepted.wires.1.0) in
     let IsTrue : List Pulse → Type 0 = IsTrueLately numbers.wires.within_us (rules_in numbers.setup) t edges now in
     let heard = all_heard IsTrue numbers now pulses (λ ps is. record { line = is.line; next = is.next; is_line = is.is_line; are = tt }) accepted.absent some in
-    let k : Keeping = record { rules = rules_in numbers.setup; limits = limits_in numbers.setup; clock = clock_in numbers; table = table_in numbers.table; heard = nothing_heard; state = clock_state_in numbers } in
-    let found = beat_of c.tick_accepted.result (answer_in numbers c.args.now_us) c.tick_accepted.ensures.said told in
+    let k = value_of numbers in
+    let found = beat_of c.tick_accepted.result (answer_in numbers c.args.now_us) c.tick_accepted.ensures.given.said told in
     let beat = found.0 in
     let is_told = tick_voted IsTrue t edges k 0 0 (omega arith) now (pulses_there (redundancy_in numbers.setup) pulses) beat u steady
     (λ end ps claim is frame soon. true_lately k.clock.within k.rules t k.clock.drift_us edges now end ps claim steady (subst (λ (w : ℕ). IsTrueLately w (rules_in numbers.setup) t edges now ps) exact is) frame soon) sound heard
@@ -145,8 +205,8 @@ returns-clause-any_counter c t d edges now pulses u done clock steady sound some
     let exact : numbers.wires.within_us ≡ (clock_in numbers).within.us = omega (arith, accepted.wires.0, accepted.wires.1.0) in
     let IsTrue : List Pulse → Type 0 = IsTrueLately numbers.wires.within_us (rules_in numbers.setup) t edges now in
     let heard = all_heard IsTrue numbers now pulses (λ ps is. record { line = is.line; next = is.next; is_line = is.is_line; are = tt }) accepted.absent some in
-    let k : Keeping = record { rules = rules_in numbers.setup; limits = limits_in numbers.setup; clock = clock_in numbers; table = table_in numbers.table; heard = nothing_heard; state = clock_state_in numbers } in
-    let found = beat_of c.tick_accepted.result (answer_in numbers c.args.now_us) c.tick_accepted.ensures.said told in
+    let k = value_of numbers in
+    let found = beat_of c.tick_accepted.result (answer_in numbers c.args.now_us) c.tick_accepted.ensures.given.said told in
     let beat = found.0 in
     let far = vote_us numbers.wires.within_us d in
     let is_told = tick_voted_by IsTrue t edges k d 0 0 (omega arith) now (pulses_there (redundancy_in numbers.setup) pulses) beat u steady
@@ -178,7 +238,7 @@ pub returns-clause-lived : goal.returns-clause-lived
 returns-clause-lived c made past now h clock =
     let t = c.args.timekeeper.now in
     lived_tick t _ made past c.args.now_us now c.tick_accepted.result (redundancy_in t.setup) (sense_in t.setup.sense) (frames_in t.lines)
-    c.tick_accepted.ensures.said c.tick_accepted.ensures.voices (returns-clause-second c) (returns-clause-after c) h clock
+    c.tick_accepted.ensures.given.said c.tick_accepted.ensures.given.voices (returns-clause-second c) (returns-clause-after c) h clock
 
 pub returns-clause-none_apart : goal.returns-clause-none_apart
 returns-clause-none_apart c t edges made start now line past done h clock well low truly =
@@ -186,8 +246,8 @@ returns-clause-none_apart c t edges made start now line past done h clock well l
     let lived = returns-clause-lived c made past now h clock in
     let after : ClockState = (life_of (made_with made lived.lines lived.fresh) (Tick now ∷ calls_of past)).state in
     let rules_are = h.is.clock ∙ (as_made (device_of (made_with made h.lines h.fresh)) (calls_of past)).clock in
-    in_no_mask c.tick_accepted.result (answer_in numbers c.args.now_us) made.clock after line low c.tick_accepted.ensures.said
-    (λ beat is. c.tick_accepted.ensures.lines beat is ∙ (ap (λ (r : ClockRules). masks_of r (clock_state_in c.tick_accepted.new.timekeeper)) rules_are ∙ ap (λ (s : ClockState). masks_of made.clock s) lived.is.state))
+    in_no_mask c.tick_accepted.result (answer_in numbers c.args.now_us) made.clock after line low c.tick_accepted.ensures.given.said
+    (λ beat is. c.tick_accepted.ensures.given.lines beat is ∙ (ap (λ (r : ClockRules). masks_of r (clock_state_in c.tick_accepted.new.timekeeper)) rules_are ∙ ap (λ (s : ClockState). masks_of made.clock s) lived.is.state))
     (true_at_tick (IsTrueLately made.clock.within.us) t edges (made_with made lived.lines lived.fresh) start now (calls_of past) (record { is = well.is; order = well.order; truth = well.truth })
     (λ now end pulses claim is frame soon. true_lately made.clock.within made.rules t made.clock.drift_us edges now end pulses claim well.is.steady is frame soon) line low truly)
 
@@ -252,7 +312,7 @@ returns-then-not-is_accepted-clause-strays c t edges made start now past h clock
 pub returns-clause-strays : goal.returns-clause-strays
 returns-clause-strays c t edges made start now past h clock well =
     let lived = returns-clause-lived c made past now h clock in
-    c.tick_accepted.ensures.strays ∙ of (c.tick_accepted.result.is_told == 0)
+    c.tick_accepted.ensures.given.strays ∙ of (c.tick_accepted.result.is_told == 0)
     (ap (λ (s : ClockState). s.strays) lived.is.state
     ∙ never_strays t edges (made_with made lived.lines lived.fresh) start (Tick now ∷ calls_of past) (record { is = well.is; order = well.order; truth = well.truth }))
   where

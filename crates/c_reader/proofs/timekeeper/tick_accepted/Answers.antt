@@ -1,36 +1,29 @@
-use Rattle.std.proofs.Common.{◌≡◌, ◌∙◌, Option, Some, None, sym, subst}
-use Rattle.irig_timekeeper.specs.declared.clock.Beat.{Beat}
 use Rattle.c_keeper.specs.CheckWord.{check_of}
-use Rattle.c_keeper.specs.Seconds.{IsSecondOf}
-use Rattle.c_keeper.specs.Timekeepers.{answer_in}
+use Rattle.c_keeper.proofs.TickLaws.{given_at_rest, given_checked, left_at_rest, left_checked}
 use Rattle.c_reader.proofs.timekeeper.tick_accepted.Goals as goal
 
 -- ---- nothing to do
 
-nothing : (answer : Option Beat) (beat : Beat) → answer ≡ None → answer ≡ Some beat → ⊥
-nothing answer beat none some = (let is : None ≡ Some beat = sym none ∙ some in absurd cc)
+pub returns-then-is_quiet-clause-given : goal.returns-then-is_quiet-clause-given
+returns-then-is_quiet-clause-given c =
+    given_at_rest c.args.timekeeper.now c.args.now_us c.nothing_told.result (c.is_quiet.ensures.rest c.requires.accepted.known c.if-is_quiet.true) c.nothing_told.ensures
 
-pub returns-then-is_quiet-clause-said : goal.returns-then-is_quiet-clause-said
-returns-then-is_quiet-clause-said c =
-    let rest = c.is_quiet.ensures.rest c.requires.accepted.known c.if-is_quiet.true in
-    subst (λ (answer : Option Beat). IsSecondOf c.nothing_told.result answer) (sym rest.answer) c.nothing_told.ensures
+pub returns-then-is_quiet-clause-left : goal.returns-then-is_quiet-clause-left
+returns-then-is_quiet-clause-left c =
+    left_at_rest c.args.timekeeper.now c.args.now_us (c.is_quiet.ensures.rest c.requires.accepted.known c.if-is_quiet.true) c.requires.accepted
 
-pub returns-then-is_quiet-clause-stands : goal.returns-then-is_quiet-clause-stands
-returns-then-is_quiet-clause-stands c = sym (c.is_quiet.ensures.rest c.requires.accepted.known c.if-is_quiet.true).state
-
-pub returns-then-is_quiet-clause-voices : goal.returns-then-is_quiet-clause-voices
-returns-then-is_quiet-clause-voices c beat is =
-    absurd (nothing (answer_in c.args.timekeeper.now c.args.now_us) beat (c.is_quiet.ensures.rest c.requires.accepted.known c.if-is_quiet.true).answer is)
-
-pub returns-then-is_quiet-clause-against : goal.returns-then-is_quiet-clause-against
-returns-then-is_quiet-clause-against c beat is =
-    absurd (nothing (answer_in c.args.timekeeper.now c.args.now_us) beat (c.is_quiet.ensures.rest c.requires.accepted.known c.if-is_quiet.true).answer is)
-
-pub returns-then-is_quiet-clause-lines : goal.returns-then-is_quiet-clause-lines
-returns-then-is_quiet-clause-lines c beat is =
-    absurd (nothing (answer_in c.args.timekeeper.now c.args.now_us) beat (c.is_quiet.ensures.rest c.requires.accepted.known c.if-is_quiet.true).answer is)
+pub returns-then-is_quiet-clause-sealed : goal.returns-then-is_quiet-clause-sealed
+returns-then-is_quiet-clause-sealed c = c.requires.accepted.sealed
 
 -- ---- something to do
+
+pub returns-clause-given : goal.returns-clause-given
+returns-clause-given c =
+    given_checked c.args.timekeeper.now c.tick_at_work-second.new.timekeeper c.args.now_us c.check_of-timekeeper.result c.tick_at_work-second.result c.tick_at_work-second.ensures.given
+
+pub returns-clause-left : goal.returns-clause-left
+returns-clause-left c =
+    left_checked c.args.timekeeper.now c.tick_at_work-second.new.timekeeper c.args.now_us c.check_of-timekeeper.result c.tick_at_work-second.ensures.left
 
 pub returns-clause-sealed : goal.returns-clause-sealed
 unfolding check_of

@@ -19,6 +19,7 @@ use Rattle.c_keeper.specs.Seconds.{against_at, IsSecondOf}
 use Rattle.c_keeper.specs.States.{masks_of}
 use Rattle.c_keeper.specs.Timekeepers.{answer_in, clock_in, clock_state_in, state_behind, unread, vote_in}
 use Rattle.c_keeper.proofs.KeptLaws.{kept_by_tick}
+use Rattle.c_keeper.proofs.TickLaws.{before_kept, bound_kept, ended_before_kept, ended_kept, known_kept, last_kept}
 use Rattle.c_keeper.proofs.UnreadLaws.{after_unread, answer_unread, read_again}
 use Rattle.c_keeper.proofs.ValueLaws.{valid_told}
 use Rattle.c_reader.proofs.timekeeper.tick_at_work.Goals as goal
@@ -45,49 +46,58 @@ stands t new now left is rest lines = read_again (clock_state_in new) left (stat
 
 -- ---- what it says
 
-pub returns-clause-said : goal.returns-clause-said
-returns-clause-said c =
-    subst (λ (beat : Option Beat). IsSecondOf c.second_of.result beat)
-    (c.tick-ticked.ensures.answer ∙ answers c.args.timekeeper.now c.args.now_us c.clock_rules_of-rules.result c.unread_state_of-state.result c.clock_rules_of-rules.ensures c.unread_state_of-state.ensures.is)
-    c.second_of.ensures.told
-
-pub returns-clause-valid : goal.returns-clause-valid
-returns-clause-valid c = valid_told c.second_of.result c.tick-ticked.result.beat c.second_of.ensures.told c.tick-ticked.ensures.said
-
-pub returns-clause-voices : goal.returns-clause-voices
-returns-clause-voices c beat is =
+pub returns-clause-given : goal.returns-clause-given
+returns-clause-given c =
     let t = c.args.timekeeper.now in
-    let answer = c.tick-ticked.ensures.answer ∙ answers t c.args.now_us c.clock_rules_of-rules.result c.unread_state_of-state.result c.clock_rules_of-rules.ensures c.unread_state_of-state.ensures.is in
-    let vote = c.tick-ticked.ensures.vote ∙ votes t c.args.now_us c.clock_rules_of-rules.result c.unread_state_of-state.result c.clock_rules_of-rules.ensures c.unread_state_of-state.ensures.is in
-    c.second_of.ensures.voices beat (answer ∙ is)
-    ∙ (ap (λ (s : IrigSetup). voices_to c.tick-ticked.result.vote beat.told (redundancy_in s) (sense_in s.sense) (frames_in c.keep.new.timekeeper.lines)) c.keep.ensures.setup
-    ∙ (ap (λ (frames : List Tally). voices_to c.tick-ticked.result.vote beat.told (redundancy_in t.setup) (sense_in t.setup.sense) frames) c.keep.ensures.frames
-    ∙ ap (λ (v : Option Claim). voices_to v beat.told (redundancy_in t.setup) (sense_in t.setup.sense) (frames_in t.lines)) vote))
-
-pub returns-clause-against : goal.returns-clause-against
-returns-clause-against c beat is =
-    let t = c.args.timekeeper.now in
-    let answer = c.tick-ticked.ensures.answer ∙ answers t c.args.now_us c.clock_rules_of-rules.result c.unread_state_of-state.result c.clock_rules_of-rules.ensures c.unread_state_of-state.ensures.is in
-    c.second_of.ensures.against beat (answer ∙ is)
-    ∙ (ap (λ (s : IrigSetup). against_at c.held_by-held.result beat (redundancy_in s)) c.keep.ensures.setup
-    ∙ ap (λ (held : Option UtcSecond). against_at held beat (redundancy_in t.setup))
-    (c.held_by-held.ensures ∙ ap (λ (s : ClockState). held_by s.reader) c.unread_state_of-state.ensures.is))
+    let q = c.keep.new.timekeeper in
+    let rules = c.clock_rules_of-rules in
+    let read = c.unread_state_of-state in
+    let ticked = c.tick-ticked in
+    let second = c.second_of in
+    let answer = ticked.ensures.answer ∙ answers t c.args.now_us rules.result read.result rules.ensures read.ensures.is in
+    let vote = ticked.ensures.vote ∙ votes t c.args.now_us rules.result read.result rules.ensures read.ensures.is in
+    record {
+      said = subst (λ (beat : Option Beat). IsSecondOf second.result beat) answer second.ensures.told;
+      valid = valid_told second.result ticked.result.beat second.ensures.told ticked.ensures.said;
+      voices = λ beat is.
+          second.ensures.voices beat (answer ∙ is)
+          ∙ (ap (λ (s : IrigSetup). voices_to ticked.result.vote beat.told (redundancy_in s) (sense_in s.sense) (frames_in q.lines)) c.keep.ensures.setup
+          ∙ (ap (λ (frames : List Tally). voices_to ticked.result.vote beat.told (redundancy_in t.setup) (sense_in t.setup.sense) frames) c.keep.ensures.frames
+          ∙ ap (λ (v : Option Claim). voices_to v beat.told (redundancy_in t.setup) (sense_in t.setup.sense) (frames_in t.lines)) vote));
+      against = λ beat is.
+          second.ensures.against beat (answer ∙ is)
+          ∙ (ap (λ (s : IrigSetup). against_at c.held_by-held.result beat (redundancy_in s)) c.keep.ensures.setup
+          ∙ ap (λ (held : Option UtcSecond). against_at held beat (redundancy_in t.setup))
+          (c.held_by-held.ensures ∙ ap (λ (s : ClockState). held_by s.reader) read.ensures.is));
+      strays = second.ensures.strays;
+      doubt = second.ensures.doubt;
+      lines = λ beat is. second.ensures.lines beat (answer ∙ is) ∙ ap (λ (r : ClockRules). masks_of r (clock_state_in q)) rules.ensures;
+    }
 
 -- ---- where it then stands
 
-pub returns-clause-stands : goal.returns-clause-stands
-returns-clause-stands c =
+pub returns-clause-left : goal.returns-clause-left
+returns-clause-left c =
     let t = c.args.timekeeper.now in
-    let left = c.tick-ticked.ensures.after ∙ leaves t c.args.now_us c.clock_rules_of-rules.result c.unread_state_of-state.result c.clock_rules_of-rules.ensures c.unread_state_of-state.ensures.is in
-    stands t c.keep.new.timekeeper c.args.now_us c.tick-ticked.new.state left c.keep.ensures.rest
-    (c.keep.ensures.lines (state_behind t c.args.now_us).lines (kept_by_tick (clock_in t) (table_in t.table) (clock_state_in t) c.args.now_us) (sym (ap (λ (s : ClockState). s.lines) left)))
-
-pub returns-clause-lines : goal.returns-clause-lines
-returns-clause-lines c beat is =
-    let t = c.args.timekeeper.now in
-    let answer = c.tick-ticked.ensures.answer ∙ answers t c.args.now_us c.clock_rules_of-rules.result c.unread_state_of-state.result c.clock_rules_of-rules.ensures c.unread_state_of-state.ensures.is in
-    c.second_of.ensures.lines beat (answer ∙ is)
-    ∙ ap (λ (r : ClockRules). masks_of r (clock_state_in c.keep.new.timekeeper)) c.clock_rules_of-rules.ensures
-
-pub returns-clause-absent : goal.returns-clause-absent
-returns-clause-absent c = subst (λ (s : IrigSetup). KeepNoMore (ports_in (redundancy_in s)) c.keep.new.timekeeper.lines) (sym c.keep.ensures.setup) (c.keep.ensures.absent _ c.requires.absent)
+    let q = c.keep.new.timekeeper in
+    let state = c.tick-ticked.new.state in
+    let kept = c.keep.ensures in
+    let left = c.tick-ticked.ensures in
+    let is = left.after ∙ leaves t c.args.now_us c.clock_rules_of-rules.result c.unread_state_of-state.result c.clock_rules_of-rules.ensures c.unread_state_of-state.ensures.is in
+    let announced = left.announced c.unread_state_of-state.ensures.announced in
+    record {
+      setup = kept.setup;
+      table = kept.table;
+      wires = kept.wires;
+      stands = stands t q c.args.now_us state is kept.rest
+          (kept.lines (state_behind t c.args.now_us).lines (kept_by_tick (clock_in t) (table_in t.table) (clock_state_in t) c.args.now_us) (sym (ap (λ (s : ClockState). s.lines) is)));
+      heard = kept.heard;
+      bound = bound_kept q state kept.rest left.small;
+      known = known_kept q state kept.rest left.known;
+      is_state = kept.is_state;
+      last = last_kept q state kept.rest announced;
+      before = before_kept q state kept.rest announced;
+      ended = ended_kept q state kept.rest left.ended;
+      ended_before = ended_before_kept q state kept.rest left.ended;
+      absent = subst (λ (s : IrigSetup). KeepNoMore (ports_in (redundancy_in s)) q.lines) (sym kept.setup) (kept.absent _ c.requires.absent);
+    }
