@@ -173,7 +173,9 @@ typedef struct irig_setup {
                           * IRIG_FAULT_EARLY. With the day of a firmware's making, no clock that
                           * sends no year has a vote and, for 19 years, none whose count of GPS
                           * weeks began anew */
-    uint8_t poor_from;   /* the quality from which a frame has no vote, 1 to 10; 0 is 10 */
+    uint8_t poor_from;   /* the quality from which a frame has no vote. Of a reader it is 1 to 10, and
+                          * 0 is 10. Of a timekeeper it is 1 to 8, and 0 is 7: by 7 a clock has none
+                          * that says of itself that it may be 1 ms off, by 8 one that may be 10 ms */
 } irig_setup;
 IRIG_ASSERT((sizeof(irig_setup) == 16u) && (offsetof(irig_setup, holdover) == 8u) &&
             (offsetof(irig_setup, not_before) == 12u) && (offsetof(irig_setup, poor_from) == 14u));
@@ -686,10 +688,10 @@ void irig_reader_restart(irig_reader *reader);
 uint32_t irig_reader_port(const irig_reader *reader, uint8_t port, irig_told *told);
 
 /* Makes a timekeeper to which nothing has happened, with such wires. Setup, table and wires must not
- * be those in it. IRIG_FAULT_VALUE, also if a number of the wires is out of its range;
- * IRIG_FAULT_TABLE_END to IRIG_FAULT_TABLE_TWICE; IRIG_FAULT_DRIFT if (holdover + 2) * drift_us is
- * above 490,000, as the counter could be half a second wrong by then. At 100 us a holdover may be
- * 4,898 seconds, at 10 us 48,998, at 1 us 489,998. */
+ * be those in it. IRIG_FAULT_VALUE, also if `poor_from` is above 8, or a number of the wires is out
+ * of its range; IRIG_FAULT_TABLE_END to IRIG_FAULT_TABLE_TWICE; IRIG_FAULT_DRIFT if
+ * (holdover + 2) * drift_us is above 490,000, as the counter could be half a second wrong by then.
+ * At 100 us a holdover may be 4,898 seconds, at 10 us 48,998, at 1 us 489,998. */
 uint32_t irig_timekeeper_init(irig_timekeeper *timekeeper, const irig_setup *setup,
                               const irig_table *table, const irig_wires *wires);
 

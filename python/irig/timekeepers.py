@@ -151,6 +151,8 @@ class Timekeeper(Ruled):
         4,000, below 0 if it is early: this is taken off
     prefers_frames: whether it follows the frames where they contradict its leap table on a leap second.
         Else it is silent at the second where the two part, and locks anew
+    poor_from: the time quality from which a frame has no vote, 1 to 8. By 7 a clock has none that says
+        of itself that it may be 1 ms off, and by 8 one that may be 10 ms off
 
     What else it takes is what a `Reader` takes, and a port is a line.
     """
@@ -173,10 +175,11 @@ class Timekeeper(Ruled):
         until: Optional[Day] = None,
         leaps: Iterable[Leap] = (),
         not_before: Optional[Day] = None,
-        poor_from: int = 10,
+        poor_from: int = 7,
     ) -> None:
+        poor = within("poor_from", poor_from, 1, 8)
         setup = setup_of(
-            lock_after, holdover, ports, parity, sense, sbs, not_before, poor_from
+            lock_after, holdover, ports, parity, sense, sbs, not_before, poor
         )
         exact, drift = within("within_us", within_us, 1, 450), within("drift_us", drift_us, 0, 100)
         delays = [within("delay_us", delay, -4000, 4000) for delay in delay_us]

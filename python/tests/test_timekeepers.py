@@ -99,6 +99,18 @@ class Ticks(unittest.TestCase):
         held = told(keeper, 2_005_000).report
         self.assertEqual((held.agreed, held.quality, held.zone), ((), 15, None))
 
+    def test_clocks_that_say_that_they_are_off(self) -> None:
+        """Without a setting quality 7 has no vote, which is 1 ms, and by no setting has 8, which is 10 ms."""
+        for words, quality, has_vote in (
+            ({}, 6, True), ({}, 7, False), ({"poor_from": 8}, 7, True), ({"poor_from": 8}, 8, False),
+            ({"poor_from": 1}, 0, True), ({"poor_from": 1}, 1, False),
+        ):  # fmt: skip
+            keeper = Timekeeper(1, drift_us=0, **words)
+            hear_frame(keeper, irig.frame("2016-12-31T12:00:00Z", quality=quality), 0, 0, 1, 2)
+            state = "unjudged" if has_vote else "poor"
+            self.assertEqual([keeper.line(line).state for line in range(3)], [state] * 3)
+            self.assertEqual(keeper.tick(1_000_000) is not None, has_vote)
+
     def test_an_edge_that_lines_move(self) -> None:
         """The own one lies 11 ms before theirs, and is told 4 ms before their last pulse ends."""
         keeper, frame = self.voted(), irig.widths(irig.frame("2017-01-01T00:00:00Z"))
@@ -303,6 +315,8 @@ class Refusals(unittest.TestCase):
             ({"within_us": 0}, "within_us is 0; 1 to 450 may stand here"),
             ({"within_us": 451}, "within_us is 451; 1 to 450 may stand here"),
             ({"within_us": 65_537}, "within_us is 65537; 1 to 450 may stand here"),
+            ({"poor_from": 0}, "poor_from is 0; 1 to 8 may stand here"),
+            ({"poor_from": 9}, "poor_from is 9; 1 to 8 may stand here"),
         ):
             self.says(f"26 Value: {says}", **{"drift_us": 10, **words})
         self.assertRaisesRegex(TypeError, "drift_us", Timekeeper)

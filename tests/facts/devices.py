@@ -5,7 +5,7 @@ from collections.abc import Iterator
 from dataclasses import dataclass, replace
 from random import Random
 
-from model.device import SECOND, WRAP, Beat, Device, Rate, Stamp
+from model.device import POOR_FROM, SECOND, WRAP, Beat, Device, Rate, Stamp
 from model.frames import Parity, Rules, Sense, symbol_of
 from model.generator import Generator, GeneratorFault, Zone, sent
 from model.reader import ReaderRules
@@ -193,7 +193,8 @@ def made(device: Device) -> Antt:
              "prefers_frames": device.prefers_frames}
     clock = record(reader_rules=device.reader_rules, redundancy=v.ports(device.redundancy), **exact)
     lines = {"lines": Antt("new_lines"), "fresh": Antt("are_new")}
-    return record(limits=Antt("None"), rules=device.rules, clock=clock, table=device.table or Table(0, ()), **lines)
+    limits = some(record(not_before=0, poor_from=POOR_FROM))
+    return record(limits=limits, rules=device.rules, clock=clock, table=device.table or Table(0, ()), **lines)
 
 
 # A life in parts, each of calls, the newest first, with a tick behind them and an event: what the tick answers, how

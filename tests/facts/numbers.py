@@ -41,7 +41,7 @@ def random_setup(random: Random) -> tuple[Antt, Antt]:
     rules, ports = Rules(parity, sense, random.random() < 0.5), random.choice(list(PORTS))
     reader_rules = ReaderRules(random.randint(1, 60), random.randint(0, 1_000_000))
     not_before = random.choice((0, random.randint(1, LAST_DAY)))
-    poor_from = random.choice((0, 0, random.randint(1, 10)))
+    poor_from = random.choice((0, 0, random.randint(1, 8)))
     days = random.sample(MONTH_ENDS, random.randint(0, 4))
     leaps = [(day, random.choice((Mark.INSERT, Mark.DELETE))) for day in days]
     count, until = random.randint(0, len(leaps)), random.randint(0, LAST_DAY)
@@ -57,7 +57,7 @@ def random_setup(random: Random) -> tuple[Antt, Antt]:
     table = record(until=until, len=count, leaps=numbers)
     prefers = random.choice((0, 0, 1, random.randrange(256)))
     wires = record(within_us=within, drift_us=drift, delays=late, prefers_frames=prefers)
-    limits = record(not_before=not_before, poor_from=poor_from or 10) if not_before or poor_from else None
+    limits = record(not_before=not_before, poor_from=poor_from or 7)
     exact = {"within": Antt(f"within_of {within}"), "drift_us": drift, "delays": late, "prefers_frames": prefers != 0}
     clock = record(reader_rules=reader_rules, redundancy=v.ports(ports), **exact)
     made = record(limits=some(limits), rules=rules, clock=clock, table=Table(until, tuple(leaps[:count])))

@@ -16,7 +16,7 @@ static content saying_of(line *l, const sky *s, const lie *told) {
         what.is_delete = what.pending ? !what.is_delete && told->by % 2 : told->by % 2;
         what.pending = !what.pending || what.is_delete;
     }
-    if (told->saying == SAYS_POOR) what.quality = told->poor ? told->poor : 10 + below(luck, 6);
+    if (told->saying == SAYS_POOR) what.quality = told->poor ? told->poor : poor_quality(w, luck);
     if (told->saying == SAYS_ANY) what.at = (utc){1 + below(luck, LAST_DAY), below(luck, DAY_S)};
     return what;
 }

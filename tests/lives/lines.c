@@ -36,11 +36,12 @@ static bool is_dark(const line *l, const sky *s) {
     return false;
 }
 
-/* Which pulses of a frame are lost: none, one, some in a row, or each one by chance. */
-static void lose_pulses(line *l) {
+/* Which pulses of a frame are lost: none, one, some in a row, or each one by chance; or whether it is
+ * poor in place of that. */
+static bool lose_pulses(line *l) {
     l->lost_from = l->lost_to = ELEMENTS;
     l->lost_one_in = 0;
-    if (l->harm_one_in == 0 || !is_once_in(&l->luck, l->harm_one_in)) return;
+    if (l->harm_one_in == 0 || !is_once_in(&l->luck, l->harm_one_in)) return false;
     switch (below(&l->luck, 4)) {
     case 0:
         l->lost_from = below(&l->luck, ELEMENTS);
@@ -51,19 +52,20 @@ static void lose_pulses(line *l) {
         l->lost_to = l->lost_from + 1 + below(&l->luck, ELEMENTS);
         break;
     case 2: l->lost_one_in = 1 + below(&l->luck, 50); break;
-    default: l->is_claim = false; /* poor instead */
+    default: return true;
     }
+    return false;
 }
 
 /* Makes the frame in which the line stands, or goes on to the next one that is not dark. */
 static void make_frame(line *l, const sky *s) {
     while (l->frame < s->world->seconds && is_dark(l, s)) l->frame++;
     utc at = second_at(s->world, l->frame);
-    l->is_claim = at.day <= LAST_DAY;
-    lose_pulses(l);
+    bool is_poor = lose_pulses(l);
     content what = true_content(s->world, at, l->zone);
     what.dst = l->dst;
-    what.quality = l->is_claim || at.day > LAST_DAY ? l->quality : 10 + below(&l->luck, 6);
+    what.quality = is_poor ? poor_quality(s->world, &l->luck) : l->quality;
+    l->is_claim = at.day <= LAST_DAY && what.quality < s->world->poor_from;
     l->symbols = encode(&what, s->world->is_odd, s->world->is_subtracted);
 }
 

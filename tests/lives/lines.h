@@ -55,7 +55,7 @@ typedef struct lie {
     aim aim;
     harm harm;
     int32_t by;       /* seconds off of SAYS_OTHER */
-    uint32_t poor;    /* the quality of SAYS_POOR, or 0 for any from 10 on */
+    uint32_t poor;    /* the quality of SAYS_POOR, or 0 for any that has no vote */
     int32_t shift_us; /* of the first frame's end */
     int32_t rate_us;  /* of WALKING, a second */
     uint32_t spacing_us;

@@ -39,6 +39,9 @@ static void plan_setup(life *l, chance *luck) {
         .lock_after = (uint8_t)ONE_OF(luck, 1, 1, 2, 2, 3, 3, 3, 4, 5, 5, 9, 20),
         .holdover = holdover,
     };
+    int32_t any = 1 + (int32_t)below(luck, 8);
+    l->setup.poor_from = (uint8_t)ONE_OF(luck, 0, 0, 0, 7, 8, any);
+    l->world.poor_from = l->setup.poor_from > 0 ? l->setup.poor_from : 7;
     l->world.is_odd = l->setup.parity == IRIG_PARITY_ODD;
     l->world.is_subtracted = l->setup.sense == IRIG_SENSE_SUBTRACT;
 }
@@ -112,14 +115,15 @@ void begin_lines(life *l, uint64_t start_us, walk kind, chance *luck) {
 }
 
 /* Half of them are of one zone. */
-static void plan_line(line *l, int32_t most_us, int32_t zone, chance *luck) {
+static void plan_line(line *l, const world *w, int32_t zone, chance *luck) {
+    int32_t most_us = jitter_us(w);
     l->spread = (spread)below(luck, SPREADS);
     l->offset_us = is_once_in(luck, 2) ? (is_once_in(luck, 2) ? -most_us : most_us)
                                        : between(luck, -most_us, most_us);
     l->width = (width)below(luck, WIDTHS);
     l->zone = is_once_in(luck, 2) ? zone : between(luck, -31, 31);
     l->dst = is_once_in(luck, 4);
-    l->quality = below(luck, 10);
+    l->quality = below(luck, w->poor_from);
     l->harm_one_in = (uint32_t)ONE_OF(luck, 0, 0, 4, 15, 60);
 }
 
@@ -348,7 +352,7 @@ void plan(life *l, uint64_t seed, uint64_t number) {
     begin_lines(l, plan_start(l, &luck), kind_of_walk, &luck);
     int32_t zone = between(&luck, -31, 31);
     for (int i = 0; i < l->sky.lines; i++)
-        plan_line(&l->sky.line[i], jitter_us(&l->world), zone, &luck);
+        plan_line(&l->sky.line[i], &l->world, zone, &luck);
     if (is_turn) plan_turn(l, &luck);
     else if (is_long) plan_long(l, &luck);
     else plan_short(l, &luck);

@@ -30,6 +30,7 @@ static void begin_drifting(life *l, uint32_t seconds, uint32_t drift_us) {
     l->world.leap_day = -1;
     l->world.leap = 0;
     memset(l->world.delay_us, 0, sizeof l->world.delay_us);
+    l->world.poor_from = 7;
     l->world.prefers_frames = false;
     l->judge.is_beyond = false;
     l->judge.earliest = 0;
@@ -243,6 +244,27 @@ static bool holdover_is_bounded(life *l, const subject *s) {
         if (s->begin(&l->setup, &l->table, &TRIED[i].wires, 0) != TRIED[i].answer) return false;
     }
     return true;
+}
+
+/* No clock that says that it may be 10 ms off can be given a vote. */
+static bool poor_from_is_bounded(life *l, const subject *s) {
+    irig_wires wires = {450, 100, {0}, 0};
+    begin_row(l, 1);
+    for (uint32_t from = 0; from <= UINT8_MAX; from++) {
+        l->setup.poor_from = (uint8_t)from;
+        uint32_t wanted = from <= 8 ? IRIG_DONE : IRIG_FAULT_VALUE;
+        if (s->begin(&l->setup, &l->table, &wires, 0) != wanted) return false;
+    }
+    return true;
+}
+
+/* One that says that it may be 1 ms off has a vote if the setup has 8, and else none. */
+static bool clocks_are_a_millisecond_off(life *l, const subject *s) {
+    begin_row(l, 20);
+    l->setup.poor_from = (uint8_t)given;
+    l->world.poor_from = given == 0 ? 7 : given;
+    for (int i = 0; i < 3; i++) l->sky.line[i].quality = 7;
+    return given == 8 ? all_voted(l, s) : goes_right(l, s) && l->tolds == 0;
 }
 
 /* A call some microseconds behind one of a later time answers nothing; what follows is right. */
@@ -629,7 +651,6 @@ static const struct trouble {
 
 static bool is_said(life *l, const subject *s, const struct trouble *t, int32_t by) {
     begin_straying(l, t->seconds, 100);
-    l->setup.poor_from = 7;
     let_happen(l, &t->first, by);
     let_happen(l, &t->second, 0);
     if (!goes_right(l, s) || !was_calm(l)) return false;
@@ -1007,6 +1028,9 @@ static const struct {
     {"a liar agrees alone", liar_agrees_alone, 0, OF_ALL},
     {"two lines tell two times", two_tell_two_times, 0, OF_ALL},
     {"the holdover is bounded", holdover_is_bounded, 0, OF_ALL},
+    {"a limit of quality is bounded", poor_from_is_bounded, 0, OF_ALL},
+    {"clocks are a millisecond off", clocks_are_a_millisecond_off, 0, OF_ALL},
+    {"clocks are a millisecond off, and may be", clocks_are_a_millisecond_off, 8, OF_ALL},
     {"a call out of order", call_out_of_order, 0, OF_ANY_TICKS},
     {"rotating liars", rotating_liars, 0, OF_ALL},
     {"a liar begins at the edge", liar_begins_at_the_edge, 0, OF_ALL},

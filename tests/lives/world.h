@@ -85,6 +85,7 @@ typedef struct world {
     int64_t leap_day;           /* at whose end a leap comes, or none */
     int leap;                   /* 1 inserted, -1 deleted, 0 none */
     bool is_odd, is_subtracted; /* parity and sense */
+    uint32_t poor_from;         /* the quality from which a frame has no vote */
     bool prefers_frames;        /* to its table, on leap seconds: what a device is told */
 } world;
 
@@ -98,6 +99,11 @@ static inline uint64_t element_us(const world *w, uint32_t second, unsigned elem
 
 /* How far from its time a true pulse rises at most. */
 static inline int32_t jitter_us(const world *w) { return (int32_t)w->within_us - 1; }
+
+/* A quality by which a frame has no vote. */
+static inline uint32_t poor_quality(const world *w, chance *luck) {
+    return w->poor_from + below(luck, 16 - w->poor_from);
+}
 
 /* The last edge at or before a time, or 0. */
 uint32_t edge_before(const world *w, uint64_t time_us);

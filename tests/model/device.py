@@ -19,6 +19,7 @@ LONGEST = 980_000  # what is known of an edge is forgotten if it is longer
 AHEAD = 14_000  # how far ahead of a tick a frame may end
 SEEN = 1_500_000  # how long behind its end a frame says what its line is
 BETWEEN = 990_000  # from the first pulse of a frame to its last one
+POOR_FROM = 7  # from this quality on a frame has no vote, unless the setup says otherwise
 MOST_DOUBT = 1_000  # as many seconds at most have to be voted behind a stray
 RENEWED = 1_000  # so many seconds behind one anchor the next is set
 OLDEST = 2_000  # so many seconds behind it an anchor is dropped
@@ -127,7 +128,7 @@ class Line:
             self.symbols += symbol
         if self.place == 100:
             is_even = abs(since(self.begin, rise) - BETWEEN) <= uneven
-            self.frame = self.seen = Frame(told(rules, self.symbols), (rise + ELEMENT) % WRAP, is_even)
+            self.frame = self.seen = Frame(told(rules, self.symbols, POOR_FROM), (rise + ELEMENT) % WRAP, is_even)
         return self.place
 
     def kept(self, now: int) -> Frame | None:

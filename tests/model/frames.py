@@ -72,7 +72,7 @@ class Coded:
 
 @dataclass(frozen=True)
 class Poor:
-    """What a port tells of a frame of quality 10 to 15 (docs/READER.md, A port)."""
+    """What a port tells of a frame without a vote: of quality 10 to 15 (docs/READER.md), of a timekeeper 7 to 15."""
 
     quality: int
 
@@ -175,8 +175,9 @@ def claim_of_coded(coded: Coded, sense: Sense) -> Claim | Fault:
 
 
 @lru_cache(maxsize=4096)
-def told(rules: Rules, symbols: str) -> Told:
-    """What a port tells, by the first of eight lines (docs/READER.md, A port)."""
+def told(rules: Rules, symbols: str, poor_from: int = 10) -> Told:
+    """What a port tells, by the first of eight lines (docs/READER.md, A port), if from this quality on a frame has no
+    vote."""
     if not symbols:
         return None
     if fault := element_fault(symbols):
@@ -191,7 +192,7 @@ def told(rules: Rules, symbols: str) -> Told:
         return Fault(18)
     claim = claim_of_coded(coded, rules.sense)
     quality = control_of(coded.control).quality
-    return Poor(quality) if isinstance(claim, Claim) and quality >= 10 else claim
+    return Poor(quality) if isinstance(claim, Claim) and quality >= poor_from else claim
 
 
 def word_of_port(word: Fault | Poor | None) -> str:

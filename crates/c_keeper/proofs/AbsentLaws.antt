@@ -13,7 +13,7 @@ use Rattle.irig_lines.specs.declared.lines.KeptClaim.{KeptClaim}
 use Rattle.irig_lines.specs.Lines.{IfKept, IsInTurnOf}
 use Rattle.irig_lines.specs.Steps.{claim_kept, line_at}
 use Rattle.irig_timekeeper.specs.Truth.{AreHeardTruly}
-use Rattle.c_numbers.specs.Setups.{limits_in, redundancy_in, rules_in}
+use Rattle.c_numbers.specs.Setups.{keeper_limits_in, redundancy_in, rules_in}
 use Rattle.c_lines.specs.declared.line.IrigLine.{IrigLine}
 use Rattle.c_lines.specs.declared.line.IrigLines.{IrigLines}
 use Rattle.c_keeper.specs.declared.timekeeper.IrigTimekeeper.{IrigTimekeeper}
@@ -78,7 +78,7 @@ kept_nothing : (EndsSo : ℕ → Type 0) (within d : ℕ) (rules : Rules) (kept 
 kept_nothing EndsSo within d rules kept pulses none = subst (λ (o : Option KeptClaim). IfKept EndsSo within d rules o pulses) (sym none) tt
 
 pub all_heard : (IsTrue : List Pulse → Type 0) (t : IrigTimekeeper) (now : ℕ) (pulses : ℕ → List Pulse) → ((ps : List Pulse) → IsTrue ps → IsTrue []) → KeepNoMore (ports_in (redundancy_in t.setup)) t.lines → HeardTruly IsTrue t now pulses
-    → AreHeardTruly IsTrue (clock_in t).within.us (clock_in t).drift_us (rules_in t.setup) (f_of (redundancy_in t.setup)) now (lines_in (limits_in t.setup) (rules_in t.setup) t.lines) (pulses_there (redundancy_in t.setup) pulses)
+    → AreHeardTruly IsTrue (clock_in t).within.us (clock_in t).drift_us (rules_in t.setup) (f_of (redundancy_in t.setup)) now (lines_in (keeper_limits_in t.setup) (rules_in t.setup) t.lines) (pulses_there (redundancy_in t.setup) pulses)
 all_heard IsTrue t now pulses silent absent h = record {
   untrue = there r h.untrue;
   few = few_there r h.untrue (f_of r) h.few;
@@ -91,7 +91,7 @@ all_heard IsTrue t now pulses silent absent h = record {
   ];
   kept = λ i low. elim (cases_Bool (nat_lt i (ports_in r))) [
     | inl here ↦ rw here (h.kept i (ltb-true i (ports_in r) here))
-    | inr gone ↦ kept_nothing (IsInTurnOf now) (clock_in t).within.us (clock_in t).drift_us (rules_in t.setup) _ _ (none_at (limits_in t.setup) (rules_in t.setup) t.lines (ports_in r) i (some_port r) absent (ltb-false i (ports_in r) gone) low)
+    | inr gone ↦ kept_nothing (IsInTurnOf now) (clock_in t).within.us (clock_in t).drift_us (rules_in t.setup) _ _ (none_at (keeper_limits_in t.setup) (rules_in t.setup) t.lines (ports_in r) i (some_port r) absent (ltb-false i (ports_in r) gone) low)
   ];
 }
   where

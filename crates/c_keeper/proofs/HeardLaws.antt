@@ -16,7 +16,7 @@ use Rattle.irig_timekeeper.specs.Keeping.{Heard, Keeping, heard_by, heard_then, 
 use Rattle.irig_lines.specs.Steps.{line_at, line_heard, with_line}
 use Rattle.irig_vote.specs.Vote.{ports_in}
 use Rattle.irig_reader.proofs.FedLaws.{at_most_five}
-use Rattle.c_numbers.specs.Setups.{limits_in, redundancy_in, rules_in}
+use Rattle.c_numbers.specs.Setups.{keeper_limits_in, redundancy_in, rules_in}
 use Rattle.c_lines.specs.declared.line.IrigLine.{IrigLine}
 use Rattle.c_lines.specs.declared.line.IrigLines.{IrigLines}
 use Rattle.c_keeper.specs.declared.timekeeper.IrigTimekeeper.{IrigTimekeeper}
@@ -75,7 +75,7 @@ heard_put ls heard l s h now =
 pub place_as : (t : IrigTimekeeper) (k : Keeping) (port rise width : ℕ) → port < 5 → IsTimekeeperOf t k
     → place_of (numbers_at t.lines port).sync rise width ≡ place_of (line_at k.state.lines port).sync rise width
 place_as t k port rise width here h =
-    ap (λ (x : Line). place_of x.sync rise width) (sym (line_there (limits_in t.setup) (rules_in t.setup) t.lines port))
+    ap (λ (x : Line). place_of x.sync rise width) (sym (line_there (keeper_limits_in t.setup) (rules_in t.setup) t.lines port))
     ∙ ap (λ (s : ClockState). place_of (line_at s.lines port).sync rise width) h.state
 
 -- ---- a pulse
@@ -132,7 +132,7 @@ one_more t q k port rise width place l there behind is seal h =
     rules = rules_in t.setup
 
     limits : Option Limits
-    limits = limits_in t.setup
+    limits = keeper_limits_in t.setup
 
     was : IsTallyOf (numbers_at t.lines port).port (heard_by k.heard port)
     was = heard_there t.lines k.heard h.heard port here

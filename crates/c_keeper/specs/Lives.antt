@@ -24,7 +24,7 @@ use Rattle.c_numbers.specs.declared.setup.IrigSetup.{IrigSetup}
 use Rattle.c_numbers.specs.declared.table.IrigTable.{IrigTable}
 use Rattle.c_numbers.specs.LeapTables.{table_in}
 use Rattle.c_numbers.specs.Reports.{report_in}
-use Rattle.c_numbers.specs.Setups.{limits_in, reader_rules_in, redundancy_in, rules_in}
+use Rattle.c_numbers.specs.Setups.{keeper_limits_in, reader_rules_in, redundancy_in, rules_in}
 use Rattle.c_keeper.specs.declared.second.IrigSecond.{IrigSecond}
 use Rattle.c_keeper.specs.declared.timekeeper.IrigTimekeeper.{IrigTimekeeper}
 use Rattle.c_keeper.specs.declared.timekeeper.IrigWires.{IrigWires}
@@ -49,7 +49,7 @@ calls_of (Waited now wait ∷ past) = calls_of past
 -- what a timekeeper is made of by such a setup, table and wires
 abbrev pub made_in : IrigSetup → IrigTable → IrigWires → MadeOf
 made_in setup table wires = record {
-  limits = limits_in setup;
+  limits = keeper_limits_in setup;
   rules = rules_in setup;
   clock = record {
     reader_rules = reader_rules_in setup;

@@ -17,7 +17,7 @@ use Rattle.irig_lines.specs.Exactness.{most_within_us, most_drift_us, most_vote_
 use Rattle.irig_timekeeper.specs.Stamps.{stamp_of}
 use Rattle.irig_lines.specs.Lines.{IfKept, IsInTurnOf}
 use Rattle.irig_lines.specs.Steps.{claim_kept, line_at}
-use Rattle.c_numbers.specs.Setups.{rules_in, limits_in, reader_rules_in, redundancy_in, IsSetup}
+use Rattle.c_numbers.specs.Setups.{rules_in, keeper_limits_in, reader_rules_in, redundancy_in, IsKeeperSetup}
 use Rattle.c_numbers.specs.LeapTables.{table_in}
 use Rattle.c_numbers.specs.States.{state_in, IsState}
 use Rattle.c_keeper.specs.declared.timekeeper.IrigTimekeeper.{IrigTimekeeper}
@@ -56,7 +56,7 @@ interval_in t =
 -- where its clock stands
 abbrev pub clock_state_in : IrigTimekeeper → ClockState
 clock_state_in t = record {
-  lines = lines_in (limits_in t.setup) (rules_in t.setup) t.lines;
+  lines = lines_in (keeper_limits_in t.setup) (rules_in t.setup) t.lines;
   reader = state_in t.state;
   edge_us = edge_in t;
   bound_us = t.bound_us;
@@ -95,7 +95,7 @@ HasShortInterval t = (t.has_interval ≡ 0) ⊎ (t.long_us ≤ 2 * most_held_us)
 
 -- its calls accept the numbers
 pub record IsAccepted (t : IrigTimekeeper) : Type 0 where
-  pub setup : IsSetup t.setup
+  pub setup : IsKeeperSetup t.setup
   pub wires : AreWires t.wires
   pub steady : clock_fault (reader_rules_in t.setup) t.wires.drift_us ≡ None
   pub bound : t.bound_us ≤ most_vote_us
@@ -140,7 +140,7 @@ pub record HeardTruly (IsTrue : List Pulse → Type 0) (t : IrigTimekeeper) (now
       → IsTrue (pulses i)
   pub kept : (i : ℕ) → i < ports_in (redundancy_in t.setup)
       → IfKept (IsInTurnOf now) (clock_in t).within.us (clock_in t).drift_us (rules_in t.setup)
-      (claim_kept (line_at (lines_in (limits_in t.setup) (rules_in t.setup) t.lines) i).frame)
+      (claim_kept (line_at (lines_in (keeper_limits_in t.setup) (rules_in t.setup) t.lines) i).frame)
       (pulses i)
 
 -- ---- which value they are
@@ -148,7 +148,7 @@ pub record HeardTruly (IsTrue : List Pulse → Type 0) (t : IrigTimekeeper) (now
 -- the numbers are those of a timekeeper that is this value
 pub record IsTimekeeperOf (t : IrigTimekeeper) (k : Keeping) : Type 0 where
   pub rules : rules_in t.setup ≡ k.rules
-  pub limits : limits_in t.setup ≡ k.limits
+  pub limits : keeper_limits_in t.setup ≡ k.limits
   pub clock : clock_in t ≡ k.clock
   pub table : table_in t.table ≡ k.table
   pub heard : HaveHeard t.lines k.heard

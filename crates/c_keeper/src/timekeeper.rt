@@ -12,7 +12,7 @@ ghost use Rattle.irig_timekeeper.specs.Stamps.{stamp_of};
 ghost use Rattle.irig_lines.specs.declared.lines.Lines.{Lines};
 ghost use Rattle.irig_lines.specs.Steps.{line_at, AreKeptOfUtc, AreNewLines};
 ghost use Rattle.c_numbers.specs.CheckWord.{setup_numbers, table_numbers, weighted};
-ghost use Rattle.c_numbers.specs.Setups.{rules_in, limits_in, reader_rules_in, redundancy_in, IsSetup};
+ghost use Rattle.c_numbers.specs.Setups.{rules_in, keeper_limits_in, reader_rules_in, redundancy_in, IsKeeperSetup};
 ghost use Rattle.c_numbers.specs.States.{state_in, IsState};
 ghost use Rattle.c_lines.specs.Lines.{frames_in, lines_in, unread_lines, AreKeptFrom, HaveHeard, KeepNoMore};
 ghost use Rattle.c_numbers.specs.declared.state.TheConstants.{IDLE};
@@ -31,8 +31,8 @@ use c_lines::{
     is_small, keep_lines, keep_no_more, line_at, lines_of_nothing, seen_of, unread_lines_of,
 };
 use c_numbers::{
-    IDLE, IrigSetup, IrigState, IrigTable, is_setup, limits_of, reader_rules_of, redundancy_of,
-    rules_of, state_for_c, state_of,
+    IDLE, IrigSetup, IrigState, IrigTable, is_keeper_setup, keeper_limits_of, reader_rules_of,
+    redundancy_of, rules_of, state_for_c, state_of,
 };
 use irig_lines::{ClockRules, Delays, Interval, KeptFrame, clock_fault, nearest_within};
 use irig_reader::State;
@@ -194,7 +194,7 @@ pub fn are_wires(wires: &IrigWires) -> bool
 fn is_sound(fixed: u64, timekeeper: &IrigTimekeeper) -> bool
     requires { fixed ≡ (weighted 3 (setup_numbers timekeeper.now.setup)
         + weighted 19 (table_numbers timekeeper.now.table)) % 2 ^ 64 }
-    ensures { IsTrue result ↔ (IsSetup timekeeper.now.setup × (AreWires timekeeper.now.wires
+    ensures { IsTrue result ↔ (IsKeeperSetup timekeeper.now.setup × (AreWires timekeeper.now.wires
         × ((clock_fault (reader_rules_in timekeeper.now.setup) timekeeper.now.wires.drift_us
         ≡ None)
         × ((timekeeper.now.bound_us ≤ most_vote_us) × (HasShortInterval timekeeper.now
@@ -203,7 +203,7 @@ fn is_sound(fixed: u64, timekeeper: &IrigTimekeeper) -> bool
         × (KeepNoMore (ports_in (redundancy_in timekeeper.now.setup)) timekeeper.now.lines
         × IsSealed timekeeper.now)))))))))) }
 {
-    is_setup(&timekeeper.setup)
+    is_keeper_setup(&timekeeper.setup)
         && are_wires(&timekeeper.wires)
         && clock_fault(
             reader_rules_of(&timekeeper.setup),
@@ -244,7 +244,7 @@ pub fn unread_state_of(timekeeper: &IrigTimekeeper) -> ClockState
 {
     ClockState {
         lines: unread_lines_of(
-            limits_of(&timekeeper.setup),
+            keeper_limits_of(&timekeeper.setup),
             &rules_of(&timekeeper.setup),
             &timekeeper.lines,
         ),
@@ -268,7 +268,7 @@ pub(crate) fn seen_at(timekeeper: &IrigTimekeeper, port: u8) -> Option<KeptFrame
     ensures { result ≡ (line_at (clock_state_in timekeeper.now).lines port).seen }
 {
     seen_of(
-        limits_of(&timekeeper.setup),
+        keeper_limits_of(&timekeeper.setup),
         &rules_of(&timekeeper.setup),
         line_at(&timekeeper.lines, port),
     )
@@ -406,7 +406,7 @@ pub fn keep(timekeeper: &mut IrigTimekeeper, state: &ClockState)
 /// Forgets all that happened to it. The check word stays.
 pub fn forget(timekeeper: &mut IrigTimekeeper)
     ensures state { clock_state_in timekeeper.new
-        ≡ new_state (lines_in (limits_in timekeeper.new.setup)
+        ≡ new_state (lines_in (keeper_limits_in timekeeper.new.setup)
         (rules_in timekeeper.new.setup) timekeeper.new.lines) }
     ensures lines { (limits : Option Limits) (rules : Rules)
         → AreNewLines (lines_in limits rules timekeeper.new.lines) }
@@ -442,7 +442,7 @@ pub fn forget(timekeeper: &mut IrigTimekeeper)
 /// Forgets all that happened to it. A check word that is wrong stays so.
 pub fn restart(timekeeper: &mut IrigTimekeeper)
     ensures state { clock_state_in timekeeper.new
-        ≡ new_state (lines_in (limits_in timekeeper.new.setup)
+        ≡ new_state (lines_in (keeper_limits_in timekeeper.new.setup)
         (rules_in timekeeper.new.setup) timekeeper.new.lines) }
     ensures lines { (limits : Option Limits) (rules : Rules)
         → AreNewLines (lines_in limits rules timekeeper.new.lines) }

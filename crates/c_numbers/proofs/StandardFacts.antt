@@ -18,6 +18,8 @@ use Rattle.c_numbers.specs.Standings.{first_zone, mask_of, standings_of, worst_o
 use Rattle.c_numbers.specs.Voices.{quality_of}
 use Rattle.c_numbers.specs.CheckWord.{port_numbers, setup_numbers, state_numbers, table_numbers, weighted}
 use Rattle.c_numbers.specs.Tallies.{no_tally}
+use Rattle.c_numbers.specs.declared.setup.IrigSetup.{IrigSetup}
+use Rattle.c_numbers.specs.Setups.{limits_in, keeper_limits_in}
 
 -- 23:59:59 of 2016-12-31 with an insertion, and the second before
 abbrev now : Told
@@ -62,6 +64,18 @@ pub known_voices : (first_zone 1 (sent 11 0 ∷ sent 2 4 ∷ sent 2 1 ∷ []) (s
     × (worst_of (sent 11 0 ∷ None ∷ sent 2 4 ∷ sent 2 1 ∷ []) ≡ 4)
     × (quality_of None [] ≡ 15)
 known_voices = (refl, refl, refl, refl, refl)
+
+-- a setup with these limits
+abbrev limiting : ℕ → ℕ → IrigSetup
+limiting not_before poor_from = record { parity = 0; sense = 0; sbs = 0; redundancy = 0; lock_after = 1; holdover = 0; not_before = not_before; poor_from = poor_from }
+
+-- 0 is 7 of a timekeeper, which always has limits; of a reader it is 10, and a setup that names none has none
+pub known_limits : (keeper_limits_in (limiting 0 0) ≡ Some (record { not_before = 0; poor_from = 7 }))
+    × (keeper_limits_in (limiting 6209 8) ≡ Some (record { not_before = 6209; poor_from = 8 }))
+    × (limits_in (limiting 6209 0) ≡ Some (record { not_before = 6209; poor_from = 10 }))
+    × (limits_in (limiting 0 0) ≡ None)
+unfolding keeper_limits_in
+known_limits = (refl, refl, refl, refl)
 
 -- the weights of the first and the last number of each part
 abbrev none : IrigLeap

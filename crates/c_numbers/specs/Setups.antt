@@ -33,6 +33,14 @@ limits_in s =
       poor_from = if s.poor_from == 0 then 10 else s.poor_from;
     })
 
+-- those of a timekeeper, which has some in any case: unless the setup names another quality, a frame has
+-- no vote from quality 7 on, whose clock says of itself that it may be 1 ms off
+unfoldable pub keeper_limits_in : IrigSetup → Option Limits
+keeper_limits_in s = Some (record {
+  not_before = s.not_before;
+  poor_from = if s.poor_from == 0 then 7 else s.poor_from;
+})
+
 -- how many ports it has
 abbrev pub redundancy_in : IrigSetup → Redundancy
 redundancy_in s = if s.redundancy == 0 then Three else (if s.redundancy == 1 then Five else One)
@@ -46,6 +54,12 @@ pub record IsSetup (s : IrigSetup) : Type 0 where
   pub rules : IsReaderRules (reader_rules_in s)
   pub not_before : s.not_before ≤ LAST_DAY
   pub poor_from : s.poor_from ≤ 10
+
+-- a timekeeper may have it: a frame has no vote at least from quality 8 on, whose clock says of itself that
+-- it may be 10 ms off
+pub record IsKeeperSetup (s : IrigSetup) : Type 0 where
+  pub setup : IsSetup s
+  pub poor_from : s.poor_from ≤ 8
 
 -- there is such a port
 abbrev pub IsPort : IrigSetup → ℕ → Type 0

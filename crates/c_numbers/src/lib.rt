@@ -2,8 +2,8 @@
 //! in the libraries, and the check word that tells if one of a reader's numbers was changed.
 //!
 //! A function `.._of` gives the value that numbers stand for, `.._for_c` the numbers of a value.
-//! Which numbers have a meaning is told by `is_setup`, `is_port`, `has_kinds`, `table_fault` and
-//! `state_of`; a conversion takes any. There is no memory to ask for.
+//! Which numbers have a meaning is told by `is_setup`, `is_keeper_setup`, `is_port`, `has_kinds`,
+//! `table_fault` and `state_of`; a conversion takes any. There is no memory to ask for.
 #![tactic(auto)]
 
 mod against;
@@ -34,8 +34,8 @@ pub use report::{
     IrigReport, IrigTold, cause_number, lock_count, lock_number, report_for_c, told_for_c,
 };
 pub use setup::{
-    IrigSetup, is_port, is_setup, limits_of, parity_of, reader_rules_of, redundancy_of, rules_of,
-    sense_of,
+    IrigSetup, is_keeper_setup, is_port, is_setup, keeper_limits_of, limits_of, parity_of,
+    reader_rules_of, redundancy_of, rules_of, sense_of,
 };
 pub use state::{IDLE, IrigState, mark_of, state_for_c, state_of};
 pub use sums::Sums;

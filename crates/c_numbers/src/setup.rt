@@ -1,8 +1,8 @@
 //! How a reader is set up.
 
-ghost use Rattle.std.specs.Prelude.{◌≡◌, ◌↔◌, ◌<◌, IsTrue};
+ghost use Rattle.std.specs.Prelude.{◌≡◌, ◌↔◌, ◌<◌, ◌≤◌, IfSome, IsTrue};
 ghost use Rattle.c_numbers.specs.Numbers.{parity_in, sense_in};
-ghost use Rattle.c_numbers.specs.Setups.{rules_in, reader_rules_in, redundancy_in, limits_in, IsPort, IsSetup};
+ghost use Rattle.c_numbers.specs.Setups.{rules_in, reader_rules_in, redundancy_in, limits_in, keeper_limits_in, IsPort, IsSetup, IsKeeperSetup};
 
 use irig_control::Parity;
 use irig_port::Limits;
@@ -29,7 +29,8 @@ pub struct IrigSetup {
     /// The first day that a frame may claim, counted from 2000-01-01 as day 0, at most
     /// [`LAST_DAY`].
     pub not_before: u16,
-    /// The time quality from which a frame has no vote, 1 to 10; 0 is 10.
+    /// The time quality from which a frame has no vote: of a reader 1 to 10, and 0 is 10; of a
+    /// timekeeper 1 to 8, and 0 is 7.
     pub poor_from: u8,
 }
 
@@ -78,7 +79,7 @@ pub fn reader_rules_of(setup: &IrigSetup) -> ReaderRules
     }
 }
 
-/// The limits of what has a vote, if it names any.
+/// The limits of what has a vote in a reader, if it names any.
 pub fn limits_of(setup: &IrigSetup) -> Option<Limits>
     ensures { result ≡ limits_in setup.now }
 {
@@ -89,6 +90,22 @@ pub fn limits_of(setup: &IrigSetup) -> Option<Limits>
         not_before: u32::from(setup.not_before),
         poor_from: if setup.poor_from == 0 {
             10
+        } else {
+            setup.poor_from
+        },
+    })
+}
+
+/// The limits of what has a vote in a timekeeper, which has some in any case.
+#[tactic(auto, unfolding(crate::specs::Setups::keeper_limits_in))]
+pub fn keeper_limits_of(setup: &IrigSetup) -> Option<Limits>
+    ensures value { result ≡ keeper_limits_in setup.now }
+    ensures few { IsKeeperSetup setup.now → IfSome result (λ limits. limits.poor_from ≤ 8) }
+{
+    Some(Limits {
+        not_before: u32::from(setup.not_before),
+        poor_from: if setup.poor_from == 0 {
+            7
         } else {
             setup.poor_from
         },
@@ -130,4 +147,11 @@ pub fn is_setup(setup: &IrigSetup) -> bool
         && in_range(&reader_rules_of(setup))
         && u32::from(setup.not_before) <= LAST_DAY
         && setup.poor_from <= 10
+}
+
+/// Whether a timekeeper may have the setup: it is one, and `poor_from` is at most 8.
+pub fn is_keeper_setup(setup: &IrigSetup) -> bool
+    ensures { IsTrue result ↔ IsKeeperSetup setup.now }
+{
+    is_setup(setup) && setup.poor_from <= 8
 }

@@ -33,7 +33,7 @@ ghost use Rattle.irig_timekeeper.specs.Truth.{FollowsTruth, KnowsEnd, IsToldTrul
 ghost use Rattle.c_numbers.specs.LeapTables.{table_in, HasKinds, IsTable, code_of_table};
 ghost use Rattle.c_numbers.specs.Numbers.{sense_in};
 ghost use Rattle.c_numbers.specs.Reports.{report_in, voices_in};
-ghost use Rattle.c_numbers.specs.Setups.{rules_in, limits_in, reader_rules_in, redundancy_in, IsPort, IsSetup};
+ghost use Rattle.c_numbers.specs.Setups.{rules_in, keeper_limits_in, reader_rules_in, redundancy_in, IsPort, IsKeeperSetup};
 ghost use Rattle.c_numbers.specs.States.{state_in};
 ghost use Rattle.c_numbers.specs.Against.{held_by};
 ghost use Rattle.c_numbers.specs.CheckWord.{setup_numbers, table_numbers, weighted};
@@ -61,7 +61,7 @@ use c_keeper::{
 };
 use c_lines::line_at;
 use c_numbers::{
-    IrigSetup, IrigTable, OUT_OF_RANGE, fixed_sum, has_kinds, held_by, is_port, is_setup,
+    IrigSetup, IrigTable, OUT_OF_RANGE, fixed_sum, has_kinds, held_by, is_keeper_setup, is_port,
     reader_rules_of, table_fault,
 };
 use irig_lines::{clock_fault, corrected, is_pulse};
@@ -70,10 +70,9 @@ use irig_timekeeper::{tick, wait_of};
 /// The holdover is longer than the device's counter can count.
 const DRIFT: u32 = 35;
 
-/// Makes a timekeeper to which nothing has happened, with such wires. 26 if a number of the setup or
-/// of the wires has no meaning or is out of its range, or a leap that counts has another kind; then
-/// 31 to 34 for the first fault of the table; then 35 if the holdover is longer than such a counter
-/// can count.
+/// Makes a timekeeper of these, to which nothing has happened. 26 if a number of the setup or of the
+/// wires has no meaning or is out of its range, or a leap that counts has another kind; then 31 to 34
+/// for the first fault of the table; then 35 if the holdover is longer than its counter can count.
 #[unsafe(no_mangle)]
 pub extern "C" fn irig_c_timekeeper_init(
     timekeeper: &mut IrigTimekeeper,
@@ -81,20 +80,21 @@ pub extern "C" fn irig_c_timekeeper_init(
     table: &IrigTable,
     wires: &IrigWires,
 ) -> u32
-    ensures answer { (result ≡ 0) ↔ (IsSetup setup.now × (HasKinds table.now
+    ensures answer { (result ≡ 0) ↔ (IsKeeperSetup setup.now × (HasKinds table.now
         × (AreWires wires.now × (IsTable table.now
         × (clock_fault (reader_rules_in setup.now) wires.now.drift_us ≡ None))))) }
-    ensures table { IsSetup setup.now → HasKinds table.now → AreWires wires.now
+    ensures table { IsKeeperSetup setup.now → HasKinds table.now → AreWires wires.now
         → (IsTable table.now → ⊥) → result ≡ code_of_table table.now }
-    ensures drift { IsSetup setup.now → HasKinds table.now → AreWires wires.now
+    ensures drift { IsKeeperSetup setup.now → HasKinds table.now → AreWires wires.now
         → IsTable table.now
         → (clock_fault (reader_rules_in setup.now) wires.now.drift_us ≡ None → ⊥) → result ≡ 35 }
-    ensures range { (IsSetup setup.now → HasKinds table.now → AreWires wires.now → ⊥)
+    ensures range { (IsKeeperSetup setup.now → HasKinds table.now → AreWires wires.now → ⊥)
         → result ≡ 26 }
     ensures refused { (result ≡ 0 → ⊥) → timekeeper.new ≡ timekeeper.old }
-    ensures fresh { result ≡ 0 → IsTimekeeperOf timekeeper.new (new_keeping (limits_in setup.now)
-        (rules_in setup.now) (clock_in timekeeper.new) (table_in table.now)
-        (lines_in (limits_in setup.now) (rules_in setup.now) timekeeper.new.lines)) }
+    ensures fresh { result ≡ 0 → IsTimekeeperOf timekeeper.new (new_keeping
+        (keeper_limits_in setup.now) (rules_in setup.now) (clock_in timekeeper.new)
+        (table_in table.now)
+        (lines_in (keeper_limits_in setup.now) (rules_in setup.now) timekeeper.new.lines)) }
     ensures clock { result ≡ 0 → clock_in timekeeper.new ≡ record {
       reader_rules = reader_rules_in setup.now;
       redundancy = redundancy_in setup.now;
@@ -111,7 +111,7 @@ pub extern "C" fn irig_c_timekeeper_init(
     ensures lived { result ≡ 0
         → HasLived timekeeper.new (made_in setup.now table.now wires.now) [] }
 {
-    if !is_setup(setup) || !has_kinds(table) || !are_wires(wires) {
+    if !is_keeper_setup(setup) || !has_kinds(table) || !are_wires(wires) {
         return OUT_OF_RANGE;
     }
     let fault = table_fault(table);

@@ -17,6 +17,7 @@ ghost use Rattle.irig_lines.specs.Intervals.{IsShort};
 ghost use Rattle.irig_lines.specs.Exactness.{most_drift_us, most_vote_us, most_held_us};
 
 use crate::clock::{Beat, ClockState, clock_of_nothing, tick, wait_of};
+use crate::limits::VoteLimits;
 use crate::stamp::{Stamp, stamp_of};
 use crate::states::{LineState, state_of};
 use irig_lines::{
@@ -54,6 +55,7 @@ impl<P: Port> Timekeeper<P> {
     ghost use Rattle.irig_lines.specs.Refusals.{clock_fault};
     ghost use Rattle.irig_lines.specs.Delays.{corrected, delay_at};
     ghost use Rattle.irig_timekeeper.specs.States.{state_of};
+    ghost use Rattle.irig_timekeeper.specs.VoteLimits.{usual_limits};
     ghost use Rattle.irig_timekeeper.specs.LineTruths.{is_untrue, IsSaidRightly};
     ghost use Rattle.irig_timekeeper.specs.Keeping.{place_told, one_pulse_more, after_pulse, after_tick, answer_at, vote_at, restarted, heard_by, with_heard, wait_at, stamp_at, rate_at};
     ghost use Rattle.irig_timekeeper.specs.Keepers.{IsKeeping, IsNew, ForKeeping, Goes};
@@ -71,38 +73,39 @@ impl<P: Port> Timekeeper<P> {
     ghost use Rattle.irig_time.specs.declared.second.UtcSecond.{UtcSecond};
 
     /// A timekeeper to which nothing has happened, with reader's rules that are
-    /// [`in_range`](irig_reader::in_range); or the setup's [`first fault`](clock_fault).
+    /// [`in_range`](irig_reader::in_range); or the setup's [`first fault`](clock_fault). A frame of time
+    /// quality 7 or worse has no vote ([`usual`](VoteLimits::usual)).
     pub fn new(rules: Rules, clock: ClockRules, table: LeapTable) -> Result<Self, ClockFault>
         requires { IsReaderRules clock.reader_rules }
         ensures new { MatchResult result
             (λ keeper. (clock_fault clock.reader_rules clock.drift_us ≡ None)
-            × IsNew keeper None rules clock table)
+            × IsNew keeper (Some usual_limits) rules clock table)
             (λ fault. clock_fault clock.reader_rules clock.drift_us ≡ Some fault) }
         ensures lived { IfOk result (λ keeper. HasLived keeper (record {
-          limits = None;
+          limits = Some usual_limits;
           rules = rules;
           clock = clock;
           table = table;
         }) []) }
     {
-        Timekeeper::new_within(rules, clock, table, None)
+        Timekeeper::new_within(rules, clock, table, VoteLimits::usual())
     }
 
-    /// The same, whose lines give no frame a vote that does not lie within the limits, if there are
-    /// any ([`edge_within`]).
+    /// The same, whose lines give no frame a vote that does not lie within these limits
+    /// ([`edge_within`]).
     pub fn new_within(
         rules: Rules,
         clock: ClockRules,
         table: LeapTable,
-        limits: Option<Limits>,
+        limits: VoteLimits,
     ) -> Result<Self, ClockFault>
         requires { IsReaderRules clock.reader_rules }
         ensures new { MatchResult result
             (λ keeper. (clock_fault clock.reader_rules clock.drift_us ≡ None)
-            × IsNew keeper limits rules clock table)
+            × IsNew keeper (Some limits.limits) rules clock table)
             (λ fault. clock_fault clock.reader_rules clock.drift_us ≡ Some fault) }
         ensures lived { IfOk result (λ keeper. HasLived keeper (record {
-          limits = limits;
+          limits = Some limits.limits;
           rules = rules;
           clock = clock;
           table = table;
@@ -118,7 +121,7 @@ impl<P: Port> Timekeeper<P> {
             d: P::fresh(rules),
             e: P::fresh(rules),
             rules,
-            limits,
+            limits: Some(limits.limits),
             clock,
             table,
             state: clock_of_nothing(),

@@ -9,10 +9,10 @@ ghost use Rattle.irig_vote.specs.declared.redundancy.Redundancy.TheVariants.{Thr
 use irig_frame::Symbol;
 use irig_gen::{GenFault, Generator, Zone};
 use irig_lines::{ClockFault, ClockRules, NO_DELAYS, Within, clock_fault, nearest_within};
-use irig_port::FlowPort;
+use irig_port::{FlowPort, Limits};
 use irig_reader::{Cause, ReaderRules};
 use irig_time::{Leap, LeapTable, Rules, Timeline, UtcSecond};
-use irig_timekeeper::{Beat, Timekeeper};
+use irig_timekeeper::{Beat, LineState, Timekeeper, VoteLimits};
 use irig_vote::Redundancy;
 use std::test::Fail;
 
@@ -217,6 +217,61 @@ fn clocks_that_ignore_a_leap_are_followed_behind_it(rt: HostRuntime) -> Result<(
         return Err(Fail::from("no plant"));
     };
     assert!(rt; guards_its_leap(&mut clocks, &shown)?);
+    Ok(())
+}
+
+/// What a line is behind a frame whose clock says this quality, in a device with these limits.
+fn line_heard(
+    clocks: &mut Generator,
+    shown: &Timeline,
+    quality: u8,
+    limits: VoteLimits,
+) -> Option<LineState> {
+    let Ok(mut keeper) = Timekeeper::<FlowPort>::new_within(
+        Rules::PLAIN,
+        clock(),
+        LeapTable::empty(),
+        limits,
+    ) else {
+        return None;
+    };
+    clocks.fault(GenFault::Quality(quality));
+    let frame = clocks.frame(shown)?;
+    tell_frame(&mut keeper, frame, BEGIN_US);
+    Some(keeper.line(0))
+}
+
+fn limits_from(poor_from: u8) -> Option<VoteLimits> {
+    VoteLimits::new(Limits {
+        not_before: 0,
+        poor_from,
+    })
+}
+
+/// Without a setting quality 7 has no vote, which is 1 ms; and by none has 8, which is 10 ms.
+#[test]
+fn clocks_that_say_that_they_are_off_are_poor(rt: HostRuntime) -> Result<(), Fail> {
+    let zone = Zone {
+        half_hours: 0,
+        dst: false,
+    };
+    let (Ok(shown), Ok(mut clocks), Some(widest)) = (
+        Timeline::new(rt.alloc(), START, &[]),
+        Generator::new(rt.alloc(), zone, &[], Rules::PLAIN),
+        limits_from(8),
+    ) else {
+        return Err(Fail::from("no plant"));
+    };
+    let rows = [
+        (6, VoteLimits::usual(), LineState::Unjudged),
+        (7, VoteLimits::usual(), LineState::Poor),
+        (7, widest, LineState::Unjudged),
+        (8, widest, LineState::Poor),
+    ];
+    for (quality, limits, state) in rows {
+        assert!(rt; line_heard(&mut clocks, &shown, quality, limits) == Some(state));
+    }
+    assert!(rt; limits_from(9).is_none());
     Ok(())
 }
 

@@ -7,7 +7,7 @@ use Rattle.c_numbers.specs.declared.setup.IrigSetup.{IrigSetup}
 use Rattle.c_numbers.specs.declared.state.IrigState.{IrigState}
 use Rattle.c_numbers.specs.declared.table.IrigTable.{IrigTable}
 use Rattle.c_numbers.specs.LeapTables.{table_in}
-use Rattle.c_numbers.specs.Setups.{limits_in, rules_in, reader_rules_in, IsSetup}
+use Rattle.c_numbers.specs.Setups.{keeper_limits_in, rules_in, reader_rules_in, IsKeeperSetup}
 use Rattle.c_keeper.specs.CheckWord.{check_of}
 use Rattle.c_lines.specs.Lines.{lines_in}
 use Rattle.c_keeper.specs.Lives.{made_in}
@@ -26,18 +26,18 @@ unfolding check_of
 returns-clause-fresh c done =
     let q = c.forget.new.timekeeper in
     let new = c.forget.ensures in
-    let is_setup : IsSetup c.args.setup.now = search rules in
+    let is_setup : IsKeeperSetup c.args.setup.now = search rules in
     let wires : AreWires c.args.wires.now = search rules in
     let steady : clock_fault (reader_rules_in c.args.setup.now) c.args.wires.now.drift_us ≡ None = sym (c.clock_fault.ensures ∙ (ap (λ (r : ReaderRules). clock_fault r c.from.result) c.reader_rules_of.ensures ∙ ap (clock_fault (reader_rules_in c.args.setup.now)) c.from.ensures)) ∙ none_of c.clock_fault.result (sym c.is_some.ensures ∙ c.if-is_some.false) in
     record {
       rules = ap (λ (s : IrigSetup). rules_in s) new.setup;
-      limits = ap (λ (s : IrigSetup). limits_in s) new.setup;
+      limits = ap (λ (s : IrigSetup). keeper_limits_in s) new.setup;
       clock = refl;
       table = ap (λ (t : IrigTable). table_in t) new.table;
       heard = new.heard;
-      state = new.state ∙ ap (λ (s : IrigSetup). new_state (lines_in (limits_in s) (rules_in s) q.lines)) new.setup;
+      state = new.state ∙ ap (λ (s : IrigSetup). new_state (lines_in (keeper_limits_in s) (rules_in s) q.lines)) new.setup;
       accepted = record {
-        setup = subst (λ (s : IrigSetup). IsSetup s) (sym new.setup) is_setup;
+        setup = subst (λ (s : IrigSetup). IsKeeperSetup s) (sym new.setup) is_setup;
         wires = subst AreWires (sym new.wires) wires;
         steady = ap (λ (s : IrigSetup). clock_fault (reader_rules_in s) q.wires.drift_us) new.setup
             ∙ (ap (λ (w : IrigWires). clock_fault (reader_rules_in c.args.setup.now) w.drift_us) new.wires ∙ steady);

@@ -29,7 +29,7 @@ use Rattle.c_numbers.specs.declared.table.IrigTable.{IrigTable}
 use Rattle.c_numbers.specs.LeapTables.{table_in}
 use Rattle.c_numbers.specs.Numbers.{sense_in}
 use Rattle.c_numbers.specs.Reports.{report_in}
-use Rattle.c_numbers.specs.Setups.{limits_in, redundancy_in, rules_in, IsSetup}
+use Rattle.c_numbers.specs.Setups.{keeper_limits_in, redundancy_in, rules_in, IsKeeperSetup}
 use Rattle.c_keeper.specs.declared.second.IrigSecond.{IrigSecond}
 use Rattle.c_keeper.specs.declared.timekeeper.IrigTimekeeper.{IrigTimekeeper}
 use Rattle.c_keeper.specs.CheckWord.{check_of}
@@ -78,13 +78,13 @@ returns-clause-after c k h =
     let new = c.tick_accepted.ensures.left in
     record {
       rules = ap (λ (s : IrigSetup). rules_in s) new.setup ∙ h.rules;
-      limits = ap (λ (s : IrigSetup). limits_in s) new.setup ∙ h.limits;
+      limits = ap (λ (s : IrigSetup). keeper_limits_in s) new.setup ∙ h.limits;
       clock = clock_as t q new.setup new.wires ∙ h.clock;
       table = ap (λ (x : IrigTable). table_in x) new.table ∙ h.table;
       heard = new.heard k.heard h.heard;
       state = new.stands ∙ stands_as t k c.args.now_us h;
       accepted = record {
-        setup = subst (λ (s : IrigSetup). IsSetup s) (sym new.setup) h.accepted.setup;
+        setup = subst (λ (s : IrigSetup). IsKeeperSetup s) (sym new.setup) h.accepted.setup;
         wires = subst AreWires (sym new.wires) h.accepted.wires;
         steady = steady_as t q new.setup new.wires h.accepted.steady;
         bound = new.bound;
@@ -129,7 +129,7 @@ returns-clause-lines c beat done = c.tick_accepted.ensures.given.lines beat
 abbrev value_of : IrigTimekeeper → Keeping
 value_of t = record {
   rules = rules_in t.setup;
-  limits = limits_in t.setup;
+  limits = keeper_limits_in t.setup;
   clock = clock_in t;
   table = table_in t.table;
   heard = nothing_heard;
