@@ -280,5 +280,6 @@ class Timekeeper(Ruled):
     def __repr__(self) -> str:
         return (
             f"Timekeeper(lock_after={self.lock_after}, holdover={self.holdover}, "
-            f"drift_us={self.drift_us}, within_us={self.within_us}, ports={self.ports})"
+            f"drift_us={self.drift_us}, within_us={self.within_us}, "
+            f"prefers_frames={self.prefers_frames}, ports={self.ports})"
         )

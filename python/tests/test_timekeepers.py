@@ -306,7 +306,8 @@ class Refusals(unittest.TestCase):
         for ports in (1, 3, 5):
             self.assertEqual(
                 repr(Timekeeper(60, 1_000_000, drift_us=0, ports=ports)),
-                f"Timekeeper(lock_after=60, holdover=1000000, drift_us=0, within_us=450, ports={ports})",
+                "Timekeeper(lock_after=60, holdover=1000000, drift_us=0, within_us=450, "
+                f"prefers_frames=False, ports={ports})",
             )
         for words, says in (
             ({"drift_us": -1}, "drift_us is -1; 0 to 100 may stand here"),

@@ -21,16 +21,16 @@ use Rattle.c_lines.specs.Lines.{line_in, lines_in, KeepNoMore}
 use Rattle.c_keeper.specs.Timekeepers.{clock_in, HeardTruly}
 
 -- what keeps no frame claims nothing
-none_in : (limits : Option Limits) (rules : Rules) (l : IrigLine) → l.has_frame ≡ 0 → claim_kept (line_in limits rules l).frame ≡ None
-none_in limits rules l empty = rw empty refl
+none_in : (within : ℕ) (limits : Option Limits) (rules : Rules) (l : IrigLine) → l.has_frame ≡ 0 → claim_kept within (line_in limits rules l).frame ≡ None
+none_in within limits rules l empty = rw empty refl
 
-none_at : (limits : Option Limits) (rules : Rules) (ls : IrigLines) (ports i : ℕ) → 1 ≤ ports → KeepNoMore ports ls → ports ≤ i → i < 5 → claim_kept (line_at (lines_in limits rules ls) i).frame ≡ None
-none_at limits rules ls ports zero some absent past low = absurd (omega (arith, some, past))
-none_at limits rules ls ports (suc zero) some absent past low = none_in limits rules ls.b (absent.b past).frame
-none_at limits rules ls ports (suc (suc zero)) some absent past low = none_in limits rules ls.c (absent.c past).frame
-none_at limits rules ls ports (suc (suc (suc zero))) some absent past low = none_in limits rules ls.d (absent.d past).frame
-none_at limits rules ls ports (suc (suc (suc (suc zero)))) some absent past low = none_in limits rules ls.e (absent.e past).frame
-none_at limits rules ls ports (suc (suc (suc (suc (suc i))))) some absent past low = absurd (omega (arith, low))
+none_at : (within : ℕ) (limits : Option Limits) (rules : Rules) (ls : IrigLines) (ports i : ℕ) → 1 ≤ ports → KeepNoMore ports ls → ports ≤ i → i < 5 → claim_kept within (line_at (lines_in limits rules ls) i).frame ≡ None
+none_at within limits rules ls ports zero some absent past low = absurd (omega (arith, some, past))
+none_at within limits rules ls ports (suc zero) some absent past low = none_in within limits rules ls.b (absent.b past).frame
+none_at within limits rules ls ports (suc (suc zero)) some absent past low = none_in within limits rules ls.c (absent.c past).frame
+none_at within limits rules ls ports (suc (suc (suc zero))) some absent past low = none_in within limits rules ls.d (absent.d past).frame
+none_at within limits rules ls ports (suc (suc (suc (suc zero)))) some absent past low = none_in within limits rules ls.e (absent.e past).frame
+none_at within limits rules ls ports (suc (suc (suc (suc (suc i))))) some absent past low = absurd (omega (arith, low))
 
 some_port : (r : Redundancy) → 1 ≤ ports_in r
 some_port One = omega arith
@@ -91,7 +91,7 @@ all_heard IsTrue t now pulses silent absent h = record {
   ];
   kept = λ i low. elim (cases_Bool (nat_lt i (ports_in r))) [
     | inl here ↦ rw here (h.kept i (ltb-true i (ports_in r) here))
-    | inr gone ↦ kept_nothing (IsInTurnOf now) (clock_in t).within.us (clock_in t).drift_us (rules_in t.setup) _ _ (none_at (keeper_limits_in t.setup) (rules_in t.setup) t.lines (ports_in r) i (some_port r) absent (ltb-false i (ports_in r) gone) low)
+    | inr gone ↦ kept_nothing (IsInTurnOf now) (clock_in t).within.us (clock_in t).drift_us (rules_in t.setup) _ _ (none_at (clock_in t).within.us (keeper_limits_in t.setup) (rules_in t.setup) t.lines (ports_in r) i (some_port r) absent (ltb-false i (ports_in r) gone) low)
   ];
 }
   where

@@ -140,7 +140,8 @@ pub record HeardTruly (IsTrue : List Pulse → Type 0) (t : IrigTimekeeper) (now
       → IsTrue (pulses i)
   pub kept : (i : ℕ) → i < ports_in (redundancy_in t.setup)
       → IfKept (IsInTurnOf now) (clock_in t).within.us (clock_in t).drift_us (rules_in t.setup)
-      (claim_kept (line_at (lines_in (keeper_limits_in t.setup) (rules_in t.setup) t.lines) i).frame)
+      (claim_kept (clock_in t).within.us
+      (line_at (lines_in (keeper_limits_in t.setup) (rules_in t.setup) t.lines) i).frame)
       (pulses i)
 
 -- ---- which value they are

@@ -7,7 +7,7 @@ use Rattle.std.proofs.lemmas.List.Sums.{sum_by-cons}
 use Rattle.irig_sync.specs.Sync.{clock_gap}
 use Rattle.irig_lines.specs.declared.lines.KeptClaim.{KeptClaim}
 use Rattle.irig_lines.specs.declared.lines.Lines.{Lines}
-use Rattle.irig_lines.specs.Steps.{line_at, claim_kept, all_kept, is_candidate, earlier, first_candidate}
+use Rattle.irig_lines.specs.Steps.{line_at, claim_kept, all_kept, last_us, is_candidate, earlier, first_candidate}
 
 -- ---- among five lines one is true, and such
 
@@ -62,26 +62,14 @@ module _ (untrue : ℕ → Bool) (is_such : Option KeptClaim → Bool) (none : i
         ]
       ]
 
--- of two kinds, one of which is the other, one has as many
-pub as_many : (one other : Option KeptClaim → Bool) → ((o : Option KeptClaim) → one o ≡ true → other o ≡ true) → (xs : List (Option KeptClaim)) → count_by one xs ≤ count_by other xs
-as_many one other so [] = omega arith
-as_many one other so (o ∷ xs) =
-    let left = sum_by-cons (λ k. cond (one k) 1 0) o xs in
-    let right = sum_by-cons (λ k. cond (other k) 1 0) o xs in
-    let rest = as_many one other so xs in
-    elim (cases_Bool (one o)) [
-      | inl is ↦ omega (arith, left, right, rest, one_of (one o) is, one_of (other o) (so o is))
-      | inr not ↦ omega (arith, left, right, rest, none_of (one o) not)
-    ]
-
 -- the i-th of the five
-pub kept_at : (lines : Lines) (i : ℕ) (y : KeptClaim) → slice_get (all_kept lines) i ≡ Some (Some y) → claim_kept (line_at lines i).frame ≡ Some y
-kept_at lines zero y e = cc
-kept_at lines (suc zero) y e = cc
-kept_at lines (suc (suc zero)) y e = cc
-kept_at lines (suc (suc (suc zero))) y e = cc
-kept_at lines (suc (suc (suc (suc zero)))) y e = cc
-kept_at lines (suc (suc (suc (suc (suc i))))) y e = absurd cc
+pub kept_at : (within : ℕ) (lines : Lines) (i : ℕ) (y : KeptClaim) → slice_get (all_kept within lines) i ≡ Some (Some y) → claim_kept within (line_at lines i).frame ≡ Some y
+kept_at within lines zero y e = cc
+kept_at within lines (suc zero) y e = cc
+kept_at within lines (suc (suc zero)) y e = cc
+kept_at within lines (suc (suc (suc zero))) y e = cc
+kept_at within lines (suc (suc (suc (suc zero)))) y e = cc
+kept_at within lines (suc (suc (suc (suc (suc i))))) y e = absurd cc
 
 -- ---- what is agreed is a candidate, and one of them
 
@@ -92,33 +80,49 @@ module _ (Such : KeptClaim → Type 0) where
   EachKept (None ∷ xs) = EachKept xs
   EachKept (Some x ∷ xs) = Such x × EachKept xs
 
+  -- of two kinds, one of which is the other where that is so, one has as many
+  pub as_many : (one other : Option KeptClaim → Bool) → one None ≡ false → ((y : KeptClaim) → Such y → one (Some y) ≡ true → other (Some y) ≡ true) → (xs : List (Option KeptClaim)) → EachKept xs → count_by one xs ≤ count_by other xs
+  as_many one other none so [] each = omega arith
+  as_many one other none so (None ∷ xs) each =
+      let left = sum_by-cons (λ k. cond (one k) 1 0) None xs in
+      let right = sum_by-cons (λ k. cond (other k) 1 0) None xs in
+      omega (arith, left, right, as_many one other none so xs each, none_of (one None) none)
+  as_many one other none so (Some y ∷ xs) each =
+      let left = sum_by-cons (λ k. cond (one k) 1 0) (Some y) xs in
+      let right = sum_by-cons (λ k. cond (other k) 1 0) (Some y) xs in
+      let rest = as_many one other none so xs each.1 in
+      elim (cases_Bool (one (Some y))) [
+        | inl is ↦ omega (arith, left, right, rest, one_of (one (Some y)) is, one_of (other (Some y)) (so y each.0 is))
+        | inr not ↦ omega (arith, left, right, rest, none_of (one (Some y)) not)
+      ]
+
   module _ (window f : ℕ) (all : List (Option KeptClaim)) where
     IsOne : Option KeptClaim → Type 0
-    IsOne so_far = (x : KeptClaim) → so_far ≡ Some x → (is_candidate window f x all ≡ true) × Such x
+    IsOne so_far = (x : KeptClaim) → so_far ≡ Some x → (is_candidate f x all ≡ true) × Such x
 
     either_one : (b : Bool) (x y : Option KeptClaim) → (b ≡ true → IsOne x) → (b ≡ false → IsOne y) → IsOne (cond b x y)
     either_one true x y p q = p refl
     either_one false x y p q = q refl
 
-    just : (x : KeptClaim) → is_candidate window f x all ≡ true → Such x → IsOne (Some x)
+    just : (x : KeptClaim) → is_candidate f x all ≡ true → Such x → IsOne (Some x)
     unfolding IsOne
     just x is such z e =
         let same : x ≡ z = cc in
-        (subst (λ (v : KeptClaim). is_candidate window f v all ≡ true) same is, subst Such same such)
+        (subst (λ (v : KeptClaim). is_candidate f v all ≡ true) same is, subst Such same such)
 
-    earlier_one : (so_far : Option KeptClaim) (x : KeptClaim) → IsOne so_far → is_candidate window f x all ≡ true → Such x → IsOne (earlier window so_far x)
+    earlier_one : (so_far : Option KeptClaim) (x : KeptClaim) → IsOne so_far → is_candidate f x all ≡ true → Such x → IsOne (earlier window so_far x)
     earlier_one None x v is such = just x is such
-    earlier_one (Some y) x v is such = either_one (nat_le (clock_gap y.end_us x.end_us) window) (Some y) (Some x) (λ _. v) (λ _. just x is such)
+    earlier_one (Some y) x v is such = either_one (nat_le (clock_gap (last_us y) (last_us x)) window) (Some y) (Some x) (λ _. v) (λ _. just x is such)
 
     first_one : (xs : List (Option KeptClaim)) (so_far : Option KeptClaim) → EachKept xs → IsOne so_far → IsOne (first_candidate window f all xs so_far)
     first_one [] so_far each v = v
     first_one (None ∷ xs) so_far each v = first_one xs so_far each v
-    first_one (Some x ∷ xs) so_far each v = first_one xs _ each.1 (either_one (is_candidate window f x all) (earlier window so_far x) so_far (λ is. earlier_one so_far x v is each.0) (λ _. v))
+    first_one (Some x ∷ xs) so_far each v = first_one xs _ each.1 (either_one (is_candidate f x all) (earlier window so_far x) so_far (λ is. earlier_one so_far x v is each.0) (λ _. v))
 
     nothing_yet : IsOne None
     unfolding IsOne
     nothing_yet x e = absurd cc
 
-    pub is_one : (xs : List (Option KeptClaim)) (x : KeptClaim) → EachKept xs → first_candidate window f all xs None ≡ Some x → (is_candidate window f x all ≡ true) × Such x
+    pub is_one : (xs : List (Option KeptClaim)) (x : KeptClaim) → EachKept xs → first_candidate window f all xs None ≡ Some x → (is_candidate f x all ≡ true) × Such x
     unfolding IsOne
     is_one xs x each e = first_one xs None each nothing_yet x e

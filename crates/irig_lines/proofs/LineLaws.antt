@@ -22,7 +22,7 @@ use Rattle.irig_port.specs.Hearing.{IsRun}
 use Rattle.irig_port.proofs.CarriesLaws.{carries_is_told}
 use Rattle.irig_port.proofs.LimitLaws.{claim_within}
 use Rattle.irig_lines.specs.declared.within.Within.{Within}
-use Rattle.irig_lines.specs.Exactness.{end_off_us}
+use Rattle.irig_lines.specs.Exactness.{half_us, end_off_us}
 use Rattle.irig_lines.specs.Edges.{IsQuartz, IsTrueNear}
 use Rattle.irig_lines.specs.declared.setup.ClockRules.{ClockRules}
 use Rattle.irig_lines.specs.declared.lines.KeptFrame.{KeptFrame}
@@ -240,7 +240,7 @@ one_late EndsSo Ends more within d rules (Some kept) p pulses before =
 
 -- a frame's last pulse: what the port then tells
 told_here : (Ends : ℕ → Type 0) (within d : ℕ) (limits : Option Limits) (rules : Rules) (told : Told) (heard : List Symbol) (place time width : ℕ) (pulses : List Pulse) → told_within limits rules heard ≡ told → 1 ≤ place → IsRun heard place (pulse_at time width ∷ pulses) → AreEven within d (pulse_at time width ∷ pulses) → Ends (time + 10000)
-    → IfKept Ends within d rules (claim_told told ((time % 2 ^ 32 + 10000) % 2 ^ 32)) (pulse_at time width ∷ pulses)
+    → IfKept Ends within d rules (claim_told told ((time % 2 ^ 32 + 10000) % 2 ^ 32) (half_us within)) (pulse_at time width ∷ pulses)
 told_here Ends within d limits rules tells.Silence heard place time width pulses e some run even ends = tt
 told_here Ends within d limits rules (tells.Fault f) heard place time width pulses e some run even ends = tt
 told_here Ends within d limits rules (tells.Poor q) heard place time width pulses e some run even ends = tt
@@ -265,8 +265,8 @@ told_here Ends within d limits rules (tells.Claim c) heard place time width puls
       )
 ]
 
-pub kept_more : (EndsSo Ends : ℕ → Type 0) → (c : ClockRules) (begin place : ℕ) → (¬ (place ≡ 100) → (end : ℕ) → EndsSo end → Ends end) → (limits : Option Limits) (rules : Rules) (frame : Option KeptFrame) (heard : List Symbol) (time width : ℕ) (pulses : List Pulse) → IsRun heard place (pulse_at time width ∷ pulses) → IfKept EndsSo c.within.us c.drift_us rules (claim_kept frame) pulses → (place ≡ 100 → is_even c begin (time % 2 ^ 32) ≡ true → AreEven c.within.us c.drift_us (pulse_at time width ∷ pulses)) → (place ≡ 100 → Ends (time + 10000))
-    → IfKept Ends c.within.us c.drift_us rules (claim_kept (frame_behind c place begin (time % 2 ^ 32) (told_within limits rules heard) frame)) (pulse_at time width ∷ pulses)
+pub kept_more : (EndsSo Ends : ℕ → Type 0) → (c : ClockRules) (begin place : ℕ) → (¬ (place ≡ 100) → (end : ℕ) → EndsSo end → Ends end) → (limits : Option Limits) (rules : Rules) (frame : Option KeptFrame) (heard : List Symbol) (time width : ℕ) (pulses : List Pulse) → IsRun heard place (pulse_at time width ∷ pulses) → IfKept EndsSo c.within.us c.drift_us rules (claim_kept c.within.us frame) pulses → (place ≡ 100 → is_even c begin (time % 2 ^ 32) ≡ true → AreEven c.within.us c.drift_us (pulse_at time width ∷ pulses)) → (place ≡ 100 → Ends (time + 10000))
+    → IfKept Ends c.within.us c.drift_us rules (claim_kept c.within.us (frame_behind c place begin (time % 2 ^ 32) (told_within limits rules heard) frame)) (pulse_at time width ∷ pulses)
 kept_more EndsSo Ends c begin place more limits rules frame heard time width pulses run before evens ends = elim (cases_Bool (place == 100)) [
   | inl whole ↦
       let at : place ≡ 100 = eqb-true place 100 whole in
@@ -274,5 +274,5 @@ kept_more EndsSo Ends c begin place more limits rules frame heard time width pul
         | inl even ↦ rw even (told_here Ends c.within.us c.drift_us limits rules (told_within limits rules heard) heard place time width pulses refl (omega (arith, at)) run (evens at even) (ends at))
         | inr odd ↦ rw odd tt
       ])
-  | inr inside ↦ rw inside (one_late EndsSo Ends (more (eqb-false place 100 inside)) c.within.us c.drift_us rules (claim_kept frame) (pulse_at time width) pulses before)
+  | inr inside ↦ rw inside (one_late EndsSo Ends (more (eqb-false place 100 inside)) c.within.us c.drift_us rules (claim_kept c.within.us frame) (pulse_at time width) pulses before)
 ]

@@ -1,18 +1,21 @@
--- The edge on which lines agree, by its parts: the frame that agrees with enough others and ends
--- first, and two times behind its end.
-use Rattle.std.specs.Prelude.{◌&&◌, count_by, nat_le, nat_lt, min, max}
-use Rattle.std.proofs.Common.{◌≡◌, ℕ, ◌+◌, ◌^◌, ◌<◌, ◌≤◌, Bool, true, false, cond, List, [], ◌∷◌, Option, Some, None, refl, sym, subst, arith, inl, inr}
+-- The edge on which lines agree, by its parts: the frame that agrees with enough others and whose last
+-- time comes first, and an interval about that time.
+use Rattle.std.specs.Prelude.{◌&&◌, count_by, nat_le, nat_lt, min}
+use Rattle.std.proofs.Common.{◌≡◌, ℕ, ◌+◌, ◌-◌, ◌*◌, ◌%◌, ◌^◌, ◌<◌, ◌≤◌, ◌∙◌, Bool, true, false, cond, List, [], ◌∷◌, Option, Some, None, refl, sym, subst, arith, inl, inr}
 use Rattle.std.proofs.lemmas.Bool.{cases_lt, ltb-true, leb-true}
 use Rattle.irig_sync.specs.Sync.{clock_gap}
 use Rattle.irig_time.specs.Claims.{same_claim}
 use Rattle.irig_vote.specs.Vote.{f_of}
+use Rattle.irig_port.specs.declared.told.Told.{Told}
+use Rattle.irig_port.specs.declared.told.Told.TheVariants as tells
 use Rattle.irig_lines.specs.declared.lines.KeptClaim.{KeptClaim}
+use Rattle.irig_lines.specs.declared.lines.KeptFrame.{KeptFrame}
 use Rattle.irig_lines.specs.declared.lines.Lines.{Lines}
 use Rattle.irig_lines.specs.declared.lines.Vote.{Vote}
 use Rattle.irig_lines.specs.declared.setup.ClockRules.{ClockRules}
-use Rattle.irig_lines.specs.Exactness.{window_us}
-use Rattle.irig_lines.specs.Steps.{all_kept, agrees, is_candidate, first_candidate, place_behind, ends_by, ends_from, end_behind, ended_by, ending_from, vote_between, vote_with, agreed}
-use Rattle.irig_lines.proofs.AgreeLaws.{as_many}
+use Rattle.irig_lines.specs.Exactness.{half_us, window_us, most_within_us}
+use Rattle.irig_lines.specs.Steps.{claim_told, claim_kept, all_kept, first_us, last_us, agrees, is_candidate, first_candidate, place_behind, ends_by, ends_from, ends_near, begins_near, last_behind, first_before, least_behind, least_before, vote_between, vote_with, agreed}
+use Rattle.irig_lines.proofs.AgreeLaws.{EachKept, as_many}
 
 pub split : (a b : Bool) → (a && b) ≡ true → (a ≡ true) × (b ≡ true)
 split true b e = (refl, e)
@@ -27,123 +30,200 @@ low_is g w h = grind (arith, h)
 less_is : (g w : ℕ) → g < w → nat_lt g w ≡ true
 less_is g w h = grind (arith, h)
 
+-- ---- by the clock of 32 bits
+
+-- what agrees with a time lies about it: its first time before, and its last one behind
+pub gap_behind : (end half time : ℕ) → half ≤ 449 → time < 2 ^ 32 → clock_gap ((end + 2 ^ 32 - half) % 2 ^ 32) time ≤ 2 * half → clock_gap time ((end + half) % 2 ^ 32) + clock_gap ((end + 2 ^ 32 - half) % 2 ^ 32) time ≡ 2 * half
+gap_behind end half time narrow range near = omega (arith, narrow, range, near)
+
+-- a time that lies so little before another one has its place
+place_before : (first time : ℕ) → first < 2 ^ 32 → time < 2 ^ 32 → clock_gap first time ≤ 898 → (clock_gap time first + 1000) % 2 ^ 32 + clock_gap first time ≡ 1000
+place_before first time range range' near = omega (arith, range, range', near)
+
+-- of alike frames those agree that end with this one, or up to the window behind
+gap_of_ends : (x y half : ℕ) → half ≤ 449 → x < 2 ^ 32 → y < 2 ^ 32 → clock_gap ((y + 2 ^ 32 - half) % 2 ^ 32) ((x + half) % 2 ^ 32) ≤ 2 * half → clock_gap x y ≤ 2 * half
+gap_of_ends x y half narrow range range' near = omega (arith, narrow, range, range', near)
+
+gap_about : (x y half : ℕ) → half ≤ 449 → x < 2 ^ 32 → y < 2 ^ 32 → clock_gap x y ≤ 2 * half → clock_gap ((y + 2 ^ 32 - half) % 2 ^ 32) ((x + half) % 2 ^ 32) ≤ 2 * half
+gap_about x y half narrow range range' near = omega (arith, narrow, range, range', near)
+
 -- ---- two times that count enough frames
 
-module _ (window f : ℕ) (x : KeptClaim) (all : List (Option KeptClaim)) (narrow : window ≤ 898) where
+-- of a frame whose line is so exact
+abbrev pub IsHalf : ℕ → KeptClaim → Type 0
+IsHalf within y = y.half_us ≡ half_us within
+
+pub ends_agree : (within : ℕ) (x y : KeptClaim) → within ≤ most_within_us → IsHalf within x → IsHalf within y → x.end_us < 2 ^ 32 → y.end_us < 2 ^ 32 → agrees x (Some y) ≡ true → (same_claim x.claim y.claim ≡ true) × (clock_gap x.end_us y.end_us ≤ window_us within)
+ends_agree within x y few half half' range range' e =
+    let parts = split (same_claim x.claim y.claim) (nat_le (clock_gap (first_us y) (last_us x)) (2 * y.half_us)) e in
+    let near = leb-true (clock_gap (first_us y) (last_us x)) (2 * y.half_us) parts.1 in
+    let low = about x.half_us y.half_us half half' near in
+    (parts.0, low)
+  where
+    about : (h h' : ℕ) → h ≡ half_us within → h' ≡ half_us within → clock_gap ((y.end_us + 2 ^ 32 - h') % 2 ^ 32) ((x.end_us + h) % 2 ^ 32) ≤ 2 * h' → clock_gap x.end_us y.end_us ≤ window_us within
+    about h h' is is' near =
+        let same : h ≡ h' = is ∙ sym is' in
+        let low = gap_of_ends x.end_us y.end_us h' (omega (arith, is', few)) range range' (subst (λ (g : ℕ). clock_gap ((y.end_us + 2 ^ 32 - h') % 2 ^ 32) ((x.end_us + g) % 2 ^ 32) ≤ 2 * h') same near) in
+        omega (arith, low, is')
+
+pub agree_by_ends : (within : ℕ) (x y : KeptClaim) → within ≤ most_within_us → IsHalf within x → IsHalf within y → x.end_us < 2 ^ 32 → y.end_us < 2 ^ 32 → same_claim x.claim y.claim ≡ true → clock_gap x.end_us y.end_us ≤ window_us within → agrees x (Some y) ≡ true
+agree_by_ends within x y few half half' range range' same near = both _ _ same (low_is (clock_gap (first_us y) (last_us x)) (2 * y.half_us) (about x.half_us y.half_us half half'))
+  where
+    about : (h h' : ℕ) → h ≡ half_us within → h' ≡ half_us within → clock_gap ((y.end_us + 2 ^ 32 - h') % 2 ^ 32) ((x.end_us + h) % 2 ^ 32) ≤ 2 * h'
+    about h h' is is' =
+        let same : h' ≡ h = is' ∙ sym is in
+        let low = gap_about x.end_us y.end_us h' (omega (arith, is', few)) range range' (omega (arith, near, is')) in
+        subst (λ (g : ℕ). clock_gap ((y.end_us + 2 ^ 32 - h') % 2 ^ 32) ((x.end_us + g) % 2 ^ 32) ≤ 2 * h') same low
+
+module _ (within f : ℕ) (few : within ≤ most_within_us) (x : KeptClaim) (all : List (Option KeptClaim)) (each : EachKept (IsHalf within) all) where
+  abbrev window : ℕ
+  window = window_us within
+
   -- what agrees ends in time
-  agrees_by : (o : Option KeptClaim) → agrees window x o ≡ true → ends_by x window o ≡ true
-  agrees_by None e = absurd cc
-  agrees_by (Some y) e =
-      let parts = split (same_claim x.claim y.claim) (nat_le (clock_gap x.end_us y.end_us) window) e in
-      let gap = leb-true (clock_gap x.end_us y.end_us) window parts.1 in
-      both _ _ parts.0 (low_is (place_behind x y) (window + 1000) (omega (arith, gap, narrow)))
+  agrees_by : (y : KeptClaim) → IsHalf within y → agrees x (Some y) ≡ true → ends_by x window (Some y) ≡ true
+  agrees_by y half e =
+      let parts = split (same_claim x.claim y.claim) (nat_le (clock_gap (first_us y) (last_us x)) (2 * y.half_us)) e in
+      let near = leb-true (clock_gap (first_us y) (last_us x)) (2 * y.half_us) parts.1 in
+      let gap = gap_behind y.end_us y.half_us (last_us x) (omega (arith, half, few)) (omega arith) near in
+      both _ _ parts.0 (low_is (place_behind x (last_us y)) (window + 1000) (omega (arith, gap, half)))
 
-  agrees_from : (o : Option KeptClaim) → agrees window x o ≡ true → ends_from x 0 o ≡ true
-  agrees_from None e = absurd cc
-  agrees_from (Some y) e =
-      let parts = split (same_claim x.claim y.claim) (nat_le (clock_gap x.end_us y.end_us) window) e in
-      let gap = leb-true (clock_gap x.end_us y.end_us) window parts.1 in
-      both _ _ parts.0 (both _ _ (low_is (0 + 1000) (place_behind x y) (omega (arith, gap, narrow))) (less_is (place_behind x y) (2 ^ 31) (omega (arith, gap, narrow))))
+  agrees_from : (y : KeptClaim) → IsHalf within y → agrees x (Some y) ≡ true → ends_from x window (Some y) ≡ true
+  agrees_from y half e =
+      let parts = split (same_claim x.claim y.claim) (nat_le (clock_gap (first_us y) (last_us x)) (2 * y.half_us)) e in
+      let near = leb-true (clock_gap (first_us y) (last_us x)) (2 * y.half_us) parts.1 in
+      let place = place_before (first_us y) (last_us x) (omega arith) (omega arith) (omega (arith, near, half, few)) in
+      both _ _ parts.0 (both _ _ (low_is 1000 (place_behind x (first_us y) + window) (omega (arith, place, near, half))) (less_is (place_behind x (first_us y)) (2 ^ 31) (omega (arith, place))))
 
-  -- a time by which enough frames end
-  record IsBy (p : ℕ) : Type 0 where
+  -- so far behind lies the edge of enough frames
+  record IsBehind (p : ℕ) : Type 0 where
     most : p ≤ window
     many : f < count_by (ends_by x p) all
 
-  record IsFrom (p : ℕ) : Type 0 where
+  record IsBefore (p : ℕ) : Type 0 where
     most : p ≤ window
     many : f < count_by (ends_from x p) all
 
-  least_by : (p q : ℕ) → IsBy p → IsBy q → IsBy (min p q)
-  least_by p q one other = elim (cases_lt p q) [
-    | inl less ↦ let is : min p q ≡ p = grind (arith, less) in subst IsBy (sym is) one
-    | inr more ↦ let is : min p q ≡ q = grind (arith, more) in subst IsBy (sym is) other
+  of_less : (Such : ℕ → Type 0) (p q : ℕ) → Such p → Such q → Such (min p q)
+  of_less Such p q one other = elim (cases_lt p q) [
+    | inl less ↦ let is : min p q ≡ p = grind (arith, less) in subst Such (sym is) one
+    | inr more ↦ let is : min p q ≡ q = grind (arith, more) in subst Such (sym is) other
   ]
 
-  most_from : (p q : ℕ) → IsFrom p → IsFrom q → IsFrom (max p q)
-  most_from p q one other = elim (cases_lt p q) [
-    | inl less ↦ let is : max p q ≡ q = grind (arith, less) in subst IsFrom (sym is) other
-    | inr more ↦ let is : max p q ≡ p = grind (arith, more) in subst IsFrom (sym is) one
-  ]
+  behind_low : (o : Option KeptClaim) → ends_near window x o ≡ true → last_behind x o ≤ window
+  behind_low None e = omega arith
+  behind_low (Some y) e =
+      let parts = split (same_claim x.claim y.claim) (nat_le (clock_gap (last_us x) (last_us y)) window) e in
+      leb-true (clock_gap (last_us x) (last_us y)) window parts.1
 
-  end_low : (o : Option KeptClaim) → agrees window x o ≡ true → end_behind x o ≤ window
-  end_low None e = omega arith
-  end_low (Some y) e =
-      let parts = split (same_claim x.claim y.claim) (nat_le (clock_gap x.end_us y.end_us) window) e in
-      leb-true (clock_gap x.end_us y.end_us) window parts.1
+  before_low : (o : Option KeptClaim) → begins_near window x o ≡ true → first_before x o ≤ window
+  before_low None e = omega arith
+  before_low (Some y) e =
+      let parts = split (same_claim x.claim y.claim) (nat_le (clock_gap (first_us y) (last_us x)) window) e in
+      leb-true (clock_gap (first_us y) (last_us x)) window parts.1
 
-  by_is : (ys : List (Option KeptClaim)) (so_far : ℕ) → IsBy so_far → IsBy (ended_by window f x all ys so_far)
-  by_is [] so_far is = is
-  by_is (y ∷ ys) so_far is = by_is ys _ (of (agrees window x y) (nat_lt f (count_by (ends_by x (end_behind x y)) all)) refl refl)
+  behind_is : (ys : List (Option KeptClaim)) (so_far : ℕ) → IsBehind so_far → IsBehind (least_behind window f x all ys so_far)
+  behind_is [] so_far is = is
+  behind_is (y ∷ ys) so_far is = behind_is ys _ (of (ends_near window x y) (nat_lt f (count_by (ends_by x (last_behind x y)) all)) refl refl)
     where
-      of : (a b : Bool) → agrees window x y ≡ a → nat_lt f (count_by (ends_by x (end_behind x y)) all) ≡ b → IsBy (cond (a && b) (min (end_behind x y) so_far) so_far)
-      of true true p q = least_by (end_behind x y) so_far (record { most = end_low y p; many = ltb-true f (count_by (ends_by x (end_behind x y)) all) q }) is
+      of : (a b : Bool) → ends_near window x y ≡ a → nat_lt f (count_by (ends_by x (last_behind x y)) all) ≡ b → IsBehind (cond (a && b) (min (last_behind x y) so_far) so_far)
+      of true true p q = of_less IsBehind (last_behind x y) so_far (record { most = behind_low y p; many = ltb-true f (count_by (ends_by x (last_behind x y)) all) q }) is
       of true false p q = is
       of false b p q = is
 
-  from_is : (ys : List (Option KeptClaim)) (so_far : ℕ) → IsFrom so_far → IsFrom (ending_from window f x all ys so_far)
-  from_is [] so_far is = is
-  from_is (y ∷ ys) so_far is = from_is ys _ (of (agrees window x y) (nat_lt f (count_by (ends_from x (end_behind x y)) all)) refl refl)
+  before_is : (ys : List (Option KeptClaim)) (so_far : ℕ) → IsBefore so_far → IsBefore (least_before window f x all ys so_far)
+  before_is [] so_far is = is
+  before_is (y ∷ ys) so_far is = before_is ys _ (of (begins_near window x y) (nat_lt f (count_by (ends_from x (first_before x y)) all)) refl refl)
     where
-      of : (a b : Bool) → agrees window x y ≡ a → nat_lt f (count_by (ends_from x (end_behind x y)) all) ≡ b → IsFrom (cond (a && b) (max (end_behind x y) so_far) so_far)
-      of true true p q = most_from (end_behind x y) so_far (record { most = end_low y p; many = ltb-true f (count_by (ends_from x (end_behind x y)) all) q }) is
+      of : (a b : Bool) → begins_near window x y ≡ a → nat_lt f (count_by (ends_from x (first_before x y)) all) ≡ b → IsBefore (cond (a && b) (min (first_before x y) so_far) so_far)
+      of true true p q = of_less IsBefore (first_before x y) so_far (record { most = before_low y p; many = ltb-true f (count_by (ends_from x (first_before x y)) all) q }) is
       of true false p q = is
       of false b p q = is
 
-  module _ (is : is_candidate window f x all ≡ true) where
-    enough : f < count_by (agrees window x) all
-    enough = ltb-true f (count_by (agrees window x) all) is
+  module _ (is : is_candidate f x all ≡ true) where
+    enough : f < count_by (agrees x) all
+    enough = ltb-true f (count_by (agrees x) all) is
 
-    last_by : IsBy (ended_by window f x all all window)
-    last_by = by_is all window (record { most = omega arith; many = (let more = as_many (agrees window x) (ends_by x window) agrees_by all in omega (arith, enough, more)) })
+    behind_at : IsBehind (least_behind window f x all all window)
+    behind_at = behind_is all window (record { most = omega arith; many = (let more = as_many (IsHalf within) (agrees x) (ends_by x window) refl agrees_by all each in omega (arith, enough, more)) })
 
-    first_from : IsFrom (ending_from window f x all all 0)
-    first_from = from_is all 0 (record { most = omega arith; many = (let more = as_many (agrees window x) (ends_from x 0) agrees_from all in omega (arith, enough, more)) })
+    before_at : IsBefore (least_before window f x all all window)
+    before_at = before_is all window (record { most = omega arith; many = (let more = as_many (IsHalf within) (agrees x) (ends_from x window) refl agrees_from all each in omega (arith, enough, more)) })
+
+-- ---- what five lines keep is so exact
+
+pub half_kept : (within : ℕ) (frame : Option KeptFrame) (y : KeptClaim) → claim_kept within frame ≡ Some y → IsHalf within y
+half_kept within None y e = absurd cc
+half_kept within (Some x) y e = of x.is_even x.told e
+  where
+    of : (b : Bool) (told : Told) → cond b (claim_told told x.end_us (half_us within)) None ≡ Some y → IsHalf within y
+    of false told e = absurd cc
+    of true (tells.Claim c) e = cc
+    of true tells.Silence e = absurd cc
+    of true (tells.Fault f) e = absurd cc
+    of true (tells.Poor q) e = absurd cc
+
+pub one_more : (Such : KeptClaim → Type 0) (o : Option KeptClaim) (xs : List (Option KeptClaim)) → ((y : KeptClaim) → o ≡ Some y → Such y) → EachKept Such xs → EachKept Such (o ∷ xs)
+one_more Such None xs such each = each
+one_more Such (Some y) xs such each = (such y refl, each)
+
+pub each_half : (within : ℕ) (lines : Lines) → EachKept (IsHalf within) (all_kept within lines)
+each_half within lines =
+    one_more (IsHalf within) _ _ (half_kept within lines.a.frame)
+    (one_more (IsHalf within) _ _ (half_kept within lines.b.frame)
+    (one_more (IsHalf within) _ _ (half_kept within lines.c.frame)
+    (one_more (IsHalf within) _ _ (half_kept within lines.d.frame)
+    (one_more (IsHalf within) _ _ (half_kept within lines.e.frame) tt))))
 
 -- ---- the parts of a vote
 
--- the vote is of this frame, and its edge the middle of two times behind the frame's end; by the one
--- more than f frames end, and from the other on
+-- the vote is of this frame, and its edge the middle of an interval about its last time; more than f
+-- frames allow no earlier edge, and more than f no later one
 pub record IsVoteOf (c : ClockRules) (all : List (Option KeptClaim)) (v : Vote) (x : KeptClaim) : Type 0 where
-  pub from : ℕ
-  pub by : ℕ
-  pub is : v ≡ vote_between c.within.us c.drift_us x from by
-  pub is_from : from ≡ ending_from (window_us c.within.us) (f_of c.redundancy) x all all 0
-  pub is_by : by ≡ ended_by (window_us c.within.us) (f_of c.redundancy) x all all (window_us c.within.us)
-  pub from_most : from ≤ window_us c.within.us
-  pub by_most : by ≤ window_us c.within.us
-  pub many_from : f_of c.redundancy < count_by (ends_from x from) all
-  pub many_by : f_of c.redundancy < count_by (ends_by x by) all
+  pub before : ℕ
+  pub behind : ℕ
+  pub is : v ≡ vote_between c.drift_us x before behind
+  pub is_before : before ≡ least_before (window_us c.within.us) (f_of c.redundancy) x all all (window_us c.within.us)
+  pub is_behind : behind ≡ least_behind (window_us c.within.us) (f_of c.redundancy) x all all (window_us c.within.us)
+  pub before_most : before ≤ window_us c.within.us
+  pub behind_most : behind ≤ window_us c.within.us
+  pub many_from : f_of c.redundancy < count_by (ends_from x before) all
+  pub many_by : f_of c.redundancy < count_by (ends_by x behind) all
 
 -- a window is at most 898 us wide
 pub narrow : (c : ClockRules) → window_us c.within.us ≤ 898
 narrow c = omega (arith, c.within.few)
 
--- the candidate that ends first makes the vote
+-- the vote by this frame
+abbrev pub vote_by : ClockRules → List (Option KeptClaim) → KeptClaim → Vote
+vote_by c all x =
+    vote_between c.drift_us x (least_before (window_us c.within.us) (f_of c.redundancy) x all all (window_us c.within.us))
+    (least_behind (window_us c.within.us) (f_of c.redundancy) x all all (window_us c.within.us))
+
+abbrev pub first_of : ClockRules → List (Option KeptClaim) → Option KeptClaim
+first_of c all = first_candidate (window_us c.within.us) (f_of c.redundancy) all all None
+
+-- the candidate whose last time comes first makes the vote
 pub agreed_first : (c : ClockRules) (lines : Lines) (v : Vote) → agreed c lines ≡ Some v
-    → (x : KeptClaim) × (first_candidate (window_us c.within.us) (f_of c.redundancy) (all_kept lines) (all_kept lines) None ≡ Some x)
-    × (v ≡ vote_between c.within.us c.drift_us x (ending_from (window_us c.within.us) (f_of c.redundancy) x (all_kept lines) (all_kept lines) 0) (ended_by (window_us c.within.us) (f_of c.redundancy) x (all_kept lines) (all_kept lines) (window_us c.within.us)))
-agreed_first c lines v e = of (first_candidate (window_us c.within.us) (f_of c.redundancy) (all_kept lines) (all_kept lines) None) refl e
+    → (x : KeptClaim) × (first_of c (all_kept c.within.us lines) ≡ Some x) × (v ≡ vote_by c (all_kept c.within.us lines) x)
+agreed_first c lines v e = of (first_of c (all_kept c.within.us lines)) refl e
   where
-    of : (o : Option KeptClaim) → first_candidate (window_us c.within.us) (f_of c.redundancy) (all_kept lines) (all_kept lines) None ≡ o → vote_with c.within.us c.drift_us (f_of c.redundancy) (all_kept lines) o ≡ Some v
-        → (x : KeptClaim) × (first_candidate (window_us c.within.us) (f_of c.redundancy) (all_kept lines) (all_kept lines) None ≡ Some x)
-        × (v ≡ vote_between c.within.us c.drift_us x (ending_from (window_us c.within.us) (f_of c.redundancy) x (all_kept lines) (all_kept lines) 0) (ended_by (window_us c.within.us) (f_of c.redundancy) x (all_kept lines) (all_kept lines) (window_us c.within.us)))
+    of : (o : Option KeptClaim) → first_of c (all_kept c.within.us lines) ≡ o → vote_with c.within.us c.drift_us (f_of c.redundancy) (all_kept c.within.us lines) o ≡ Some v
+        → (x : KeptClaim) × (first_of c (all_kept c.within.us lines) ≡ Some x) × (v ≡ vote_by c (all_kept c.within.us lines) x)
     of None first e = absurd cc
     of (Some x) first e = (x, first, cc)
 
-pub vote_of : (c : ClockRules) (all : List (Option KeptClaim)) (v : Vote) (x : KeptClaim) → is_candidate (window_us c.within.us) (f_of c.redundancy) x all ≡ true
-    → v ≡ vote_between c.within.us c.drift_us x (ending_from (window_us c.within.us) (f_of c.redundancy) x all all 0) (ended_by (window_us c.within.us) (f_of c.redundancy) x all all (window_us c.within.us)) → IsVoteOf c all v x
-vote_of c all v x is same =
-    let from = first_from (window_us c.within.us) (f_of c.redundancy) x all (narrow c) is in
-    let by = last_by (window_us c.within.us) (f_of c.redundancy) x all (narrow c) is in
+pub vote_of : (c : ClockRules) (lines : Lines) (v : Vote) (x : KeptClaim) → is_candidate (f_of c.redundancy) x (all_kept c.within.us lines) ≡ true → v ≡ vote_by c (all_kept c.within.us lines) x → IsVoteOf c (all_kept c.within.us lines) v x
+vote_of c lines v x is same =
+    let before = before_at c.within.us (f_of c.redundancy) c.within.few x (all_kept c.within.us lines) (each_half c.within.us lines) is in
+    let behind = behind_at c.within.us (f_of c.redundancy) c.within.few x (all_kept c.within.us lines) (each_half c.within.us lines) is in
     record {
-      from = ending_from (window_us c.within.us) (f_of c.redundancy) x all all 0;
-      by = ended_by (window_us c.within.us) (f_of c.redundancy) x all all (window_us c.within.us);
+      before = least_before (window_us c.within.us) (f_of c.redundancy) x (all_kept c.within.us lines) (all_kept c.within.us lines) (window_us c.within.us);
+      behind = least_behind (window_us c.within.us) (f_of c.redundancy) x (all_kept c.within.us lines) (all_kept c.within.us lines) (window_us c.within.us);
       is = same;
-      is_from = refl;
-      is_by = refl;
-      from_most = from.most;
-      by_most = by.most;
-      many_from = from.many;
-      many_by = by.many;
+      is_before = refl;
+      is_behind = refl;
+      before_most = before.most;
+      behind_most = behind.most;
+      many_from = before.many;
+      many_by = behind.many;
     }

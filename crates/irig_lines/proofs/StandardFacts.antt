@@ -6,8 +6,11 @@ use Rattle.irig_reader.specs.declared.rules.ReaderRules.{ReaderRules}
 use Rattle.irig_lines.specs.declared.lines.KeptClaim.{KeptClaim}
 use Rattle.irig_lines.specs.declared.lines.Vote.{Vote}
 use Rattle.irig_lines.specs.declared.interval.Interval.{Interval}
+use Rattle.irig_lines.specs.declared.rate.Anchor.{Anchor}
+use Rattle.irig_lines.specs.declared.rate.Rate.{Rate}
+use Rattle.irig_lines.specs.Rates.{mean_since}
 use Rattle.irig_lines.specs.Intervals.{by_vote, carried, cut, contradicts}
-use Rattle.irig_lines.specs.Exactness.{window_us}
+use Rattle.irig_lines.specs.Exactness.{half_us, window_us}
 use Rattle.irig_lines.specs.Counting.{edges_to, edges_to_vote, edges_own, edge_behind, is_late, has_come}
 use Rattle.irig_lines.specs.Refusals.{clock_fault}
 use Rattle.irig_lines.specs.declared.setup.ClockFault.TheVariants.{Drift, Holdover}
@@ -40,14 +43,16 @@ known_refused = (refl, refl, refl, refl, refl)
 abbrev claim_of : ℕ → Claim
 claim_of sod = record { at = record { day = 6209; sod = sod }; mark = Unspoken }
 
-abbrev frame_of : ℕ → ℕ → Option KeptClaim
-frame_of sod end = Some (record { claim = claim_of sod; end_us = end })
+abbrev frame_of : (sod half end : ℕ) → Option KeptClaim
+frame_of sod half end = Some (record { claim = claim_of sod; end_us = end; half_us = half })
 
-abbrev three : ℕ → ℕ → ℕ → List (Option KeptClaim)
-three a b c = frame_of 7 a ∷ frame_of 7 b ∷ frame_of 7 c ∷ None ∷ None ∷ []
+abbrev three : (within a b c : ℕ) → List (Option KeptClaim)
+three within a b c =
+    frame_of 7 (half_us within) a ∷ frame_of 7 (half_us within) b ∷ frame_of 7 (half_us within) c ∷ None ∷ None ∷ []
 
-abbrev two : ℕ → ℕ → List (Option KeptClaim)
-two a b = frame_of 7 a ∷ frame_of 7 b ∷ frame_of 8 b ∷ None ∷ None ∷ []
+abbrev two : (within a b : ℕ) → List (Option KeptClaim)
+two within a b =
+    frame_of 7 (half_us within) a ∷ frame_of 7 (half_us within) b ∷ frame_of 8 (half_us within) b ∷ None ∷ None ∷ []
 
 abbrev vote_in : (within d f : ℕ) → List (Option KeptClaim) → Option Vote
 vote_in within d f all = vote_with within d f all (first_candidate (window_us within) f all all None)
@@ -57,14 +62,22 @@ edge_of edge bound = Some (record { claim = claim_of 7; edge_us = edge; bound_us
 
 -- two lines at the limits of 450 us leave an edge between them, 899 us off at most; three the second
 -- of them, 450 us off at most; further apart none, nor of two claims, nor by three lines
-pub known_agreed : (vote_in 450 100 1 (two 4294967000 602) ≡ edge_of 153 899) × (vote_in 450 100 1 (two 4294967000 603) ≡ None) × (vote_in 450 100 1 (three 4294967000 4294967200 602) ≡ edge_of 4294967200 450)
-    × (vote_in 450 0 1 (three 4294967000 602 1502) ≡ edge_of 602 449) × (vote_in 450 100 2 (two 4294967000 602) ≡ None)
+pub known_agreed : (vote_in 450 100 1 (two 450 4294967000 602) ≡ edge_of 153 899) × (vote_in 450 100 1 (two 450 4294967000 603) ≡ None) × (vote_in 450 100 1 (three 450 4294967000 4294967200 602) ≡ edge_of 4294967200 450)
+    × (vote_in 450 0 1 (three 450 4294967000 602 1502) ≡ edge_of 602 449) × (vote_in 450 100 2 (two 450 4294967000 602) ≡ None)
 known_agreed = (refl, refl, refl, refl, refl)
 
 -- at 10 us by a counter of 1 ppm they leave 19 us and 10 us, and the middle is rounded to what comes
 -- first
-pub known_exact : (vote_in 10 1 1 (two 4294967290 12) ≡ edge_of 3 19) × (vote_in 10 1 1 (two 4294967290 13) ≡ None) × (vote_in 10 1 1 (three 4294967290 4294967295 12) ≡ edge_of 4294967295 10) × (vote_in 10 1 1 (two 7 8) ≡ edge_of 7 11)
+pub known_exact : (vote_in 10 1 1 (two 10 4294967290 12) ≡ edge_of 3 19) × (vote_in 10 1 1 (two 10 4294967290 13) ≡ None) × (vote_in 10 1 1 (three 10 4294967290 4294967295 12) ≡ edge_of 4294967295 10) × (vote_in 10 1 1 (two 10 7 8) ≡ edge_of 7 11)
 known_exact = (refl, refl, refl, refl)
+
+-- frames whose edges lie 9 us and 1,009 us off agree: two that are good and lie 6 us apart tell the edge
+-- alone, wherever the other one lies; with one good one the other two do
+abbrev wide : (a b c half : ℕ) → List (Option KeptClaim)
+wide a b c half = frame_of 7 9 a ∷ frame_of 7 half b ∷ frame_of 7 1009 c ∷ None ∷ None ∷ []
+
+pub known_halves : (vote_in 1010 1 1 (wide 5000 5006 5800 9) ≡ edge_of 5003 13) × (vote_in 1010 1 1 (wide 5000 5006 4200 9) ≡ edge_of 5003 13) × (vote_in 1010 1 1 (wide 5000 5700 5800 1009) ≡ edge_of 5750 960)
+known_halves = (refl, refl, refl)
 
 -- a vote 450 us exact; a second later, by a counter that runs 100 us a second wrong, its edge lies 550 us
 -- off at most, so that one that is told 1,000 us late is cut, and one 1,001 us late contradicts; over the
@@ -79,6 +92,17 @@ pub known_intervals : (voted_at 4294967200 ≡ interval_of 4294966750 900) × (c
     × (contradicts (carried 100 1 (voted_at 4294967200)) (voted_at 1000904) ≡ false) × (contradicts (carried 100 1 (voted_at 4294967200)) (voted_at 1000905) ≡ true) × (cut (carried 100 1 (voted_at 4294967200)) (voted_at 1000905) ≡ voted_at 1000905)
     × (contradicts (carried 100 1 (voted_at 4294967200)) (voted_at 998904) ≡ false) × (contradicts (carried 100 1 (voted_at 4294967200)) (voted_at 998903) ≡ true) × (carried 100 4895 (voted_at 7) ≡ Some (interval_of 599542761 979900)) × (carried 100 4896 (voted_at 7) ≡ None)
 known_intervals = (refl, refl, refl, refl, refl, refl, refl, refl, refl, refl)
+
+-- by a counter that is 37 ppm fast, between two edges that are known to 449 us and lie 1,000 s apart, over
+-- the wrap, a second is 1,000,037,000 ns long, to 898 ns; and what does not divide is rounded outwards
+abbrev anchor_of : (begin long seconds : ℕ) → Anchor
+anchor_of begin long seconds = record { begin_us = begin; long_us = long; seconds = seconds }
+
+abbrev measured : (seconds least most : ℕ) → Rate
+measured seconds least most = record { seconds = seconds; least_ns = least; most_ns = most }
+
+pub known_rate : (mean_since (anchor_of 4294966396 898 1000) (interval_of 1000036100 898) ≡ measured 1000 1000036102 1000037898) × (mean_since (anchor_of 0 0 3) (interval_of 3000001 0) ≡ measured 3 1000000333 1000000334)
+known_rate = (refl, refl)
 
 -- to wait
 pub known_wait : (until 4294967000 704 ≡ 1000) × (until 704 4294967000 ≡ 0) × (wait_by 4294000000 (Some 4294000000) None ≡ 1005000) × (wait_by 37704 (Some 4294000000) None ≡ 0) × (wait_by 5 None None ≡ 1000000)

@@ -12,8 +12,12 @@ most_within_us = 450
 abbrev pub most_drift_us : ℕ
 most_drift_us = 100
 
--- frames agree that claim the same and end no further apart than this, by lines that are so exact:
--- less than `within` us
+-- the edge of a true line lies at most this far from where its frame ends, but for the drift of an
+-- element, by lines that are so exact: less than `within` us
+abbrev pub half_us : ℕ → ℕ
+half_us within = within - 1
+
+-- the frames of two true lines end no further apart than this, by lines that are so exact
 abbrev pub window_us : ℕ → ℕ
 window_us within = 2 * (within - 1)
 

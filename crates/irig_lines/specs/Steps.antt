@@ -1,7 +1,8 @@
 -- What becomes of a device's lines by a pulse and at a tick, and on which edge they agree.
 -- Source: this project's profile.
-use Rattle.std.specs.Prelude.{◌≡◌, ℕ, ◌+◌, ◌-◌, ◌/◌, ◌%◌, ◌^◌, ◌==◌, min, max, Bool, true, false, not, ◌&&◌, nat_lt, nat_le, if◌then◌else◌, List, [], ◌∷◌, count_by, Option, Some, None, IfSome}
+use Rattle.std.specs.Prelude.{◌≡◌, ℕ, ◌+◌, ◌-◌, ◌*◌, ◌/◌, ◌%◌, ◌^◌, ◌==◌, min, Bool, true, false, not, ◌&&◌, nat_lt, nat_le, if◌then◌else◌, List, [], ◌∷◌, count_by, Option, Some, None, IfSome}
 use Rattle.irig_sync.specs.Sync.{clock_gap, place_of, pulse_of, idle_of, is_idle}
+use Rattle.irig_sync.specs.Edges.{element_drift}
 use Rattle.irig_sync.specs.Lines.{IsSyncOf}
 use Rattle.irig_time.specs.Claims.{same_claim}
 use Rattle.irig_time.specs.Seconds.{IsValid}
@@ -17,7 +18,7 @@ use Rattle.irig_lines.specs.declared.lines.Vote.{Vote}
 use Rattle.irig_lines.specs.declared.setup.ClockRules.{ClockRules}
 use Rattle.irig_vote.specs.Vote.{f_of}
 use Rattle.irig_lines.specs.Counting.{is_late, is_gone, has_come}
-use Rattle.irig_lines.specs.Exactness.{window_us, end_off_us, uneven_us}
+use Rattle.irig_lines.specs.Exactness.{half_us, window_us, uneven_us}
 
 -- ---- a pulse
 
@@ -161,125 +162,158 @@ are_uneven c lines = nat_lt (f_of c.redundancy) (count_by is_uneven (frames_of l
 -- ---- the edge on which lines agree
 
 -- what a frame claims, if it claims a second
-abbrev pub claim_told : Told → ℕ → Option KeptClaim
-claim_told (tells.Claim c) end = Some (record { claim = c; end_us = end })
-claim_told tells.Silence end = None
-claim_told (tells.Fault f) end = None
-claim_told (tells.Poor q) end = None
+abbrev pub claim_told : Told → (end half : ℕ) → Option KeptClaim
+claim_told (tells.Claim c) end half = Some (record { claim = c; end_us = end; half_us = half })
+claim_told tells.Silence end half = None
+claim_told (tells.Fault f) end half = None
+claim_told (tells.Poor q) end half = None
 
--- the claim of a kept frame that is even, and where it ends
-abbrev pub claim_kept : Option KeptFrame → Option KeptClaim
-claim_kept None = None
-claim_kept (Some frame) = if frame.is_even then claim_told frame.told frame.end_us else None
+-- the claim of a kept frame that is even, where it ends, and how far from there its edge may lie
+abbrev pub claim_kept : (within : ℕ) → Option KeptFrame → Option KeptClaim
+claim_kept within None = None
+claim_kept within (Some frame) =
+    if frame.is_even then claim_told frame.told frame.end_us (half_us within) else None
 
 -- those of the five lines
-abbrev pub all_kept : Lines → List (Option KeptClaim)
-all_kept lines =
-    claim_kept lines.a.frame
-    ∷ claim_kept lines.b.frame
-    ∷ claim_kept lines.c.frame
-    ∷ claim_kept lines.d.frame
-    ∷ claim_kept lines.e.frame
+abbrev pub all_kept : (within : ℕ) → Lines → List (Option KeptClaim)
+all_kept within lines =
+    claim_kept within lines.a.frame
+    ∷ claim_kept within lines.b.frame
+    ∷ claim_kept within lines.c.frame
+    ∷ claim_kept within lines.d.frame
+    ∷ claim_kept within lines.e.frame
     ∷ []
 
--- a frame of the same claim that ends with this one, or so little behind it
-abbrev pub agrees : ℕ → KeptClaim → Option KeptClaim → Bool
-agrees window x None = false
-agrees window x (Some y) = same_claim x.claim y.claim && nat_le (clock_gap x.end_us y.end_us) window
+-- the first time at which the edge of a frame may lie, if its line is true
+abbrev pub first_us : KeptClaim → ℕ
+first_us x = (x.end_us + 2 ^ 32 - x.half_us) % 2 ^ 32
+
+-- the last one
+abbrev pub last_us : KeptClaim → ℕ
+last_us x = (x.end_us + x.half_us) % 2 ^ 32
+
+-- a frame of the same claim whose edge may lie at the last time of this one's
+abbrev pub agrees : KeptClaim → Option KeptClaim → Bool
+agrees x None = false
+agrees x (Some y) =
+    same_claim x.claim y.claim && nat_le (clock_gap (first_us y) (last_us x)) (2 * y.half_us)
 
 -- more than f frames, itself among them, agree with this one
-abbrev pub is_candidate : ℕ → ℕ → KeptClaim → List (Option KeptClaim) → Bool
-is_candidate window f x all = nat_lt f (count_by (agrees window x) all)
+abbrev pub is_candidate : ℕ → KeptClaim → List (Option KeptClaim) → Bool
+is_candidate f x all = nat_lt f (count_by (agrees x) all)
 
--- of two candidates the one that ends first
+-- of two candidates the one whose last time comes first
 abbrev pub earlier : ℕ → Option KeptClaim → KeptClaim → Option KeptClaim
 earlier window None x = Some x
-earlier window (Some y) x = if nat_le (clock_gap y.end_us x.end_us) window then Some y else Some x
+earlier window (Some y) x =
+    if nat_le (clock_gap (last_us y) (last_us x)) window then Some y else Some x
 
--- of these frames the candidate that ends first, or the one so far
+-- of these frames the candidate whose last time comes first, or the one so far
 abbrev pub first_candidate : ℕ → ℕ → List (Option KeptClaim) → List (Option KeptClaim)
     → Option KeptClaim → Option KeptClaim
 first_candidate window f all [] so_far = so_far
 first_candidate window f all (None ∷ xs) so_far = first_candidate window f all xs so_far
 first_candidate window f all (Some x ∷ xs) so_far =
     first_candidate window f all xs
-    (if is_candidate window f x all then earlier window so_far x else so_far)
+    (if is_candidate f x all then earlier window so_far x else so_far)
 
--- ---- where that edge lies, of the frames of a claim that end at most 1 ms before this one, or later
+-- ---- where that edge lies, of the frames of a claim whose last time comes at most 1 ms before that of
+-- this one, or later
 
--- how far behind 1 ms before this one a frame ends
-abbrev pub place_behind : KeptClaim → KeptClaim → ℕ
-place_behind x y = (clock_gap x.end_us y.end_us + 1000) % 2 ^ 32
+-- how far behind 1 ms before the last time of this one a time lies
+abbrev pub place_behind : KeptClaim → ℕ → ℕ
+place_behind x time = (clock_gap (last_us x) time + 1000) % 2 ^ 32
 
--- such a frame ends so far behind this one, or before that
+-- the edge of such a frame lies at most so far behind the last time of this one
 abbrev pub ends_by : KeptClaim → ℕ → Option KeptClaim → Bool
 ends_by x behind None = false
-ends_by x behind (Some y) = same_claim x.claim y.claim && nat_le (place_behind x y) (behind + 1000)
+ends_by x behind (Some y) =
+    same_claim x.claim y.claim && nat_le (place_behind x (last_us y)) (behind + 1000)
 
--- such a frame ends so far behind this one, or later
+-- the edge of such a frame lies at most so far before the last time of this one
 abbrev pub ends_from : KeptClaim → ℕ → Option KeptClaim → Bool
-ends_from x behind None = false
-ends_from x behind (Some y) =
+ends_from x before None = false
+ends_from x before (Some y) =
     same_claim x.claim y.claim
-    && (nat_le (behind + 1000) (place_behind x y) && nat_lt (place_behind x y) (2 ^ 31))
+    && (nat_le 1000 (place_behind x (first_us y) + before)
+    && nat_lt (place_behind x (first_us y)) (2 ^ 31))
 
--- how far behind this one a frame ends
-abbrev pub end_behind : KeptClaim → Option KeptClaim → ℕ
-end_behind x None = 0
-end_behind x (Some y) = clock_gap x.end_us y.end_us
+-- how far behind the last time of this frame that of another one comes
+abbrev pub last_behind : KeptClaim → Option KeptClaim → ℕ
+last_behind x None = 0
+last_behind x (Some y) = clock_gap (last_us x) (last_us y)
 
--- the end of a frame, if it agrees with this one and more than f frames end by then; or the one so far,
--- if that comes before
-abbrev pub earlier_end : (window f : ℕ) → KeptClaim → List (Option KeptClaim) → Option KeptClaim
+-- how far before the last time of this frame the first one of another comes
+abbrev pub first_before : KeptClaim → Option KeptClaim → ℕ
+first_before x None = 0
+first_before x (Some y) = clock_gap (first_us y) (last_us x)
+
+-- the last time of such a frame comes with that of this one, or at most a window behind
+abbrev pub ends_near : (window : ℕ) → KeptClaim → Option KeptClaim → Bool
+ends_near window x None = false
+ends_near window x (Some y) =
+    same_claim x.claim y.claim && nat_le (clock_gap (last_us x) (last_us y)) window
+
+-- the first time of such a frame comes with the last one of this one, or at most a window before
+abbrev pub begins_near : (window : ℕ) → KeptClaim → Option KeptClaim → Bool
+begins_near window x None = false
+begins_near window x (Some y) =
+    same_claim x.claim y.claim && nat_le (clock_gap (first_us y) (last_us x)) window
+
+-- how far behind the last time of this frame that of another one comes, if the edges of more than f
+-- frames lie no further behind; or so far as one so far, if that is less
+abbrev pub less_behind : (window f : ℕ) → KeptClaim → List (Option KeptClaim) → Option KeptClaim
     → (so_far : ℕ) → ℕ
-earlier_end window f x all y so_far =
-    if agrees window x y && nat_lt f (count_by (ends_by x (end_behind x y)) all)
-    then min (end_behind x y) so_far
+less_behind window f x all y so_far =
+    if ends_near window x y && nat_lt f (count_by (ends_by x (last_behind x y)) all)
+    then min (last_behind x y) so_far
     else so_far
 
--- of the ends of these frames the first such one, or the one so far
-abbrev pub ended_by : (window f : ℕ) → KeptClaim → (all ys : List (Option KeptClaim)) → (so_far : ℕ) → ℕ
-ended_by window f x all [] so_far = so_far
-ended_by window f x all (y ∷ ys) so_far = ended_by window f x all ys (earlier_end window f x all y so_far)
-
--- the end of a frame, if it agrees with this one and more than f frames end from then on; or the one so
--- far, if that comes behind
-abbrev pub later_end : (window f : ℕ) → KeptClaim → List (Option KeptClaim) → Option KeptClaim
+-- the least of these frames, or the one so far
+abbrev pub least_behind : (window f : ℕ) → KeptClaim → (all ys : List (Option KeptClaim))
     → (so_far : ℕ) → ℕ
-later_end window f x all y so_far =
-    if agrees window x y && nat_lt f (count_by (ends_from x (end_behind x y)) all)
-    then max (end_behind x y) so_far
+least_behind window f x all [] so_far = so_far
+least_behind window f x all (y ∷ ys) so_far =
+    least_behind window f x all ys (less_behind window f x all y so_far)
+
+-- how far before the last time of this frame the first one of another comes, if the edges of more than f
+-- frames lie no further before; or so far as one so far, if that is less
+abbrev pub less_before : (window f : ℕ) → KeptClaim → List (Option KeptClaim) → Option KeptClaim
+    → (so_far : ℕ) → ℕ
+less_before window f x all y so_far =
+    if begins_near window x y && nat_lt f (count_by (ends_from x (first_before x y)) all)
+    then min (first_before x y) so_far
     else so_far
 
--- of the ends of these frames the last such one, or the one so far
-abbrev pub ending_from : (window f : ℕ) → KeptClaim → (all ys : List (Option KeptClaim)) → (so_far : ℕ)
-    → ℕ
-ending_from window f x all [] so_far = so_far
-ending_from window f x all (y ∷ ys) so_far =
-    ending_from window f x all ys (later_end window f x all y so_far)
+-- the least of these frames, or the one so far
+abbrev pub least_before : (window f : ℕ) → KeptClaim → (all ys : List (Option KeptClaim))
+    → (so_far : ℕ) → ℕ
+least_before window f x all [] so_far = so_far
+least_before window f x all (y ∷ ys) so_far =
+    least_before window f x all ys (less_before window f x all y so_far)
 
--- the edge in the middle of these two times behind this frame's end: it lies no further behind the one,
--- nor before the other, than the frame of a true line may end off its edge
-abbrev pub vote_between : (within d : ℕ) → KeptClaim → (from by : ℕ) → Vote
-vote_between within d x from by = record {
+-- the edge in the middle of an interval that begins so far before the last time of this frame, and
+-- ends so far behind it: it lies no further from either end, but for the drift of an element
+abbrev pub vote_between : (d : ℕ) → KeptClaim → (before behind : ℕ) → Vote
+vote_between d x before behind = record {
   claim = x.claim;
-  edge_us = (x.end_us + (from + by) / 2) % 2 ^ 32;
-  bound_us = end_off_us within d + (by - from + 1) / 2;
+  edge_us = (last_us x + 2 ^ 32 - before + (before + behind) / 2) % 2 ^ 32;
+  bound_us = element_drift d + (before + behind + 1) / 2;
 }
 
 -- the edge on which more than f of these frames agree, by the first that agrees with so many
 abbrev pub vote_with : (within d f : ℕ) → List (Option KeptClaim) → Option KeptClaim → Option Vote
 vote_with within d f all None = None
 vote_with within d f all (Some x) =
-    Some (vote_between within d x (ending_from (window_us within) f x all all 0)
-    (ended_by (window_us within) f x all all (window_us within)))
+    Some (vote_between d x (least_before (window_us within) f x all all (window_us within))
+    (least_behind (window_us within) f x all all (window_us within)))
 
 -- the edge on which the kept frames of lines agree, if they do
 abbrev pub agreed : ClockRules → Lines → Option Vote
 agreed c lines =
-    vote_with c.within.us c.drift_us (f_of c.redundancy) (all_kept lines)
-    (first_candidate (window_us c.within.us) (f_of c.redundancy) (all_kept lines) (all_kept lines)
-    None)
+    vote_with c.within.us c.drift_us (f_of c.redundancy) (all_kept c.within.us lines)
+    (first_candidate (window_us c.within.us) (f_of c.redundancy) (all_kept c.within.us lines)
+    (all_kept c.within.us lines) None)
 
 -- the same, if it has come
 abbrev pub if_come : ℕ → Option Vote → Option Vote

@@ -4,7 +4,7 @@ ghost use Rattle.std.specs.Prelude.{◌≡◌, ◌≤◌, ◌<◌, ◌-◌, None
 ghost use Rattle.irig_vote.specs.Vote.{f_of};
 ghost use Rattle.irig_sync.specs.Sync.{clock_gap, is_idle};
 ghost use Rattle.irig_lines.specs.Exactness.{most_drift_us, most_vote_us, window_us};
-ghost use Rattle.irig_lines.specs.Steps.{is_pulse, line_at, with_line, still_kept, line_settled, settled, taken, still_seen, is_even, is_uneven, are_uneven, whole_frame, frame_tells, tells_of, claim_kept, all_kept, agrees, is_candidate, earlier, first_candidate, place_behind, ends_by, ends_from, end_behind, earlier_end, ended_by, later_end, ending_from, vote_between, vote_with, agreed, if_come, IsNewLine, AreNewLines, until, wait_by};
+ghost use Rattle.irig_lines.specs.Steps.{is_pulse, line_at, with_line, still_kept, line_settled, settled, taken, still_seen, is_even, is_uneven, are_uneven, whole_frame, frame_tells, tells_of, claim_kept, all_kept, agrees, is_candidate, earlier, first_candidate, place_behind, ends_by, ends_from, ends_near, begins_near, last_behind, first_before, less_behind, least_behind, less_before, least_before, vote_between, vote_with, agreed, if_come, IsNewLine, AreNewLines, until, wait_by};
 
 use crate::counting::{has_come, is_gone, is_late};
 use crate::setup::ClockRules;
@@ -13,7 +13,8 @@ use irig_sync::Sync;
 use irig_time::Claim;
 use irig_vote::Tells;
 
-/// What ends longer before the first frame that agrees with enough others has no part in a vote.
+/// A frame whose last time comes longer before that of the first one that agrees with enough others
+/// has no part in a vote.
 const BEFORE_US: u32 = 1_000;
 
 /// What is as wide as this, in microseconds, is no pulse: the line is stuck.
@@ -38,6 +39,27 @@ pub struct KeptClaim {
     pub claim: Claim,
     /// The local time at which it ends.
     pub end_us: u32,
+    /// How far from there its edge lies at most in microseconds, if the line is true, but for the
+    /// drift of an element.
+    pub half_us: u32,
+}
+
+impl KeptClaim {
+    ghost use Rattle.irig_lines.specs.Steps.{first_us, last_us};
+
+    // The first time at which its edge lies, if the line is true.
+    fn first_us(&self) -> u32
+        ensures { result ≡ first_us self.now }
+    {
+        self.end_us.wrapping_sub(self.half_us)
+    }
+
+    // The last one.
+    fn last_us(&self) -> u32
+        ensures { result ≡ last_us self.now }
+    {
+        self.end_us.wrapping_add(self.half_us)
+    }
 }
 
 /// An edge on which lines agree.
@@ -268,8 +290,8 @@ fn count_uneven(frames: &[Option<KeptFrame>]) -> usize
     frames.iter().filter(|frame| is_uneven(frame)).count()
 }
 
-fn claim_kept(frame: Option<KeptFrame>) -> Option<KeptClaim>
-    ensures { result ≡ claim_kept frame }
+fn claim_kept(rules: &ClockRules, frame: Option<KeptFrame>) -> Option<KeptClaim>
+    ensures { result ≡ claim_kept rules.now.within.us frame }
 {
     let Some(kept) = frame else {
         return None;
@@ -281,6 +303,7 @@ fn claim_kept(frame: Option<KeptFrame>) -> Option<KeptClaim>
         Told::Claim(claim) => Some(KeptClaim {
             claim,
             end_us: kept.end_us,
+            half_us: rules.within.us() - 1,
         }),
         Told::Silence => None,
         Told::Fault(_) => None,
@@ -298,11 +321,11 @@ pub fn agreed(rules: &ClockRules, lines: &Lines) -> Option<Vote>
     vote_of(
         rules,
         &[
-            claim_kept(lines.a.frame),
-            claim_kept(lines.b.frame),
-            claim_kept(lines.c.frame),
-            claim_kept(lines.d.frame),
-            claim_kept(lines.e.frame),
+            claim_kept(rules, lines.a.frame),
+            claim_kept(rules, lines.b.frame),
+            claim_kept(rules, lines.c.frame),
+            claim_kept(rules, lines.d.frame),
+            claim_kept(rules, lines.e.frame),
         ],
     )
 }
@@ -317,39 +340,38 @@ fn vote_of(rules: &ClockRules, all: &[Option<KeptClaim>]) -> Option<Vote>
 {
     let window_us = rules.window_us();
     let f = rules.redundancy.f();
-    match first_candidate(window_us, f, all) {
-        Some(first) => Some(vote_between(rules, first, narrowed_by_all(window_us, f, &first, all))),
-        None => None,
-    }
+    let first = first_candidate(window_us, f, all)?;
+    Some(vote_between(rules, first, narrowed_by_all(window_us, f, &first, all)))
 }
 
-// Two times behind the end of a frame: the last from which on f + 1 frames end, and the first by which
-// they do, of those of the frames that agree with it.
+// An interval about the last time of a frame.
 #[derive(Clone, Copy)]
-struct Between {
-    from_us: u32,
-    by_us: u32,
+struct About {
+    before_us: u32,
+    behind_us: u32,
 }
 
-// The edge in the middle of two times behind the end of a frame.
-fn vote_between(rules: &ClockRules, first: KeptClaim, between: Between) -> Vote
+// The edge in the middle of the interval about the last time of a frame.
+fn vote_between(rules: &ClockRules, first: KeptClaim, about: About) -> Vote
     requires steady { rules.now.drift_us ≤ most_drift_us }
-    requires from { between.from_us ≤ window_us rules.now.within.us }
-    requires by { between.by_us ≤ window_us rules.now.within.us }
-    ensures value { result ≡ vote_between rules.now.within.us rules.now.drift_us first
-        between.from_us between.by_us }
+    requires before { about.before_us ≤ window_us rules.now.within.us }
+    requires behind { about.behind_us ≤ window_us rules.now.within.us }
+    ensures value { result ≡ vote_between rules.now.drift_us first about.before_us
+        about.behind_us }
     ensures small { result.bound_us ≤ most_vote_us }
 {
+    let long_us = about.before_us + about.behind_us;
     Vote {
         claim: first.claim,
         edge_us: first
-            .end_us
-            .wrapping_add((between.from_us + between.by_us) / 2),
-        bound_us: rules.end_off_us() + between.by_us.saturating_sub(between.from_us).div_ceil(2),
+            .last_us()
+            .wrapping_sub(about.before_us)
+            .wrapping_add(long_us / 2),
+        bound_us: rules.drift_us.div_ceil(100) + long_us.div_ceil(2),
     }
 }
 
-// The frame with which f + 1 lines agree; of several the one that ends first.
+// The frame with which f + 1 lines agree; of several the one whose last time comes first.
 fn first_candidate(window_us: u32, f: u8, all: &[Option<KeptClaim>]) -> Option<KeptClaim>
     ensures { result ≡ first_candidate window_us f all.now all.now None }
 {
@@ -358,30 +380,33 @@ fn first_candidate(window_us: u32, f: u8, all: &[Option<KeptClaim>]) -> Option<K
         let Some(frame) = x else {
             continue;
         };
-        if is_candidate(window_us, f, frame, all) {
+        if is_candidate(f, frame, all) {
             so_far = earlier(window_us, so_far, *frame);
         }
     }
     so_far
 }
 
-fn is_candidate(window_us: u32, f: u8, x: &KeptClaim, all: &[Option<KeptClaim>]) -> bool
-    ensures { result ≡ is_candidate window_us f x.now all.now }
+fn is_candidate(f: u8, x: &KeptClaim, all: &[Option<KeptClaim>]) -> bool
+    ensures { result ≡ is_candidate f x.now all.now }
 {
-    usize::from(f) < agreeing(window_us, x, all)
+    usize::from(f) < agreeing(x, all)
 }
 
-fn agreeing(window_us: u32, x: &KeptClaim, all: &[Option<KeptClaim>]) -> usize
-    ensures { result ≡ count_by (agrees window_us x.now) all.now }
+fn agreeing(x: &KeptClaim, all: &[Option<KeptClaim>]) -> usize
+    ensures { result ≡ count_by (agrees x.now) all.now }
 {
-    all.iter().filter(|y| agrees(window_us, x, y)).count()
+    all.iter().filter(|y| agrees(x, y)).count()
 }
 
-fn agrees(window_us: u32, x: &KeptClaim, y: &Option<KeptClaim>) -> bool
-    ensures { result ≡ agrees window_us x.now y.now }
+fn agrees(x: &KeptClaim, y: &Option<KeptClaim>) -> bool
+    ensures { result ≡ agrees x.now y.now }
 {
     match y {
-        Some(y) => x.claim == y.claim && y.end_us.wrapping_sub(x.end_us) <= window_us,
+        Some(y) => {
+            let before_us = x.last_us().wrapping_sub(y.first_us());
+            x.claim == y.claim && u64::from(before_us) <= 2 * u64::from(y.half_us)
+        }
         None => false,
     }
 }
@@ -391,7 +416,7 @@ fn earlier(window_us: u32, so_far: Option<KeptClaim>, x: KeptClaim) -> Option<Ke
 {
     match so_far {
         Some(y) => {
-            if x.end_us.wrapping_sub(y.end_us) <= window_us {
+            if x.last_us().wrapping_sub(y.last_us()) <= window_us {
                 Some(y)
             } else {
                 Some(x)
@@ -401,51 +426,102 @@ fn earlier(window_us: u32, so_far: Option<KeptClaim>, x: KeptClaim) -> Option<Ke
     }
 }
 
-// The two times by all frames.
-fn narrowed_by_all(window_us: u32, f: u8, x: &KeptClaim, all: &[Option<KeptClaim>]) -> Between
-    ensures from { result.from_us ≡ ending_from window_us f x.now all.now all.now 0 }
-    ensures by { result.by_us ≡ ended_by window_us f x.now all.now all.now window_us }
-    ensures from_most { result.from_us ≤ window_us }
-    ensures by_most { result.by_us ≤ window_us }
+// The interval that f + 1 of all frames leave.
+fn narrowed_by_all(window_us: u32, f: u8, x: &KeptClaim, all: &[Option<KeptClaim>]) -> About
+    ensures before { result.before_us
+        ≡ least_before window_us f x.now all.now all.now window_us }
+    ensures behind { result.behind_us
+        ≡ least_behind window_us f x.now all.now all.now window_us }
+    ensures before_most { result.before_us ≤ window_us }
+    ensures behind_most { result.behind_us ≤ window_us }
 {
-    let mut so_far = Between {
-        from_us: 0,
-        by_us: window_us,
+    let mut so_far = About {
+        before_us: window_us,
+        behind_us: window_us,
     };
     for y in all {
-        so_far = narrowed(window_us, f, x, all, y, so_far);
+        so_far = About {
+            before_us: less_before(window_us, f, x, all, y, so_far.before_us),
+            behind_us: less_behind(window_us, f, x, all, y, so_far.behind_us),
+        };
     }
     so_far
 }
 
-// The two times by one frame more.
-fn narrowed(
+fn less_before(
     window_us: u32,
     f: u8,
     x: &KeptClaim,
     all: &[Option<KeptClaim>],
     y: &Option<KeptClaim>,
-    so_far: Between,
-) -> Between
-    requires from { so_far.from_us ≤ window_us }
-    requires by { so_far.by_us ≤ window_us }
-    ensures from { result.from_us ≡ later_end window_us f x.now all.now y.now so_far.from_us }
-    ensures by { result.by_us ≡ earlier_end window_us f x.now all.now y.now so_far.by_us }
-    ensures from_most { result.from_us ≤ window_us }
-    ensures by_most { result.by_us ≤ window_us }
+    so_far_us: u32,
+) -> u32
+    requires { so_far_us ≤ window_us }
+    ensures value { result ≡ less_before window_us f x.now all.now y.now so_far_us }
+    ensures most { result ≤ window_us }
 {
-    if !agrees(window_us, x, y) {
-        return so_far;
+    let before_us = first_before(x, y);
+    if begins_near(window_us, x, y) && usize::from(f) < ending_from(x, before_us, all) {
+        before_us.min(so_far_us)
+    } else {
+        so_far_us
     }
-    let behind_us = end_behind(x, y);
-    let mut between = so_far;
-    if usize::from(f) < ending_by(x, behind_us, all) {
-        between.by_us = behind_us.min(between.by_us);
+}
+
+fn less_behind(
+    window_us: u32,
+    f: u8,
+    x: &KeptClaim,
+    all: &[Option<KeptClaim>],
+    y: &Option<KeptClaim>,
+    so_far_us: u32,
+) -> u32
+    requires { so_far_us ≤ window_us }
+    ensures value { result ≡ less_behind window_us f x.now all.now y.now so_far_us }
+    ensures most { result ≤ window_us }
+{
+    let behind_us = last_behind(x, y);
+    if ends_near(window_us, x, y) && usize::from(f) < ending_by(x, behind_us, all) {
+        behind_us.min(so_far_us)
+    } else {
+        so_far_us
     }
-    if usize::from(f) < ending_since(x, behind_us, all) {
-        between.from_us = behind_us.max(between.from_us);
+}
+
+fn ends_near(window_us: u32, x: &KeptClaim, y: &Option<KeptClaim>) -> bool
+    ensures { result ≡ ends_near window_us x.now y.now }
+{
+    match y {
+        Some(y) => x.claim == y.claim && y.last_us().wrapping_sub(x.last_us()) <= window_us,
+        None => false,
     }
-    between
+}
+
+fn begins_near(window_us: u32, x: &KeptClaim, y: &Option<KeptClaim>) -> bool
+    ensures { result ≡ begins_near window_us x.now y.now }
+{
+    match y {
+        Some(y) => x.claim == y.claim && x.last_us().wrapping_sub(y.first_us()) <= window_us,
+        None => false,
+    }
+}
+
+fn last_behind(x: &KeptClaim, y: &Option<KeptClaim>) -> u32
+    ensures { result ≡ last_behind x.now y.now }
+{
+    match y {
+        Some(y) => y.last_us().wrapping_sub(x.last_us()),
+        None => 0,
+    }
+}
+
+fn first_before(x: &KeptClaim, y: &Option<KeptClaim>) -> u32
+    ensures { result ≡ first_before x.now y.now }
+{
+    match y {
+        Some(y) => x.last_us().wrapping_sub(y.first_us()),
+        None => 0,
+    }
 }
 
 fn ending_by(x: &KeptClaim, behind_us: u32, all: &[Option<KeptClaim>]) -> usize
@@ -454,26 +530,17 @@ fn ending_by(x: &KeptClaim, behind_us: u32, all: &[Option<KeptClaim>]) -> usize
     all.iter().filter(|y| ends_by(x, behind_us, y)).count()
 }
 
-fn ending_since(x: &KeptClaim, behind_us: u32, all: &[Option<KeptClaim>]) -> usize
-    ensures { result ≡ count_by (ends_from x.now behind_us) all.now }
+fn ending_from(x: &KeptClaim, before_us: u32, all: &[Option<KeptClaim>]) -> usize
+    ensures { result ≡ count_by (ends_from x.now before_us) all.now }
 {
-    all.iter().filter(|y| ends_from(x, behind_us, y)).count()
+    all.iter().filter(|y| ends_from(x, before_us, y)).count()
 }
 
-fn end_behind(x: &KeptClaim, y: &Option<KeptClaim>) -> u32
-    ensures { result ≡ end_behind x.now y.now }
+// How far behind 1 ms before the last time of a frame a time lies.
+fn place_behind(x: &KeptClaim, time_us: u32) -> u32
+    ensures { result ≡ place_behind x.now time_us }
 {
-    match y {
-        Some(y) => y.end_us.wrapping_sub(x.end_us),
-        None => 0,
-    }
-}
-
-// How far behind 1 ms before a frame another one ends.
-fn place_behind(x: &KeptClaim, y: &KeptClaim) -> u32
-    ensures { result ≡ place_behind x.now y.now }
-{
-    y.end_us.wrapping_sub(x.end_us).wrapping_add(BEFORE_US)
+    time_us.wrapping_sub(x.last_us()).wrapping_add(BEFORE_US)
 }
 
 fn ends_by(x: &KeptClaim, behind_us: u32, y: &Option<KeptClaim>) -> bool
@@ -481,22 +548,22 @@ fn ends_by(x: &KeptClaim, behind_us: u32, y: &Option<KeptClaim>) -> bool
 {
     match y {
         Some(y) => {
-            place_behind(x, y).saturating_sub(BEFORE_US) <= behind_us && x.claim == y.claim
+            let place_us = place_behind(x, y.last_us());
+            x.claim == y.claim && place_us.saturating_sub(BEFORE_US) <= behind_us
         }
         None => false,
     }
 }
 
-fn ends_from(x: &KeptClaim, behind_us: u32, y: &Option<KeptClaim>) -> bool
-    ensures { result ≡ ends_from x.now behind_us y.now }
+fn ends_from(x: &KeptClaim, before_us: u32, y: &Option<KeptClaim>) -> bool
+    ensures { result ≡ ends_from x.now before_us y.now }
 {
     match y {
         Some(y) => {
-            let place_us = place_behind(x, y);
-            BEFORE_US <= place_us
+            let place_us = place_behind(x, y.first_us());
+            x.claim == y.claim
+                && BEFORE_US.saturating_sub(place_us) <= before_us
                 && place_us < 1 << 31
-                && behind_us <= place_us - BEFORE_US
-                && x.claim == y.claim
         }
         None => false,
     }

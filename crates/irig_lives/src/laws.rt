@@ -63,9 +63,9 @@ pub fn lines_keep_frames()
     ensures kept { (limits : Option Limits) (rules : Rules) (clock : ClockRules)
         (frame : Option KeptFrame) (heard : List Symbol) (s : Sync) (pulses : List Pulse)
         (begin now time width : ℕ) → IsHearing heard s pulses now → KnowsBegin begin pulses
-        → IfKept IsAnyEnd clock.within.us clock.drift_us rules (claim_kept frame) pulses
+        → IfKept IsAnyEnd clock.within.us clock.drift_us rules (claim_kept clock.within.us frame) pulses
         → IsAfter pulses time → IsSoon now time
-        → IfKept IsAnyEnd clock.within.us clock.drift_us rules (claim_kept (frame_behind
+        → IfKept IsAnyEnd clock.within.us clock.drift_us rules (claim_kept clock.within.us (frame_behind
         clock (place_of s (time % 2 ^ 32) width) begin (time % 2 ^ 32)
         (told_within limits rules
         (heard_at (place_of s (time % 2 ^ 32) width) heard width)) frame))
@@ -337,15 +337,14 @@ pub fn a_device_heals()
         → beat.report.announce ≡ Some u → then.missed ≡ 0 → next < edge + 1500000 }
 {}
 
-/// No f lines can keep a device from a vote: if more than f lines keep frames of one claim that end
-/// as near behind the first of them as lines so exact do, and a tick comes when the frames of the
+/// No f lines can keep a device from a vote: if more than f lines keep frames of one claim whose
+/// edges may lie at the last time at which that of one of them may, and a tick comes when the frames of the
 /// true lines have ended, as long ago as a pulse of theirs may lie off and 99 ms at most, it has a
 /// vote, whatever the others keep.
 pub fn enough_lines_vote()
     ensures agree { (clock : ClockRules) (lines : Lines) (i : ℕ) (first : KeptClaim) → i < 5
-        → claim_kept (line_at lines i).frame ≡ Some first
-        → f_of clock.redundancy
-        < count_by (agrees (window_us clock.within.us) first) (all_kept lines)
+        → claim_kept clock.within.us (line_at lines i).frame ≡ Some first
+        → f_of clock.redundancy < count_by (agrees first) (all_kept clock.within.us lines)
         → (vote : Vote) × (agreed clock lines ≡ Some vote) }
     ensures come { (t : TimelineValue) (edges : ℕ → ℕ) (k : Keeping) (now : ℕ)
         (pulses : ℕ → List Pulse) (vote : Vote) → IsQuartz k.clock.drift_us edges
@@ -353,7 +352,7 @@ pub fn enough_lines_vote()
         k.clock.drift_us k.rules (f_of k.clock.redundancy) now k.state.lines pulses)
         → ((i : ℕ) → i < 5 → heard.untrue i ≡ false
         → IfKept (HasJustCome k.clock.within.us now) k.clock.within.us k.clock.drift_us k.rules
-        (claim_kept (line_at k.state.lines i).frame) (pulses i))
+        (claim_kept k.clock.within.us (line_at k.state.lines i).frame) (pulses i))
         → agreed k.clock (settled (now % 2 ^ 32) k.state.lines) ≡ Some vote
         → vote_at k (now % 2 ^ 32) ≡ Some vote }
 {}

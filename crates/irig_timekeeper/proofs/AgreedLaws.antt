@@ -1,5 +1,5 @@
 -- A vote on which lines agree is that of a tick when its edge has come.
-use Rattle.std.specs.Prelude.{◌&&◌, count_by, min, max, nat_le, nat_lt}
+use Rattle.std.specs.Prelude.{◌&&◌, count_by, min, nat_le, nat_lt}
 use Rattle.std.proofs.Common.{◌≡◌, ◌∙◌, ◌⊎◌, ℕ, ◌+◌, ◌-◌, ◌%◌, ◌^◌, ◌<◌, ◌≤◌, Bool, true, false, cond, List, [], ◌∷◌, drop, Option, Some, None, refl, sym, ap, subst, arith, inl, inr}
 use Rattle.std.proofs.lemmas.Bool.{cases_Bool, leb-true, ltb-true, ltb-false}
 use Rattle.std.proofs.lemmas.List.Sums.{sum_by-cons}
@@ -11,17 +11,17 @@ use Rattle.irig_lines.specs.declared.lines.KeptClaim.{KeptClaim}
 use Rattle.irig_lines.specs.declared.lines.Lines.{Lines}
 use Rattle.irig_lines.specs.declared.lines.Vote.{Vote}
 use Rattle.irig_lines.specs.declared.setup.ClockRules.{ClockRules}
-use Rattle.irig_lines.specs.Exactness.{window_us}
+use Rattle.irig_lines.specs.Exactness.{half_us, window_us}
 use Rattle.irig_lines.specs.Lines.{IfKept}
 use Rattle.irig_lines.specs.Counting.{is_late, has_come}
-use Rattle.irig_lines.specs.Steps.{line_at, still_kept, settled, claim_kept, all_kept, agrees, is_candidate, earlier, first_candidate, place_behind, ends_by, ends_from, end_behind, ended_by, ending_from, vote_between, vote_with, agreed, if_come, wait_by}
+use Rattle.irig_lines.specs.Steps.{line_at, still_kept, settled, claim_kept, all_kept, first_us, last_us, agrees, is_candidate, earlier, first_candidate, place_behind, ends_by, ends_from, ends_near, begins_near, last_behind, first_before, least_behind, least_before, vote_between, vote_with, agreed, if_come, wait_by}
 use Rattle.irig_timekeeper.specs.Keeping.{Keeping, vote_at}
 use Rattle.irig_timekeeper.specs.Life.{Call, after_calls, pulses_on, last_tick, AreInOrder}
 use Rattle.irig_timekeeper.specs.Life.Call.{Tick}
-use Rattle.irig_lines.proofs.PartLaws.{split, narrow}
+use Rattle.irig_lines.proofs.PartLaws.{split, narrow, IsHalf, half_kept, ends_agree}
 use Rattle.irig_timekeeper.proofs.VoteLaws.{still, frame_settled, not_late, last_late}
 use Rattle.irig_timekeeper.proofs.LifeLaws.{AreLinesAt, IsEndAt, and_false, lines_after}
-use Rattle.irig_timekeeper.proofs.OrderLaws.{shared, kept_by, IsCandidateAt, IsKeptThere, there_at, IsAgreedOn, agreed_on, agreeing, many, absent, EndsAt, ends_at, near_end, lies_behind}
+use Rattle.irig_timekeeper.proofs.OrderLaws.{shared, half, kept_by, IsCandidateAt, IsKeptThere, there_at, IsAgreedOn, agreed_on, agreeing, many, absent, EndsAt, ends_at, near_end, lies_behind}
 use Rattle.irig_timekeeper.proofs.FrameLaws.{in_time, stays_kept}
 
 -- ---- a frame that ended before another one, by the clock of 32 bits
@@ -33,30 +33,55 @@ not_less : (g w : ℕ) → w ≤ g → nat_lt g w ≡ false
 not_less g w h = grind (arith, h)
 
 -- it does not agree
-ended_before : (window : ℕ) (x y : KeptClaim) (a b : ℕ) → window ≤ 898 → x.end_us ≡ a % 2 ^ 32 → y.end_us ≡ b % 2 ^ 32 → b < a → a ≤ b + 200000 → agrees window x (Some y) ≡ false
-ended_before window x y a b narrow at at' before near =
-    let far = gap x.end_us y.end_us at at' in
-    and_false (same_claim x.claim y.claim) _ (high_is (clock_gap x.end_us y.end_us) window (omega (arith, far, narrow)))
+ended_before : (within : ℕ) (x y : KeptClaim) (a b : ℕ) → within ≤ 450 → IsHalf within x → IsHalf within y → x.end_us ≡ a % 2 ^ 32 → y.end_us ≡ b % 2 ^ 32 → b < a → a ≤ b + 200000 → agrees x (Some y) ≡ false
+ended_before within x y a b few half half' at at' before near = elim (cases_Bool (agrees x (Some y))) [
+  | inr not ↦ not
+  | inl agree ↦
+      let low = (ends_agree within x y few half half' (omega (arith, at)) (omega (arith, at')) agree).1 in
+      absurd (omega (arith, low, few, gap x.end_us y.end_us at at'))
+]
   where
     gap : (e e' : ℕ) → e ≡ a % 2 ^ 32 → e' ≡ b % 2 ^ 32 → 898 < clock_gap e e'
     gap e e' at at' = omega (arith, at, at', before, near)
 
 -- and if it did so more than 1 ms before, it does not count
-far_place : (x y : KeptClaim) (a b : ℕ) → x.end_us ≡ a % 2 ^ 32 → y.end_us ≡ b % 2 ^ 32 → b + 1000 < a → a ≤ b + 200000 → 2 ^ 31 ≤ place_behind x y
-far_place x y a b at at' before near = of x.end_us y.end_us at at'
-  where
-    of : (e e' : ℕ) → e ≡ a % 2 ^ 32 → e' ≡ b % 2 ^ 32 → 2 ^ 31 ≤ (clock_gap e e' + 1000) % 2 ^ 32
-    of e e' at at' = omega (arith, at, at', before, near)
+module _ (within : ℕ) (few : within ≤ 450) (x y : KeptClaim) (half : IsHalf within x) (half' : IsHalf within y) (a b : ℕ) (at : x.end_us ≡ a % 2 ^ 32) (at' : y.end_us ≡ b % 2 ^ 32) (before : b + 1000 < a) (near : a ≤ b + 200000) (late : 1000 ≤ b) where
+  last_far : 2 ^ 31 ≤ place_behind x (last_us y)
+  last_far = of x.end_us y.end_us x.half_us y.half_us at at' half half'
+    where
+      of : (e e' h h' : ℕ) → e ≡ a % 2 ^ 32 → e' ≡ b % 2 ^ 32 → h ≡ half_us within → h' ≡ half_us within → 2 ^ 31 ≤ (clock_gap ((e + h) % 2 ^ 32) ((e' + h') % 2 ^ 32) + 1000) % 2 ^ 32
+      of e e' h h' at at' is is' = omega (arith, at, at', before, near, is, is', few)
 
-not_by : (x y : KeptClaim) (behind : ℕ) → behind ≤ 898 → 2 ^ 31 ≤ place_behind x y → ends_by x behind (Some y) ≡ false
-not_by x y behind low far = and_false (same_claim x.claim y.claim) _ (high_is (place_behind x y) (behind + 1000) (omega (arith, low, far)))
+  first_far : 2 ^ 31 ≤ place_behind x (first_us y)
+  first_far = of x.end_us y.end_us x.half_us y.half_us at at' half half'
+    where
+      of : (e e' h h' : ℕ) → e ≡ a % 2 ^ 32 → e' ≡ b % 2 ^ 32 → h ≡ half_us within → h' ≡ half_us within → 2 ^ 31 ≤ (clock_gap ((e + h) % 2 ^ 32) ((e' + 2 ^ 32 - h') % 2 ^ 32) + 1000) % 2 ^ 32
+      of e e' h h' at at' is is' = omega (arith, at, at', before, near, is, is', few)
 
-not_from : (x y : KeptClaim) (behind : ℕ) → 2 ^ 31 ≤ place_behind x y → ends_from x behind (Some y) ≡ false
-not_from x y behind far = and_false (same_claim x.claim y.claim) _ (and_false (nat_le (behind + 1000) (place_behind x y)) _ (not_less (place_behind x y) (2 ^ 31) far))
+  first_long : 898 < clock_gap (first_us y) (last_us x)
+  first_long = of x.end_us y.end_us x.half_us y.half_us at at' half half'
+    where
+      of : (e e' h h' : ℕ) → e ≡ a % 2 ^ 32 → e' ≡ b % 2 ^ 32 → h ≡ half_us within → h' ≡ half_us within → 898 < clock_gap ((e' + 2 ^ 32 - h') % 2 ^ 32) ((e + h) % 2 ^ 32)
+      of e e' h h' at at' is is' = omega (arith, at, at', before, near, is, is', few)
 
-end_low : (window : ℕ) (x : KeptClaim) (o : Option KeptClaim) → agrees window x o ≡ true → end_behind x o ≤ window
-end_low window x None e = omega arith
-end_low window x (Some y) e = leb-true (clock_gap x.end_us y.end_us) window (split (same_claim x.claim y.claim) (nat_le (clock_gap x.end_us y.end_us) window) e).1
+  not_by : (behind : ℕ) → behind ≤ 898 → ends_by x behind (Some y) ≡ false
+  not_by behind low = and_false (same_claim x.claim y.claim) _ (high_is (place_behind x (last_us y)) (behind + 1000) (omega (arith, low, last_far)))
+
+  not_from : (before : ℕ) → ends_from x before (Some y) ≡ false
+  not_from before = and_false (same_claim x.claim y.claim) _ (and_false (nat_le 1000 (place_behind x (first_us y) + before)) _ (not_less (place_behind x (first_us y)) (2 ^ 31) first_far))
+
+  not_near_end : (window : ℕ) → window ≤ 898 → ends_near window x (Some y) ≡ false
+  not_near_end window low = and_false (same_claim x.claim y.claim) _ (high_is (clock_gap (last_us x) (last_us y)) window (of (clock_gap (last_us x) (last_us y)) last_far))
+    where
+      of : (g : ℕ) → 2 ^ 31 ≤ (g + 1000) % 2 ^ 32 → window < g
+      of g far = omega (arith, far, low)
+
+  not_near_begin : (window : ℕ) → window ≤ 898 → begins_near window x (Some y) ≡ false
+  not_near_begin window low = and_false (same_claim x.claim y.claim) _ (high_is (clock_gap (first_us y) (last_us x)) window (omega (arith, first_long, low)))
+
+behind_low : (window : ℕ) (x : KeptClaim) (o : Option KeptClaim) → ends_near window x o ≡ true → last_behind x o ≤ window
+behind_low window x None e = omega arith
+behind_low window x (Some y) e = leb-true (clock_gap (last_us x) (last_us y)) window (split (same_claim x.claim y.claim) (nat_le (clock_gap (last_us x) (last_us y)) window) e).1
 
 -- ---- frames, of which some are gone
 
@@ -89,9 +114,9 @@ module _ (Stays Gone : KeptClaim → Type 0) where
 
   module _ (window f : ℕ) (all all' : List (Option KeptClaim)) (left : AreLeft all all') where
     -- the candidate that ends first is the same
-    module _ (alone : (z y : KeptClaim) → Stays z → Gone y → agrees window z (Some y) ≡ false) (never : (y : KeptClaim) → Gone y → is_candidate window f y all ≡ false) where
-      same_candidate : (z : KeptClaim) → Stays z → is_candidate window f z all ≡ is_candidate window f z all'
-      same_candidate z stays = ap (nat_lt f) (same_count (agrees window z) refl (λ y gone. alone z y stays gone) all all' left)
+    module _ (alone : (z y : KeptClaim) → Stays z → Gone y → agrees z (Some y) ≡ false) (never : (y : KeptClaim) → Gone y → is_candidate f y all ≡ false) where
+      same_candidate : (z : KeptClaim) → Stays z → is_candidate f z all ≡ is_candidate f z all'
+      same_candidate z stays = ap (nat_lt f) (same_count (agrees z) refl (λ y gone. alone z y stays gone) all all' left)
 
       first_stays : (o : Option KeptClaim) → ((z : KeptClaim) → o ≡ Some z → Stays z) → (os os' : List (Option KeptClaim)) → ((so_far : Option KeptClaim) → first_candidate window f all os so_far ≡ first_candidate window f all' os' so_far)
           → (so_far : Option KeptClaim) → first_candidate window f all (o ∷ os) so_far ≡ first_candidate window f all' (o ∷ os') so_far
@@ -115,68 +140,64 @@ module _ (Stays Gone : KeptClaim → Type 0) where
               ∙ first_gone gone.1.0 gone.1.2 os so_far ∙ rest so_far
               ∙ ap (λ (x : Option KeptClaim). first_candidate window f all' (x ∷ os') so_far) (sym gone.0)
 
-    -- and so are the times between which its edge lies
-    module _ (x : KeptClaim) (alone : (y : KeptClaim) → Gone y → agrees window x (Some y) ≡ false) (by : (y : KeptClaim) (behind : ℕ) → Gone y → behind ≤ window → ends_by x behind (Some y) ≡ false)
-        (from : (y : KeptClaim) (behind : ℕ) → Gone y → ends_from x behind (Some y) ≡ false) where
+    -- and so is the interval in which its edge lies
+    module _ (x : KeptClaim) (near_end : (y : KeptClaim) → Gone y → ends_near window x (Some y) ≡ false) (near_begin : (y : KeptClaim) → Gone y → begins_near window x (Some y) ≡ false) (by : (y : KeptClaim) (behind : ℕ) → Gone y → behind ≤ window → ends_by x behind (Some y) ≡ false)
+        (from : (y : KeptClaim) (before : ℕ) → Gone y → ends_from x before (Some y) ≡ false) where
       abbrev TestBy : List (Option KeptClaim) → Option KeptClaim → Bool
-      TestBy frames o = agrees window x o && nat_lt f (count_by (ends_by x (end_behind x o)) frames)
+      TestBy frames o = ends_near window x o && nat_lt f (count_by (ends_by x (last_behind x o)) frames)
 
       abbrev TestFrom : List (Option KeptClaim) → Option KeptClaim → Bool
-      TestFrom frames o = agrees window x o && nat_lt f (count_by (ends_from x (end_behind x o)) frames)
+      TestFrom frames o = begins_near window x o && nat_lt f (count_by (ends_from x (first_before x o)) frames)
 
       same_test_by : (o : Option KeptClaim) → TestBy all o ≡ TestBy all' o
-      same_test_by o = of (agrees window x o) refl
+      same_test_by o = of (ends_near window x o) refl
         where
-          of : (b : Bool) → agrees window x o ≡ b → (b && nat_lt f (count_by (ends_by x (end_behind x o)) all)) ≡ (b && nat_lt f (count_by (ends_by x (end_behind x o)) all'))
+          of : (b : Bool) → ends_near window x o ≡ b → (b && nat_lt f (count_by (ends_by x (last_behind x o)) all)) ≡ (b && nat_lt f (count_by (ends_by x (last_behind x o)) all'))
           of false e = refl
-          of true e = ap (nat_lt f) (same_count (ends_by x (end_behind x o)) refl (λ y gone. by y (end_behind x o) gone (end_low window x o e)) all all' left)
+          of true e = ap (nat_lt f) (same_count (ends_by x (last_behind x o)) refl (λ y gone. by y (last_behind x o) gone (behind_low window x o e)) all all' left)
 
       same_test_from : (o : Option KeptClaim) → TestFrom all o ≡ TestFrom all' o
-      same_test_from o = of (agrees window x o) refl
-        where
-          of : (b : Bool) → agrees window x o ≡ b → (b && nat_lt f (count_by (ends_from x (end_behind x o)) all)) ≡ (b && nat_lt f (count_by (ends_from x (end_behind x o)) all'))
-          of false e = refl
-          of true e = ap (nat_lt f) (same_count (ends_from x (end_behind x o)) refl (λ y gone. from y (end_behind x o) gone) all all' left)
+      same_test_from o = ap (λ (b : Bool). begins_near window x o && b) (ap (nat_lt f) (same_count (ends_from x (first_before x o)) refl (λ y gone. from y (first_before x o) gone) all all' left))
 
-      step_by : (o o' : Option KeptClaim) → IsLeft o o' → (so_far : ℕ) → cond (TestBy all o) (min (end_behind x o) so_far) so_far ≡ cond (TestBy all' o') (min (end_behind x o') so_far) so_far
+      step_by : (o o' : Option KeptClaim) → IsLeft o o' → (so_far : ℕ) → cond (TestBy all o) (min (last_behind x o) so_far) so_far ≡ cond (TestBy all' o') (min (last_behind x o') so_far) so_far
       step_by o o' (inl stays) so_far =
-          ap (λ (b : Bool). cond b (min (end_behind x o) so_far) so_far) (same_test_by o)
-          ∙ ap (λ (y : Option KeptClaim). cond (TestBy all' y) (min (end_behind x y) so_far) so_far) stays.0
+          ap (λ (b : Bool). cond b (min (last_behind x o) so_far) so_far) (same_test_by o)
+          ∙ ap (λ (y : Option KeptClaim). cond (TestBy all' y) (min (last_behind x y) so_far) so_far) stays.0
       step_by o o' (inr gone) so_far =
-          ap (λ (y : Option KeptClaim). cond (TestBy all y) (min (end_behind x y) so_far) so_far) gone.1.1
-          ∙ ap (λ (b : Bool). cond (b && nat_lt f (count_by (ends_by x (end_behind x (Some gone.1.0))) all)) (min (end_behind x (Some gone.1.0)) so_far) so_far) (alone gone.1.0 gone.1.2)
-          ∙ ap (λ (y : Option KeptClaim). cond (TestBy all' y) (min (end_behind x y) so_far) so_far) (sym gone.0)
+          ap (λ (y : Option KeptClaim). cond (TestBy all y) (min (last_behind x y) so_far) so_far) gone.1.1
+          ∙ ap (λ (b : Bool). cond (b && nat_lt f (count_by (ends_by x (last_behind x (Some gone.1.0))) all)) (min (last_behind x (Some gone.1.0)) so_far) so_far) (near_end gone.1.0 gone.1.2)
+          ∙ ap (λ (y : Option KeptClaim). cond (TestBy all' y) (min (last_behind x y) so_far) so_far) (sym gone.0)
 
-      step_from : (o o' : Option KeptClaim) → IsLeft o o' → (so_far : ℕ) → cond (TestFrom all o) (max (end_behind x o) so_far) so_far ≡ cond (TestFrom all' o') (max (end_behind x o') so_far) so_far
+      step_from : (o o' : Option KeptClaim) → IsLeft o o' → (so_far : ℕ) → cond (TestFrom all o) (min (first_before x o) so_far) so_far ≡ cond (TestFrom all' o') (min (first_before x o') so_far) so_far
       step_from o o' (inl stays) so_far =
-          ap (λ (b : Bool). cond b (max (end_behind x o) so_far) so_far) (same_test_from o)
-          ∙ ap (λ (y : Option KeptClaim). cond (TestFrom all' y) (max (end_behind x y) so_far) so_far) stays.0
+          ap (λ (b : Bool). cond b (min (first_before x o) so_far) so_far) (same_test_from o)
+          ∙ ap (λ (y : Option KeptClaim). cond (TestFrom all' y) (min (first_before x y) so_far) so_far) stays.0
       step_from o o' (inr gone) so_far =
-          ap (λ (y : Option KeptClaim). cond (TestFrom all y) (max (end_behind x y) so_far) so_far) gone.1.1
-          ∙ ap (λ (b : Bool). cond (b && nat_lt f (count_by (ends_from x (end_behind x (Some gone.1.0))) all)) (max (end_behind x (Some gone.1.0)) so_far) so_far) (alone gone.1.0 gone.1.2)
-          ∙ ap (λ (y : Option KeptClaim). cond (TestFrom all' y) (max (end_behind x y) so_far) so_far) (sym gone.0)
+          ap (λ (y : Option KeptClaim). cond (TestFrom all y) (min (first_before x y) so_far) so_far) gone.1.1
+          ∙ ap (λ (b : Bool). cond (b && nat_lt f (count_by (ends_from x (first_before x (Some gone.1.0))) all)) (min (first_before x (Some gone.1.0)) so_far) so_far) (near_begin gone.1.0 gone.1.2)
+          ∙ ap (λ (y : Option KeptClaim). cond (TestFrom all' y) (min (first_before x y) so_far) so_far) (sym gone.0)
 
-      same_by : (os os' : List (Option KeptClaim)) → AreLeft os os' → (so_far : ℕ) → ended_by window f x all os so_far ≡ ended_by window f x all' os' so_far
-      same_by [] [] l so_far = refl
-      same_by [] (o' ∷ os') l so_far = absurd l
-      same_by (o ∷ os) [] l so_far = absurd l
-      same_by (o ∷ os) (o' ∷ os') l so_far = ap (ended_by window f x all os) (step_by o o' l.0 so_far) ∙ same_by os os' l.1 _
+      same_behind : (os os' : List (Option KeptClaim)) → AreLeft os os' → (so_far : ℕ) → least_behind window f x all os so_far ≡ least_behind window f x all' os' so_far
+      same_behind [] [] l so_far = refl
+      same_behind [] (o' ∷ os') l so_far = absurd l
+      same_behind (o ∷ os) [] l so_far = absurd l
+      same_behind (o ∷ os) (o' ∷ os') l so_far = ap (least_behind window f x all os) (step_by o o' l.0 so_far) ∙ same_behind os os' l.1 _
 
-      same_from : (os os' : List (Option KeptClaim)) → AreLeft os os' → (so_far : ℕ) → ending_from window f x all os so_far ≡ ending_from window f x all' os' so_far
-      same_from [] [] l so_far = refl
-      same_from [] (o' ∷ os') l so_far = absurd l
-      same_from (o ∷ os) [] l so_far = absurd l
-      same_from (o ∷ os) (o' ∷ os') l so_far = ap (ending_from window f x all os) (step_from o o' l.0 so_far) ∙ same_from os os' l.1 _
+      same_before : (os os' : List (Option KeptClaim)) → AreLeft os os' → (so_far : ℕ) → least_before window f x all os so_far ≡ least_before window f x all' os' so_far
+      same_before [] [] l so_far = refl
+      same_before [] (o' ∷ os') l so_far = absurd l
+      same_before (o ∷ os) [] l so_far = absurd l
+      same_before (o ∷ os) (o' ∷ os') l so_far = ap (least_before window f x all os) (step_from o o' l.0 so_far) ∙ same_before os os' l.1 _
 
 -- ---- what is late is not kept
 
-late_gone : (clock : ℕ) (frame : Option KeptFrame) (y : KeptClaim) → claim_kept frame ≡ Some y → is_late y.end_us clock ≡ true → claim_kept (still_kept clock frame) ≡ None
-late_gone clock frame y e late = of (claim_kept (still_kept clock frame)) refl
+late_gone : (within : ℕ) (clock : ℕ) (frame : Option KeptFrame) (y : KeptClaim) → claim_kept within frame ≡ Some y → is_late y.end_us clock ≡ true → claim_kept within (still_kept clock frame) ≡ None
+late_gone within clock frame y e late = of (claim_kept within (still_kept clock frame)) refl
   where
-    of : (o : Option KeptClaim) → claim_kept (still_kept clock frame) ≡ o → o ≡ None
+    of : (o : Option KeptClaim) → claim_kept within (still_kept clock frame) ≡ o → o ≡ None
     of None there = refl
     of (Some z) there =
-        let kept = still clock frame z there in
+        let kept = still _ clock frame z there in
         let same : z ≡ y = (let both : Some z ≡ Some y = sym kept.0 ∙ e in cc) in
         absurd (let both : true ≡ false = sym late ∙ ap (λ (x : KeptClaim). is_late x.end_us clock) (sym same) ∙ kept.1 in cc)
 
@@ -198,10 +219,13 @@ module _ (new : Keeping) (start : ℕ) (begun : AreLinesAt new new (λ i. []) st
     lines = (after_calls new calls).state.lines
 
     abbrev all : List (Option KeptClaim)
-    all = all_kept (settled (now % 2 ^ 32) (after_calls new calls).state.lines)
+    all = all_kept (after_calls new calls).clock.within.us (settled (now % 2 ^ 32) (after_calls new calls).state.lines)
 
     abbrev all_then : List (Option KeptClaim)
-    all_then = all_kept (settled (then % 2 ^ 32) (after_calls new calls).state.lines)
+    all_then = all_kept (after_calls new calls).clock.within.us (settled (then % 2 ^ 32) (after_calls new calls).state.lines)
+
+    abbrev within : ℕ
+    within = (after_calls new calls).clock.within.us
 
     abbrev w : ℕ
     w = window_us (after_calls new calls).clock.within.us
@@ -218,10 +242,13 @@ module _ (new : Keeping) (start : ℕ) (begun : AreLinesAt new new (λ i. []) st
     end : (end : ℕ) × EndsAt new start begun calls now order a.x a.is end
     end = ends_at new start begun calls now order a.x a.is
 
+    half_of : IsHalf within a.x
+    half_of = half new start begun calls now order a.x a.is
+
     -- the tick comes at most 99 ms behind the end of the candidate's frame
     upto : then ≤ end.0 + 98898
     upto =
-        let lies = lies_behind c all v a.x a.parts end.0 end.1.clock in
+        let lies = lies_behind c all v a.x a.parts half_of end.0 end.1.clock in
         let same : lies.edge ≡ edge = one_edge v.edge_us lies.edge edge lies.clock at (omega (arith, lies.most, few, end.1.ahead, behind)) (omega (arith, ahead, lies.least, end.1.soon)) in
         omega (arith, same, lies.most, few, soon)
       where
@@ -230,12 +257,14 @@ module _ (new : Keeping) (start : ℕ) (begun : AreLinesAt new new (λ i. []) st
 
     -- what a line keeps now it keeps then, unless it is late then
     record Stays (z : KeptClaim) : Type 0 where
+      half : IsHalf within z
       end : ℕ
       clock : z.end_us ≡ end % 2 ^ 32
       most : end ≤ now + 14000
       least : then ≤ end + 100000
 
     record IsGone (y : KeptClaim) : Type 0 where
+      half : IsHalf within y
       there : IsKeptThere new start begun calls now order y
       end : ℕ
       clock : y.end_us ≡ end % 2 ^ 32
@@ -245,19 +274,19 @@ module _ (new : Keeping) (start : ℕ) (begun : AreLinesAt new new (λ i. []) st
       past : end + 100000 < then
 
     -- what is kept then was kept now
-    kept_now : (j : ℕ) → j < 5 → (y : KeptClaim) → claim_kept (line_at (settled (then % 2 ^ 32) lines) j).frame ≡ Some y → claim_kept (line_at (settled (now % 2 ^ 32) lines) j).frame ≡ Some y
+    kept_now : (j : ℕ) → j < 5 → (y : KeptClaim) → claim_kept within (line_at (settled (then % 2 ^ 32) lines) j).frame ≡ Some y → claim_kept within (line_at (settled (now % 2 ^ 32) lines) j).frame ≡ Some y
     kept_now j small y kept =
         let l = (lines_after new start begun calls now order).lines j small in
         let raw = kept_by new start begun calls then order' j small y kept in
         let h = subst (λ (o : Option KeptClaim). IfKept (IsEndAt (pulses_on j calls) (last_tick start calls) now) (after_calls new calls).clock.within.us (after_calls new calls).clock.drift_us (after_calls new calls).rules o (pulses_on j calls)) raw.0 l.kept in
         let soon = not_late h.0 then (omega (arith, h.3.0, on)) (omega (arith, h.3.1, order'.1)) (subst (λ (e : ℕ). is_late e (then % 2 ^ 32) ≡ false) h.1 raw.1) in
-        ap claim_kept (frame_settled (now % 2 ^ 32) lines j small)
-        ∙ stays_kept (now % 2 ^ 32) (line_at lines j).frame y raw.0 (ap (λ (x : ℕ). is_late x (now % 2 ^ 32)) h.1 ∙ in_time h.0 now h.3.0 (omega (arith, soon, on)))
+        ap (claim_kept within) (frame_settled (now % 2 ^ 32) lines j small)
+        ∙ stays_kept _ (now % 2 ^ 32) (line_at lines j).frame y raw.0 (ap (λ (x : ℕ). is_late x (now % 2 ^ 32)) h.1 ∙ in_time h.0 now h.3.0 (omega (arith, soon, on)))
 
-    is_left : (j : ℕ) → j < 5 → IsLeft Stays IsGone (claim_kept (line_at (settled (now % 2 ^ 32) lines) j).frame) (claim_kept (line_at (settled (then % 2 ^ 32) lines) j).frame)
-    is_left j small = of (claim_kept (line_at (settled (now % 2 ^ 32) lines) j).frame) refl (claim_kept (line_at (settled (then % 2 ^ 32) lines) j).frame) refl
+    is_left : (j : ℕ) → j < 5 → IsLeft Stays IsGone (claim_kept within (line_at (settled (now % 2 ^ 32) lines) j).frame) (claim_kept within (line_at (settled (then % 2 ^ 32) lines) j).frame)
+    is_left j small = of (claim_kept within (line_at (settled (now % 2 ^ 32) lines) j).frame) refl (claim_kept within (line_at (settled (then % 2 ^ 32) lines) j).frame) refl
       where
-        of : (o : Option KeptClaim) → claim_kept (line_at (settled (now % 2 ^ 32) lines) j).frame ≡ o → (o' : Option KeptClaim) → claim_kept (line_at (settled (then % 2 ^ 32) lines) j).frame ≡ o' → IsLeft Stays IsGone o o'
+        of : (o : Option KeptClaim) → claim_kept within (line_at (settled (now % 2 ^ 32) lines) j).frame ≡ o → (o' : Option KeptClaim) → claim_kept within (line_at (settled (then % 2 ^ 32) lines) j).frame ≡ o' → IsLeft Stays IsGone o o'
         of None e None e' = inl (refl, λ z none. absurd cc)
         of None e (Some y) e' = absurd (let both : None ≡ Some y = sym e ∙ kept_now j small y e' in cc)
         of (Some y) e o' e' =
@@ -269,13 +298,14 @@ module _ (new : Keeping) (start : ℕ) (begun : AreLinesAt new new (λ i. []) st
             elim (cases_Bool (is_late y.end_us (then % 2 ^ 32))) [
               | inl late ↦
                   let past = late_past h.0 then (omega (arith, h.3.0, on)) turn (subst (λ (x : ℕ). is_late x (then % 2 ^ 32) ≡ true) h.1 late) in
-                  let none = sym e' ∙ ap claim_kept (frame_settled (then % 2 ^ 32) lines j small) ∙ late_gone (then % 2 ^ 32) (line_at lines j).frame y raw.0 late in
+                  let none = sym e' ∙ ap (claim_kept within) (frame_settled (then % 2 ^ 32) lines j small) ∙ late_gone _ (then % 2 ^ 32) (line_at lines j).frame y raw.0 late in
                   inr (
                     none,
                     (
                       y,
                       refl,
                       record {
+                        half = half_kept within (line_at lines j).frame y raw.0;
                         there = there_at new start begun calls now order j small y e;
                         end = h.0;
                         clock = h.1;
@@ -287,21 +317,21 @@ module _ (new : Keeping) (start : ℕ) (begun : AreLinesAt new new (λ i. []) st
                     ),
                   )
               | inr in_time ↦
-                  let same : Some y ≡ o' = sym (stays_kept (then % 2 ^ 32) (line_at lines j).frame y raw.0 in_time) ∙ sym (ap claim_kept (frame_settled (then % 2 ^ 32) lines j small)) ∙ e' in
+                  let same : Some y ≡ o' = sym (stays_kept _ (then % 2 ^ 32) (line_at lines j).frame y raw.0 in_time) ∙ sym (ap (claim_kept within) (frame_settled (then % 2 ^ 32) lines j small)) ∙ e' in
                   let upto = not_late h.0 then (omega (arith, h.3.0, on)) turn (subst (λ (x : ℕ). is_late x (then % 2 ^ 32) ≡ false) h.1 in_time) in
-                  inl (same, λ z is. (let one : y ≡ z = cc in subst Stays one (record { end = h.0; clock = h.1; most = h.3.0; least = upto })))
+                  inl (same, λ z is. (let one : y ≡ z = cc in subst Stays one (record { half = half_kept within (line_at lines j).frame y raw.0; end = h.0; clock = h.1; most = h.3.0; least = upto })))
             ]
 
     left : AreLeft Stays IsGone all all_then
     left = (is_left 0 (omega arith), (is_left 1 (omega arith), (is_left 2 (omega arith), (is_left 3 (omega arith), (is_left 4 (omega arith), tt)))))
 
     -- what is gone agrees with none that stays
-    alone : (z y : KeptClaim) → Stays z → IsGone y → agrees w z (Some y) ≡ false
-    alone z y stays gone = ended_before w z y stays.end gone.end few stays.clock gone.clock (omega (arith, stays.least, gone.past)) (omega (arith, stays.most, gone.least))
+    alone : (z y : KeptClaim) → Stays z → IsGone y → agrees z (Some y) ≡ false
+    alone z y stays gone = ended_before within z y stays.end gone.end c.within.few stays.half gone.half stays.clock gone.clock (omega (arith, stays.least, gone.past)) (omega (arith, stays.most, gone.least))
 
     -- nor is it a candidate: two share a line, so they end within a window of one another
-    never : (y : KeptClaim) → IsGone y → is_candidate w n y all ≡ false
-    never y gone = elim (cases_Bool (is_candidate w n y all)) [
+    never : (y : KeptClaim) → IsGone y → is_candidate n y all ≡ false
+    never y gone = elim (cases_Bool (is_candidate n y all)) [
       | inr not ↦ not
       | inl counts ↦
           let q : IsCandidateAt new start begun calls now order y = record { counts = counts; range = gone.there.range; i = gone.there.i; small = gone.there.small; keeps = gone.there.keeps } in
@@ -312,21 +342,36 @@ module _ (new : Keeping) (start : ℕ) (begun : AreLinesAt new new (λ i. []) st
     ]
 
     -- and it ended more than 1 ms before the candidate
-    far : (y : KeptClaim) → IsGone y → 2 ^ 31 ≤ place_behind a.x y
-    far y gone = far_place a.x y end.0 gone.end end.1.clock gone.clock (omega (arith, upto, gone.past)) (omega (arith, end.1.ahead, gone.least))
+    early : (y : KeptClaim) (gone : IsGone y) → gone.end + 1000 < end.0
+    early y gone = omega (arith, upto, gone.past)
 
-    alone_there : (y : KeptClaim) → IsGone y → agrees w a.x (Some y) ≡ false
-    alone_there y gone = ended_before w a.x y end.0 gone.end few end.1.clock gone.clock (omega (arith, upto, gone.past)) (omega (arith, end.1.ahead, gone.least))
+    near : (y : KeptClaim) (gone : IsGone y) → end.0 ≤ gone.end + 200000
+    near y gone = omega (arith, end.1.ahead, gone.least)
+
+    late_enough : (y : KeptClaim) (gone : IsGone y) → 1000 ≤ gone.end
+    late_enough y gone = omega (arith, gone.low)
+
+    no_end : (y : KeptClaim) → IsGone y → ends_near w a.x (Some y) ≡ false
+    no_end y gone = not_near_end within c.within.few a.x y half_of gone.half end.0 gone.end end.1.clock gone.clock (early y gone) (near y gone) (late_enough y gone) w few
+
+    no_begin : (y : KeptClaim) → IsGone y → begins_near w a.x (Some y) ≡ false
+    no_begin y gone = not_near_begin within c.within.few a.x y half_of gone.half end.0 gone.end end.1.clock gone.clock (early y gone) (near y gone) (late_enough y gone) w few
+
+    none_by : (y : KeptClaim) (behind : ℕ) → IsGone y → behind ≤ w → ends_by a.x behind (Some y) ≡ false
+    none_by y behind gone low = not_by within c.within.few a.x y half_of gone.half end.0 gone.end end.1.clock gone.clock (early y gone) (near y gone) (late_enough y gone) behind (omega (arith, low, few))
+
+    none_from : (y : KeptClaim) (before : ℕ) → IsGone y → ends_from a.x before (Some y) ≡ false
+    none_from y before gone = not_from within c.within.few a.x y half_of gone.half end.0 gone.end end.1.clock gone.clock (early y gone) (near y gone) (late_enough y gone) before
 
     -- so lines agree on the same
     agreed_then : agreed c (settled (then % 2 ^ 32) lines) ≡ Some v
     agreed_then =
         let first = same_first Stays IsGone w n all all_then left alone never all all_then left None in
-        let from = same_from Stays IsGone w n all all_then left a.x alone_there (λ y behind gone low. not_by a.x y behind (omega (arith, low, few)) (far y gone)) (λ y behind gone. not_from a.x y behind (far y gone)) all all_then left 0 in
-        let by = same_by Stays IsGone w n all all_then left a.x alone_there (λ y behind gone low. not_by a.x y behind (omega (arith, low, few)) (far y gone)) (λ y behind gone. not_from a.x y behind (far y gone)) all all_then left w in
+        let before = same_before Stays IsGone w n all all_then left a.x no_end no_begin none_by none_from all all_then left w in
+        let behind = same_behind Stays IsGone w n all all_then left a.x no_end no_begin none_by none_from all all_then left w in
         ap (vote_with c.within.us c.drift_us n all_then) (sym first ∙ a.first)
-        ∙ ap (λ (p : ℕ). Some (vote_between c.within.us c.drift_us a.x p (ended_by w n a.x all_then all_then w))) (sym from ∙ sym a.parts.is_from)
-        ∙ ap (λ (p : ℕ). Some (vote_between c.within.us c.drift_us a.x a.parts.from p)) (sym by ∙ sym a.parts.is_by)
+        ∙ ap (λ (p : ℕ). Some (vote_between c.drift_us a.x p (least_behind w n a.x all_then all_then w))) (sym before ∙ sym a.parts.is_before)
+        ∙ ap (λ (p : ℕ). Some (vote_between c.drift_us a.x a.parts.before p)) (sym behind ∙ sym a.parts.is_behind)
         ∙ ap Some (sym a.parts.is)
 
     has_come_then : has_come v.edge_us (then % 2 ^ 32) ≡ true

@@ -13,7 +13,7 @@ use Rattle.irig_vote.specs.Vote.{f_of}
 use Rattle.irig_lines.specs.Exactness.{window_us, vote_us}
 use Rattle.irig_lines.specs.Counting.{edges_to_vote, edges_own}
 use Rattle.irig_timekeeper.specs.Rule.{missed, against_table}
-use Rattle.irig_lines.specs.Steps.{is_pulse, all_kept, agrees, ends_by, end_behind, ended_by, agreed, settled}
+use Rattle.irig_lines.specs.Steps.{is_pulse, all_kept, ends_by, ends_from, ends_near, begins_near, last_behind, first_before, less_behind, less_before, least_behind, least_before, agreed, settled}
 use Rattle.irig_timekeeper.specs.Clock.{after_own, after_vote, answer_alone, answer_to_vote, lasted, bound_of, own_edge, beat_by, step_to, clock_by, answer_by, settled_at}
 use Rattle.irig_timekeeper.specs.Keeping.{Keeping, vote_at, after_tick, answer_at}
 use Rattle.irig_timekeeper.specs.Life.{Call, after_calls}
@@ -24,26 +24,35 @@ use Rattle.irig_timekeeper.proofs.VoteLaws.{come}
 
 -- ---- a vote
 
-ended_low : (window f : ℕ) (x : KeptClaim) (all ys : List (Option KeptClaim)) (so_far : ℕ) → ended_by window f x all ys so_far ≤ so_far
-ended_low window f x all [] so_far = omega arith
-ended_low window f x all (y ∷ ys) so_far =
-    let rest = ended_low window f x all ys (cond (agrees window x y && nat_lt f (count_by (ends_by x (end_behind x y)) all)) (min (end_behind x y) so_far) so_far) in
-    let one = either (agrees window x y && nat_lt f (count_by (ends_by x (end_behind x y)) all)) (end_behind x y) in
+no_more : (b : Bool) (p so_far : ℕ) → cond b (min p so_far) so_far ≤ so_far
+no_more true p so_far = elim (cases_lt p so_far) [
+  | inl less ↦ let is : min p so_far ≡ p = grind (arith, less) in omega (arith, is, less)
+  | inr more ↦ let is : min p so_far ≡ so_far = grind (arith, more) in omega (arith, is)
+]
+no_more false p so_far = omega arith
+
+behind_low : (window f : ℕ) (x : KeptClaim) (all ys : List (Option KeptClaim)) (so_far : ℕ) → least_behind window f x all ys so_far ≤ so_far
+behind_low window f x all [] so_far = omega arith
+behind_low window f x all (y ∷ ys) so_far =
+    let rest = behind_low window f x all ys (less_behind window f x all y so_far) in
+    let one = no_more (ends_near window x y && nat_lt f (count_by (ends_by x (last_behind x y)) all)) (last_behind x y) so_far in
     omega (arith, rest, one)
-  where
-    either : (b : Bool) (p : ℕ) → cond b (min p so_far) so_far ≤ so_far
-    either true p = elim (cases_lt p so_far) [
-      | inl less ↦ let is : min p so_far ≡ p = grind (arith, less) in omega (arith, is, less)
-      | inr more ↦ let is : min p so_far ≡ so_far = grind (arith, more) in omega (arith, is)
-    ]
-    either false p = omega arith
+
+before_low : (window f : ℕ) (x : KeptClaim) (all ys : List (Option KeptClaim)) (so_far : ℕ) → least_before window f x all ys so_far ≤ so_far
+before_low window f x all [] so_far = omega arith
+before_low window f x all (y ∷ ys) so_far =
+    let rest = before_low window f x all ys (less_before window f x all y so_far) in
+    let one = no_more (begins_near window x y && nat_lt f (count_by (ends_from x (first_before x y)) all)) (first_before x y) so_far in
+    omega (arith, rest, one)
 
 pub vote_bound : (c : ClockRules) (lines : Lines) (v : Vote) → agreed c lines ≡ Some v → v.bound_us ≤ vote_us c.within.us c.drift_us
 vote_bound c lines v e =
     let first = agreed_first c lines v e in
-    let low = ended_low (window_us c.within.us) (f_of c.redundancy) first.0 (all_kept lines) (all_kept lines) (window_us c.within.us) in
+    let all = all_kept c.within.us lines in
+    let behind = behind_low (window_us c.within.us) (f_of c.redundancy) first.0 all all (window_us c.within.us) in
+    let before = before_low (window_us c.within.us) (f_of c.redundancy) first.0 all all (window_us c.within.us) in
     let bound = ap (λ (x : Vote). x.bound_us) first.2 in
-    omega (arith, bound, low)
+    omega (arith, bound, behind, before)
 
 -- ---- a tick
 

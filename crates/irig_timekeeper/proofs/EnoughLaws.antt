@@ -17,7 +17,8 @@ use Rattle.irig_lines.specs.declared.lines.Lines.{Lines}
 use Rattle.irig_lines.specs.declared.lines.Vote.{Vote}
 use Rattle.irig_lines.specs.declared.setup.ClockRules.{ClockRules}
 use Rattle.irig_lines.specs.Edges.{IsQuartz}
-use Rattle.irig_lines.specs.Exactness.{window_us, vote_us}
+use Rattle.irig_lines.specs.Exactness.{half_us, window_us, vote_us}
+use Rattle.irig_lines.proofs.PartLaws.{agree_by_ends}
 use Rattle.irig_lines.specs.Steps.{line_at, settled, claim_kept, all_kept, agrees, agreed, if_come}
 use Rattle.irig_timekeeper.specs.Keeping.{Keeping, vote_at}
 use Rattle.irig_timekeeper.specs.Truth.{AreHeardTruly}
@@ -148,13 +149,8 @@ pub both_true : (a b : Bool) → a ≡ true → b ≡ true → (a && b) ≡ true
 both_true true b p q = q
 both_true false b p q = absurd cc
 
-near_gap : (window x y : ℕ) → window ≤ 898 → x ≤ y → y ≤ x + window → nat_le (clock_gap (x % 2 ^ 32) (y % 2 ^ 32)) window ≡ true
-near_gap window x y narrow order near =
-    let gap : clock_gap (x % 2 ^ 32) (y % 2 ^ 32) ≡ y - x = omega (arith, order, near, narrow) in
-    rw gap (few (y - x) window (omega (arith, near)))
-  where
-    few : (g w : ℕ) → g ≤ w → nat_le g w ≡ true
-    few g w h = grind (arith, h)
+near_gap : (window x y : ℕ) → window ≤ 898 → x ≤ y → y ≤ x + window → clock_gap (x % 2 ^ 32) (y % 2 ^ 32) ≤ window
+near_gap window x y narrow order near = omega (arith, order, near, narrow)
 
 -- edges that lie less than a second apart are one
 pub one_edge : (d : ℕ) (edges : ℕ → ℕ) → IsQuartz d edges → (i j : ℕ) → edges i < edges j + 999900 → edges j < edges i + 999900 → i ≡ j
@@ -194,32 +190,36 @@ module _ (t : TimelineValue) (edges : ℕ → ℕ) (new : Keeping) (quartz : IsQ
   first : IsLeast whole ends 0 5
   first = least_of whole ends 0 5 (omega (arith, many))
 
-  pub kept : (i : ℕ) (small : i < 5) (is : whole i ≡ true) → claim_kept (line_at (settled clock lines) i).frame ≡ Some (record { claim = (keeps i small is).claim; end_us = (keeps i small is).end % 2 ^ 32 })
+  abbrev claim_of : (i : ℕ) (small : i < 5) → whole i ≡ true → KeptClaim
+  claim_of i small is = record { claim = (keeps i small is).claim; end_us = (keeps i small is).end % 2 ^ 32; half_us = half_us new.clock.within.us }
+
+  pub kept : (i : ℕ) (small : i < 5) (is : whole i ≡ true) → claim_kept new.clock.within.us (line_at (settled clock lines) i).frame ≡ Some (claim_of i small is)
   kept i small is =
       let k = keeps i small is in
-      ap claim_kept (frame_settled clock lines i small)
-      ∙ stays_kept clock (line_at lines i).frame (record { claim = k.claim; end_us = k.end % 2 ^ 32 }) k.keeps (in_time k.end now (ahead i small is) (omega (arith, k.least, upto, quartz.few, new.clock.within.few)))
+      ap (claim_kept new.clock.within.us) (frame_settled clock lines i small)
+      ∙ stays_kept _ clock (line_at lines i).frame (claim_of i small is) k.keeps (in_time k.end now (ahead i small is) (omega (arith, k.least, upto, quartz.few, new.clock.within.few)))
 
   -- all of them agree with the one that ends first
-  agree : (i j : ℕ) (small : i < 5) (low : j < 5) (is : whole i ≡ true) (so : whole j ≡ true) → ends i ≤ ends j → agrees window (record { claim = (keeps i small is).claim; end_us = (keeps i small is).end % 2 ^ 32 }) (claim_kept (line_at (settled clock lines) j).frame) ≡ true
+  agree : (i j : ℕ) (small : i < 5) (low : j < 5) (is : whole i ≡ true) (so : whole j ≡ true) → ends i ≤ ends j → agrees (claim_of i small is) (claim_kept new.clock.within.us (line_at (settled clock lines) j).frame) ≡ true
   agree i j small low is so order =
       let k = keeps i small is in
       let l = keeps j low so in
       let same : m ≡ m - 1 + 1 = omega (arith, some) in
       let one = subst (λ (x : ℕ). IsTrueClaim t x k.claim) same k.truth in
       let other = subst (λ (x : ℕ). IsTrueClaim t x l.claim) same l.truth in
-      subst (λ (o : Option KeptClaim). agrees window (record { claim = k.claim; end_us = k.end % 2 ^ 32 }) o ≡ true) (sym (kept j low so))
-      (both_true _ _ (same_truth t (m - 1) k.claim l.claim one other) (near_gap window k.end l.end (omega (arith, new.clock.within.few)) (omega (arith, order, k.is, l.is)) (omega (arith, k.close_least, l.close_most))))
+      subst (λ (o : Option KeptClaim). agrees (claim_of i small is) o ≡ true) (sym (kept j low so))
+      (agree_by_ends new.clock.within.us (claim_of i small is) (claim_of j low so) new.clock.within.few refl refl (omega arith) (omega arith) (same_truth t (m - 1) k.claim l.claim one other)
+      (near_gap window k.end l.end (omega (arith, new.clock.within.few)) (omega (arith, order, k.is, l.is)) (omega (arith, k.close_least, l.close_most))))
 
   pub some_agree : (v : Vote) × (agreed new.clock (settled clock lines) ≡ Some v)
   some_agree =
       let here : 0 + first.i ≡ first.i = omega arith in
       let is : whole first.i ≡ true = subst (λ (j : ℕ). whole j ≡ true) here first.at in
-      let x : KeptClaim = record { claim = (keeps first.i first.low is).claim; end_us = (keeps first.i first.low is).end % 2 ^ 32 } in
-      let all = more_of whole (λ j. agrees window x (claim_kept (line_at (settled clock lines) j).frame)) 0 5 (λ j low so. agree_at x first.i first.low is refl j low so) in
-      one_is_agreed new.clock (settled clock lines) first.i x first.low (kept first.i first.low is) (lt-ltb f (count_by (agrees window x) (all_kept (settled clock lines))) (omega (arith, many, all)))
+      let x : KeptClaim = claim_of first.i first.low is in
+      let all = more_of whole (λ j. agrees x (claim_kept new.clock.within.us (line_at (settled clock lines) j).frame)) 0 5 (λ j low so. agree_at x first.i first.low is refl j low so) in
+      one_is_agreed new.clock (settled clock lines) first.i x first.low (kept first.i first.low is) (lt-ltb f (count_by (agrees x) (all_kept new.clock.within.us (settled clock lines))) (omega (arith, many, all)))
     where
-      agree_at : (x : KeptClaim) (i : ℕ) (small : i < 5) (is : whole i ≡ true) → i ≡ first.i → (j : ℕ) → j < 5 → whole (0 + j) ≡ true → agrees window (record { claim = (keeps i small is).claim; end_us = (keeps i small is).end % 2 ^ 32 }) (claim_kept (line_at (settled clock lines) (0 + j)).frame) ≡ true
+      agree_at : (x : KeptClaim) (i : ℕ) (small : i < 5) (is : whole i ≡ true) → i ≡ first.i → (j : ℕ) → j < 5 → whole (0 + j) ≡ true → agrees (claim_of i small is) (claim_kept new.clock.within.us (line_at (settled clock lines) (0 + j)).frame) ≡ true
       agree_at x i small is same j low so =
           let there : 0 + j ≡ j = omega arith in
           let here : 0 + first.i ≡ i = omega (arith, same) in
@@ -227,7 +227,7 @@ module _ (t : TimelineValue) (edges : ℕ → ℕ) (new : Keeping) (quartz : IsQ
           let least = first.least j low so in
           let e1 : ends (0 + first.i) ≡ ends i = ap ends here in
           let e2 : ends (0 + j) ≡ ends j = ap ends there in
-          subst (λ (k : ℕ). agrees window (record { claim = (keeps i small is).claim; end_us = (keeps i small is).end % 2 ^ 32 }) (claim_kept (line_at (settled clock lines) k).frame) ≡ true) (sym there)
+          subst (λ (k : ℕ). agrees (claim_of i small is) (claim_kept new.clock.within.us (line_at (settled clock lines) k).frame) ≡ true) (sym there)
           (agree i j small low is so' (omega (arith, least, e1, e2)))
 
 module _ (IsTrue : ℕ → List Pulse → Type 0) (t : TimelineValue) (edges : ℕ → ℕ) (new : Keeping) (quartz : IsQuartz new.clock.drift_us edges) (start : ℕ) (begun : AreLinesAt new new (λ i. []) start start) (truly : TellAlwaysTruly IsTrue new.clock.within.us new.clock.drift_us new.rules t edges 0 0)

@@ -41,7 +41,7 @@ use Rattle.irig_timekeeper.proofs.LifeLaws.{AreLinesAt, IsLineAt, line_soon, lin
 use Rattle.irig_lines.proofs.WholeLaws.{begin_here, whole_of, AreSorted, whole_here, not_whole, whole_apart, whole_by}
 use Rattle.irig_timekeeper.proofs.OrderLaws.{five, own_pulse, others_pulse}
 use Rattle.irig_lines.specs.Edges.{IsQuartz}
-use Rattle.irig_lines.specs.Exactness.{end_off_us, uneven_us}
+use Rattle.irig_lines.specs.Exactness.{half_us, end_off_us, uneven_us}
 use Rattle.irig_timekeeper.specs.Announcing.{LeavesTheFirst, IsWhole}
 use Rattle.irig_lines.proofs.LineLaws.{clock_of}
 
@@ -206,16 +206,16 @@ in_time end now ahead soon =
     few : (g : ℕ) → g ≤ 114000 → nat_lt 114000 g ≡ false
     few g h = grind (arith, h)
 
-end_told : (told : Told) (end : ℕ) (y : KeptClaim) → claim_told told end ≡ Some y → end ≡ y.end_us
-end_told (tells.Claim c) end y e = cc
-end_told tells.Silence end y e = absurd cc
-end_told (tells.Fault f) end y e = absurd cc
-end_told (tells.Poor q) end y e = absurd cc
+end_told : (told : Told) (end half : ℕ) (y : KeptClaim) → claim_told told end half ≡ Some y → end ≡ y.end_us
+end_told (tells.Claim c) end half y e = cc
+end_told tells.Silence end half y e = absurd cc
+end_told (tells.Fault f) end half y e = absurd cc
+end_told (tells.Poor q) end half y e = absurd cc
 
-pub stays_kept : (clock : ℕ) (frame : Option KeptFrame) (y : KeptClaim) → claim_kept frame ≡ Some y → is_late y.end_us clock ≡ false → claim_kept (still_kept clock frame) ≡ Some y
-stays_kept clock None y e late = absurd cc
-stays_kept clock (Some x) y e late =
-    let same : is_late x.end_us clock ≡ false = ap (λ (end : ℕ). is_late end clock) (end_told x.told x.end_us y (claim_of_even x y e).1) ∙ late in
+pub stays_kept : (within : ℕ) (clock : ℕ) (frame : Option KeptFrame) (y : KeptClaim) → claim_kept within frame ≡ Some y → is_late y.end_us clock ≡ false → claim_kept within (still_kept clock frame) ≡ Some y
+stays_kept within clock None y e late = absurd cc
+stays_kept within clock (Some x) y e late =
+    let same : is_late x.end_us clock ≡ false = ap (λ (end : ℕ). is_late end clock) (end_told x.told x.end_us (half_us within) y (claim_of_even _ x y e).1) ∙ late in
     rw same e
 
 -- no tick of these calls, which came behind those, has a vote from this time on
@@ -238,14 +238,14 @@ settles k clock e = of (vote_at k clock) e
 
 module _ (t : TimelineValue) (edges : ℕ → ℕ) (new : Keeping) (quartz : IsQuartz new.clock.drift_us edges) (start : ℕ) (begun : AreLinesAt new new (λ i. []) start start) (i : ℕ) (small : i < 5) (m : ℕ) (older : List Call) (told : ℕ) (risen : HaveRisen told older) (past : told + 11000 < edges m) where
   abbrev kept_claim : List Call → Option KeptClaim
-  kept_claim calls = claim_kept (line_at (after_calls new calls).state.lines i).frame
+  kept_claim calls = claim_kept new.clock.within.us (line_at (after_calls new calls).state.lines i).frame
 
   -- the line keeps the whole frame
   pub record Keeps (calls : List Call) : Type 0 where
     pub claim : Claim
     pub truth : IsTrueClaim t m claim
     pub end : ℕ
-    pub keeps : kept_claim calls ≡ Some (record { claim = claim; end_us = end % 2 ^ 32 })
+    pub keeps : kept_claim calls ≡ Some (record { claim = claim; end_us = end % 2 ^ 32; half_us = half_us new.clock.within.us })
     pub least : edges m ≤ end + end_off_us new.clock.within.us new.clock.drift_us
     pub most : end ≤ edges m + end_off_us new.clock.within.us new.clock.drift_us
     pub close_least : ends_at edges m ≤ end + (new.clock.within.us - 1)
@@ -352,10 +352,10 @@ module _ (t : TimelineValue) (edges : ℕ → ℕ) (new : Keeping) (quartz : IsQ
         subst (λ (c : ClockRules). is_even c line.begin_us (rise % 2 ^ 32) ≡ true) (sym all.same.clock)
         (ap (λ (b : ℕ). is_even new.clock b (rise % 2 ^ 32)) begin ∙ even_by new.clock (rise_before 99 (p ∷ pulses)) rise quartz.few rose.0 rose.1)
 
-    kept_then : (c : ClockRules) (begin place rise : ℕ) (told : Told) (frame : Option KeptFrame) (claim : Claim) → place ≡ 100 → told ≡ tells.Claim claim → is_even c begin (rise % 2 ^ 32) ≡ true → claim_kept (frame_behind c place begin (rise % 2 ^ 32) told frame) ≡ Some (record { claim = claim; end_us = (rise + 10000) % 2 ^ 32 })
+    kept_then : (c : ClockRules) (begin place rise : ℕ) (told : Told) (frame : Option KeptFrame) (claim : Claim) → place ≡ 100 → told ≡ tells.Claim claim → is_even c begin (rise % 2 ^ 32) ≡ true → claim_kept new.clock.within.us (frame_behind c place begin (rise % 2 ^ 32) told frame) ≡ Some (record { claim = claim; end_us = (rise + 10000) % 2 ^ 32; half_us = half_us new.clock.within.us })
     kept_then c begin place rise told frame claim whole says even =
         let wrap : (rise % 2 ^ 32 + 10000) % 2 ^ 32 ≡ (rise + 10000) % 2 ^ 32 = omega arith in
-        rw (whole, says, even) (ap (λ (end : ℕ). Some (record { claim = claim; end_us = end })) wrap)
+        rw (whole, says, even) (ap (λ (end : ℕ). Some (record { claim = claim; end_us = end; half_us = half_us new.clock.within.us })) wrap)
 
     keeps_whole : Keeps (Hear port rise width ∷ calls)
     keeps_whole =
@@ -364,7 +364,7 @@ module _ (t : TimelineValue) (edges : ℕ → ℕ) (new : Keeping) (quartz : IsQ
           claim = w.claim;
           truth = w.truth;
           end = rise + 10000;
-          keeps = ap (λ (x : Line). claim_kept x.frame) own_line ∙ kept_then k.clock line.begin_us (place_of line.sync (rise % 2 ^ 32) width) rise (told_within k.limits k.rules (heard_then k i (rise % 2 ^ 32) width)) line.frame w.claim (place ∙ hundred) tells_it even;
+          keeps = ap (λ (x : Line). claim_kept new.clock.within.us x.frame) own_line ∙ kept_then k.clock line.begin_us (place_of line.sync (rise % 2 ^ 32) width) rise (told_within k.limits k.rules (heard_then k i (rise % 2 ^ 32) width)) line.frame w.claim (place ∙ hundred) tells_it even;
           least = omega (arith, rises, ends.least);
           most = omega (arith, rises, ends.most);
           close_least = omega (arith, rises, ends.close_least);
@@ -373,7 +373,7 @@ module _ (t : TimelineValue) (edges : ℕ → ℕ) (new : Keeping) (quartz : IsQ
         }
 
   -- what is too wide is no pulse
-  passes_wide : (port rise width : ℕ) (calls : List Call) → is_pulse width ≡ false → claim_kept (line_at (after_pulse (after_calls new calls) port rise width).state.lines i).frame ≡ kept_claim calls
+  passes_wide : (port rise width : ℕ) (calls : List Call) → is_pulse width ≡ false → claim_kept new.clock.within.us (line_at (after_pulse (after_calls new calls) port rise width).state.lines i).frame ≡ kept_claim calls
   passes_wide port rise width calls wide = rw wide refl
 
   -- a tick without a vote
@@ -386,7 +386,7 @@ module _ (t : TimelineValue) (edges : ℕ → ℕ) (new : Keeping) (quartz : IsQ
         claim = k.claim;
         truth = k.truth;
         end = k.end;
-        keeps = ap claim_kept lines ∙ stays_kept clock (line_at (after_calls new calls).state.lines i).frame (record { claim = k.claim; end_us = k.end % 2 ^ 32 }) k.keeps late;
+        keeps = ap (claim_kept new.clock.within.us) lines ∙ stays_kept _ clock (line_at (after_calls new calls).state.lines i).frame (record { claim = k.claim; end_us = k.end % 2 ^ 32; half_us = half_us new.clock.within.us }) k.keeps late;
         least = k.least;
         most = k.most;
         close_least = k.close_least;
@@ -411,7 +411,7 @@ module _ (t : TimelineValue) (edges : ℕ → ℕ) (new : Keeping) (quartz : IsQ
           claim = k.claim;
           truth = k.truth;
           end = k.end;
-          keeps = ap claim_kept (own_pulse (after_calls new calls) port i (rise % 2 ^ 32) width small narrow at (λ ends. inside (sym place ∙ ends))) ∙ k.keeps;
+          keeps = ap (claim_kept new.clock.within.us) (own_pulse (after_calls new calls) port i (rise % 2 ^ 32) width small narrow at (λ ends. inside (sym place ∙ ends))) ∙ k.keeps;
           least = k.least;
           most = k.most;
           close_least = k.close_least;
@@ -456,7 +456,7 @@ module _ (t : TimelineValue) (edges : ℕ → ℕ) (new : Keeping) (quartz : IsQ
         let same = others_pulses i port rise width (later ++ older) other in
         let before = whole_kept later now (unheard start new.clock.redundancy port rise width now (later ++ older) order) none upto late (subst (Whole late) same w) in
         let line = others_pulse (after_calls new (later ++ older)) port i (rise % 2 ^ 32) width (omega (arith, order.3.0, five new.clock.redundancy)) small (eqb-false i port other) in
-        passes (Hear port rise width) (later ++ older) (ap (λ (x : Line). claim_kept x.frame) line) same before
+        passes (Hear port rise width) (later ++ older) (ap (λ (x : Line). claim_kept new.clock.within.us x.frame) line) same before
     | inl same ↦ elim (cases_Bool (is_pulse width)) [
       | inr wide ↦
           let none_more = no_pulse i port rise width (later ++ older) wide in

@@ -43,7 +43,8 @@ use Rattle.irig_timekeeper.proofs.VotedLaws.{voted_second}
 use Rattle.irig_lines.proofs.PartLaws.{agreed_first}
 use Rattle.irig_timekeeper.proofs.BoundLaws.{answer_bound}
 use Rattle.irig_timekeeper.proofs.TrackLaws.{IsToldNewly, KeepsTrue}
-use Rattle.irig_timekeeper.proofs.VoteLaws.{still, come, one_more, vote_is_true}
+use Rattle.irig_timekeeper.proofs.VoteLaws.{still, come, vote_is_true}
+use Rattle.irig_lines.proofs.PartLaws.{one_more}
 use Rattle.irig_timekeeper.proofs.LifeLaws.{IsSameSetup, AreLinesAt, IsEndAt, lines_after, TellAlwaysTruly, heard_truly, tick_in, track_on, order_before}
 use Rattle.irig_timekeeper.proofs.CheckedSteps.{checked_cases}
 
@@ -59,11 +60,11 @@ kept_marked EndsSo within d rules (Some x) pulses y h e =
     let same : x ≡ y = cc in
     subst (λ (v : KeptClaim). IsMarkedLate v.claim) same (claim_marked _ _ _ x.claim h.2.carries.claims)
 
-module _ (c : ClockRules) (EndsSo : List Pulse → ℕ → Type 0) (rules : Rules) (lines : Lines) (pulses : ℕ → List Pulse) (kept : (i : ℕ) → i < 5 → IfKept (EndsSo (pulses i)) c.within.us c.drift_us rules (claim_kept (line_at lines i).frame) (pulses i)) where
-  marked_at : (clock i : ℕ) → i < 5 → (y : KeptClaim) → claim_kept (still_kept clock (line_at lines i).frame) ≡ Some y → IsMarked y
-  marked_at clock i low y e = kept_marked (EndsSo (pulses i)) c.within.us c.drift_us rules (claim_kept (line_at lines i).frame) (pulses i) y (kept i low) (still clock (line_at lines i).frame y e).0
+module _ (c : ClockRules) (EndsSo : List Pulse → ℕ → Type 0) (rules : Rules) (lines : Lines) (pulses : ℕ → List Pulse) (kept : (i : ℕ) → i < 5 → IfKept (EndsSo (pulses i)) c.within.us c.drift_us rules (claim_kept c.within.us (line_at lines i).frame) (pulses i)) where
+  marked_at : (clock i : ℕ) → i < 5 → (y : KeptClaim) → claim_kept c.within.us (still_kept clock (line_at lines i).frame) ≡ Some y → IsMarked y
+  marked_at clock i low y e = kept_marked (EndsSo (pulses i)) c.within.us c.drift_us rules (claim_kept c.within.us (line_at lines i).frame) (pulses i) y (kept i low) (still _ clock (line_at lines i).frame y e).0
 
-  each_marked : (clock : ℕ) → EachKept IsMarked (all_kept (settled clock lines))
+  each_marked : (clock : ℕ) → EachKept IsMarked (all_kept c.within.us (settled clock lines))
   each_marked clock =
       one_more IsMarked _ _ (marked_at clock 0 (omega arith))
       (one_more IsMarked _ _ (marked_at clock 1 (omega arith))
@@ -74,7 +75,7 @@ module _ (c : ClockRules) (EndsSo : List Pulse → ℕ → Type 0) (rules : Rule
   vote_marked : (clock : ℕ) (v : Vote) → if_come clock (agreed c (settled clock lines)) ≡ Some v → IsMarkedLate v.claim
   unfolding IsMarked
   vote_marked clock v e =
-      let all = all_kept (settled clock lines) in
+      let all = all_kept c.within.us (settled clock lines) in
       let first = agreed_first c (settled clock lines) v (come clock (agreed c (settled clock lines)) v e).0 in
       let claims = ap (λ (x : Vote). x.claim) first.2 in
       subst IsMarkedLate (sym claims) (is_one IsMarked (window_us c.within.us) (f_of c.redundancy) all all first.0 (each_marked clock) first.1).1

@@ -57,7 +57,7 @@ pub record IsLineAt (c : ClockRules) (rules : Rules) (heard : List Symbol) (line
   pub all : heard ≡ heard_of_last (length pulses) pulses
   pub sorted : AreSorted pulses
   pub begins : KnowsBegin line.begin_us pulses
-  pub kept : IfKept (IsEndAt pulses tick now) c.within.us c.drift_us rules (claim_kept line.frame) pulses
+  pub kept : IfKept (IsEndAt pulses tick now) c.within.us c.drift_us rules (claim_kept c.within.us line.frame) pulses
   pub past : told ≤ now + 4000
   pub near : tick ≤ told + 500000
   pub last : (more time : ℕ) → tick ≤ time + more → IsAfter pulses time → told ≤ time + more
@@ -119,7 +119,7 @@ module _ (c : ClockRules) (rules : Rules) where
     all = l.all;
     sorted = l.sorted;
     begins = l.begins;
-    kept = eased (IsEndAt pulses tick now) (IsEndAt pulses tick time) (λ end e. (omega (arith, e.0, on), e.1, e.2)) (claim_kept line.frame) pulses l.kept;
+    kept = eased (IsEndAt pulses tick now) (IsEndAt pulses tick time) (λ end e. (omega (arith, e.0, on), e.1, e.2)) (claim_kept c.within.us line.frame) pulses l.kept;
     past = omega (arith, l.past, on);
     near = l.near;
     last = l.last;
@@ -134,14 +134,14 @@ module _ (c : ClockRules) (rules : Rules) where
   still_in_turn None pulses tick now half h = tt
   still_in_turn (Some kept) pulses tick now half h = (h.0, h.1, h.2, (h.3.0, omega (arith, h.3.1, half)))
 
-  still_there : (frame : Option KeptFrame) (pulses : List Pulse) (tick now : ℕ) → now + 504000 < tick + 1800000000 → IfKept (IsEndAt pulses tick now) c.within.us c.drift_us rules (claim_kept frame) pulses
-      → IfKept (IsEndAt pulses now now) c.within.us c.drift_us rules (claim_kept (still_kept (now % 2 ^ 32) frame)) pulses
-  still_there frame pulses tick now half h = by (claim_kept (still_kept (now % 2 ^ 32) frame)) refl
+  still_there : (frame : Option KeptFrame) (pulses : List Pulse) (tick now : ℕ) → now + 504000 < tick + 1800000000 → IfKept (IsEndAt pulses tick now) c.within.us c.drift_us rules (claim_kept c.within.us frame) pulses
+      → IfKept (IsEndAt pulses now now) c.within.us c.drift_us rules (claim_kept c.within.us (still_kept (now % 2 ^ 32) frame)) pulses
+  still_there frame pulses tick now half h = by (claim_kept c.within.us (still_kept (now % 2 ^ 32) frame)) refl
     where
-      by : (o : Option KeptClaim) → claim_kept (still_kept (now % 2 ^ 32) frame) ≡ o → IfKept (IsEndAt pulses now now) c.within.us c.drift_us rules o pulses
+      by : (o : Option KeptClaim) → claim_kept c.within.us (still_kept (now % 2 ^ 32) frame) ≡ o → IfKept (IsEndAt pulses now now) c.within.us c.drift_us rules o pulses
       by None e = tt
       by (Some kept) e =
-          let was = still (now % 2 ^ 32) frame kept e in
+          let was = still _ (now % 2 ^ 32) frame kept e in
           let h' = subst (λ (o : Option KeptClaim). IfKept (IsEndAt pulses tick now) c.within.us c.drift_us rules o pulses) was.0 h in
           let soon = not_late h'.0 now h'.3.0 (omega (arith, h'.3.1, half)) (subst (λ (e : ℕ). is_late e (now % 2 ^ 32) ≡ false) h'.1 was.1) in
           (h'.0, h'.1, h'.2, (h'.3.0, omega (arith, soon), h'.3.2))
@@ -435,9 +435,9 @@ module _ (IsTrue : ℕ → List Pulse → Type 0) (t : TimelineValue) (edges : �
           few = lately.few;
           true_lines = lately.true_lines;
           kept = λ i low.
-              subst (λ (c : ClockRules). IfKept (IsInTurnOf time) c.within.us c.drift_us new.rules (claim_kept (line_at k.state.lines i).frame) (pulses_on i calls)) l.same.clock
-              (subst (λ (x : Rules). IfKept (IsInTurnOf time) k.clock.within.us k.clock.drift_us x (claim_kept (line_at k.state.lines i).frame) (pulses_on i calls)) l.same.rules
-              (still_in_turn k.clock k.rules (claim_kept (line_at k.state.lines i).frame) (pulses_on i calls) (last_tick start calls) time order.1 (l.lines i low).kept));
+              subst (λ (c : ClockRules). IfKept (IsInTurnOf time) c.within.us c.drift_us new.rules (claim_kept c.within.us (line_at k.state.lines i).frame) (pulses_on i calls)) l.same.clock
+              (subst (λ (x : Rules). IfKept (IsInTurnOf time) k.clock.within.us k.clock.drift_us x (claim_kept k.clock.within.us (line_at k.state.lines i).frame) (pulses_on i calls)) l.same.rules
+              (still_in_turn k.clock k.rules (claim_kept k.clock.within.us (line_at k.state.lines i).frame) (pulses_on i calls) (last_tick start calls) time order.1 (l.lines i low).kept));
         }
 
     abbrev pub IsTrack : ℕ → ℕ → Keeping → Type 0
@@ -497,7 +497,7 @@ new_line c rules line start is = record {
   all = refl;
   sorted = tt;
   begins = λ n at. absurd (omega (arith, at));
-  kept = subst (λ (o : Option KeptFrame). IfKept (IsEndAt [] start start) c.within.us c.drift_us rules (claim_kept o) []) (sym is.frame) tt;
+  kept = subst (λ (o : Option KeptFrame). IfKept (IsEndAt [] start start) c.within.us c.drift_us rules (claim_kept c.within.us o) []) (sym is.frame) tt;
   past = omega arith;
   near = omega arith;
   last = λ more time upto after. upto;

@@ -22,7 +22,7 @@ use Rattle.irig_lines.specs.declared.setup.ClockRules.{ClockRules}
 use Rattle.irig_timekeeper.specs.declared.clock.ClockState.{ClockState}
 use Rattle.irig_lines.specs.Lines.{IfKept}
 use Rattle.irig_lines.specs.Counting.{edges_between, edge_behind, is_late, has_come, edges_to_vote, edges_own}
-use Rattle.irig_lines.specs.Exactness.{window_us}
+use Rattle.irig_lines.specs.Exactness.{half_us, window_us}
 use Rattle.irig_lines.specs.Steps.{is_pulse, line_at, claim_kept, still_kept, line_taken, settled, taken, all_kept, agrees, is_candidate, first_candidate, agreed}
 use Rattle.irig_timekeeper.specs.Clock.{step_to, beat_by, after_vote, answer_to_vote, after_own, answer_alone, own_edge, clock_by, answer_by, settled_at}
 use Rattle.irig_timekeeper.specs.Keeping.{Keeping, vote_at, after_pulse, after_tick, answer_at}
@@ -30,8 +30,8 @@ use Rattle.irig_timekeeper.specs.Truth.{IsEdgeAt, AreApartBeats}
 use Rattle.irig_timekeeper.specs.Life.{Call, after_calls, pulses_on, last_tick, AreInOrder}
 use Rattle.irig_timekeeper.specs.Life.Call.{Hear, Tick}
 use Rattle.irig_lines.proofs.AgreeLaws.{EachKept, is_one}
-use Rattle.irig_lines.proofs.PartLaws.{split, IsVoteOf, agreed_first, vote_of, narrow}
-use Rattle.irig_timekeeper.proofs.VoteLaws.{still, come, frame_settled, one_more, not_late, last_late}
+use Rattle.irig_lines.proofs.PartLaws.{IsHalf, half_kept, one_more, ends_agree, IsVoteOf, agreed_first, vote_of, narrow}
+use Rattle.irig_timekeeper.proofs.VoteLaws.{still, come, frame_settled, not_late, last_late}
 use Rattle.irig_lines.proofs.WholeLaws.{whole_of, AreSorted, whole_here, not_whole, whole_apart}
 use Rattle.irig_timekeeper.proofs.TimeLaws.{own_count, still_edge, own_edge_at, voted_count, same_edge}
 use Rattle.irig_timekeeper.proofs.LifeLaws.{AreLinesAt, IsEndAt, line_soon, lines_after, order_before, ticked, line_takes, line_same, line_other, own_pulses, others_pulses, no_pulse, has_risen, unheard}
@@ -153,9 +153,9 @@ others_pulse k port i rise width low small other = elim (cases_Bool (is_pulse wi
 
 -- ---- what a line keeps behind a tick that took its frame ended a frame later
 
-module _ (new : Keeping) (start : ℕ) (begins : AreLinesAt new new (λ i. []) start start) (i : ℕ) (small : i < 5) where
+module _ (new : Keeping) (start : ℕ) (begins : AreLinesAt new new (λ i. []) start start) (within : ℕ) (i : ℕ) (small : i < 5) where
   abbrev claim_at : List Call → Option KeptClaim
-  claim_at calls = claim_kept (line_at (after_calls new calls).state.lines i).frame
+  claim_at calls = claim_kept within (line_at (after_calls new calls).state.lines i).frame
 
   abbrev whole_at : List Call → ℕ
   whole_at calls = whole_of (pulses_on i calls)
@@ -171,14 +171,14 @@ module _ (new : Keeping) (start : ℕ) (begins : AreLinesAt new new (λ i. []) s
       let before = since base none later time order.3 in
       record { grown = before.grown; later = λ y e. before.later y (kept_before (after_calls new (later ++ base)) (time % 2 ^ 32) y e) }
     where
-      kept_before : (k : Keeping) (clock : ℕ) (y : KeptClaim) → claim_kept (line_at (after_tick k clock).state.lines i).frame ≡ Some y → claim_kept (line_at k.state.lines i).frame ≡ Some y
+      kept_before : (k : Keeping) (clock : ℕ) (y : KeptClaim) → claim_kept within (line_at (after_tick k clock).state.lines i).frame ≡ Some y → claim_kept within (line_at k.state.lines i).frame ≡ Some y
       kept_before k clock y e = elim (ticked k clock) [
         | inl stays ↦
             let same : (line_at (after_tick k clock).state.lines i).frame ≡ still_kept clock (line_at k.state.lines i).frame = ap (λ (l : Lines). (line_at l i).frame) stays ∙ frame_settled clock k.state.lines i small in
-            (still clock (line_at k.state.lines i).frame y (ap claim_kept (sym same) ∙ e)).0
+            (still _ clock (line_at k.state.lines i).frame y (ap (claim_kept within) (sym same) ∙ e)).0
         | inr gives ↦
             let gone : line_taken (line_at (settled clock k.state.lines) i) ≡ line_at (after_tick k clock).state.lines i = line_takes (settled clock k.state.lines) i small ∙ ap (λ (l : Lines). line_at l i) (sym gives) in
-            absurd (let both : None ≡ Some y = ap (λ (l : Line). claim_kept l.frame) gone ∙ e in cc)
+            absurd (let both : None ≡ Some y = ap (λ (l : Line). claim_kept within l.frame) gone ∙ e in cc)
       ]
   since base none (Hear port rise width ∷ later) now order =
       let calls : List Call = later ++ base in
@@ -190,7 +190,7 @@ module _ (new : Keeping) (start : ℕ) (begins : AreLinesAt new new (λ i. []) s
         | inr other ↦
             let apart = eqb-false i port other in
             let same = others_pulse k port i (rise % 2 ^ 32) width (omega (arith, order.3.0, five new.clock.redundancy)) small apart in
-            stays before (ap (λ (x : Line). claim_kept x.frame) same) (ap whole_of (others_pulses i port rise width calls other))
+            stays before (ap (λ (x : Line). claim_kept within x.frame) same) (ap whole_of (others_pulses i port rise width calls other))
         | inl same ↦ elim (cases_Bool (is_pulse width)) [
           | inr wide ↦ stays before (rw wide refl) (ap whole_of (no_pulse i port rise width calls wide))
           | inl narrow ↦
@@ -211,7 +211,7 @@ module _ (new : Keeping) (start : ℕ) (begins : AreLinesAt new new (λ i. []) s
                 | inr inside ↦
                     let not_there : ¬ (place_after (p ∷ pulses) ≡ 100) = eqb-false (place_after (p ∷ pulses)) 100 inside in
                     let frame = own_pulse k port i (rise % 2 ^ 32) width small narrow at (λ ends. not_there (sym place ∙ ends)) in
-                    stays before (ap claim_kept frame) (ap whole_of on ∙ not_whole p pulses not_there)
+                    stays before (ap (claim_kept within) frame) (ap whole_of on ∙ not_whole p pulses not_there)
               ]
         ]
       ]
@@ -250,16 +250,16 @@ pub record LiesBehind (window e end : ℕ) : Type 0 where
   pub least : end ≤ edge
   pub most : edge ≤ end + window
 
-pub lies_behind : (c : ClockRules) (all : List (Option KeptClaim)) (v : Vote) (x : KeptClaim) → IsVoteOf c all v x → (end : ℕ) → x.end_us ≡ end % 2 ^ 32 → LiesBehind (window_us c.within.us) v.edge_us end
-lies_behind c all v x p end at = record {
-  edge = end + (p.from + p.by) / 2;
-  clock = ap (λ (z : Vote). z.edge_us) p.is ∙ wrapped x.end_us p.from p.by at;
-  least = omega arith;
-  most = omega (arith, p.from_most, p.by_most);
+pub lies_behind : (c : ClockRules) (all : List (Option KeptClaim)) (v : Vote) (x : KeptClaim) → IsVoteOf c all v x → IsHalf c.within.us x → (end : ℕ) → x.end_us ≡ end % 2 ^ 32 → LiesBehind (window_us c.within.us) v.edge_us end
+lies_behind c all v x p half end at = record {
+  edge = end + half_us c.within.us + (p.before + p.behind) / 2 - p.before;
+  clock = ap (λ (z : Vote). z.edge_us) p.is ∙ wrapped x.end_us x.half_us p.before p.behind at half p.before_most;
+  least = omega (arith, p.before_most);
+  most = omega (arith, p.before_most, p.behind_most, c.within.few);
 }
   where
-    wrapped : (e from by : ℕ) → e ≡ end % 2 ^ 32 → (e + (from + by) / 2) % 2 ^ 32 ≡ (end + (from + by) / 2) % 2 ^ 32
-    wrapped e from by at = omega (arith, at)
+    wrapped : (e half before behind : ℕ) → e ≡ end % 2 ^ 32 → half ≡ half_us c.within.us → before ≤ window_us c.within.us → ((e + half) % 2 ^ 32 + 2 ^ 32 - before + (before + behind) / 2) % 2 ^ 32 ≡ (end + half_us c.within.us + (before + behind) / 2 - before) % 2 ^ 32
+    wrapped e half before behind at is low = omega (arith, at, is, low, c.within.few)
 
 module _ (new : Keeping) (start : ℕ) (begins : AreLinesAt new new (λ i. []) start start) where
   module _ (calls : List Call) (now : ℕ) (order : AreInOrder start new.clock.redundancy (Tick now ∷ calls)) where
@@ -275,6 +275,9 @@ module _ (new : Keeping) (start : ℕ) (begins : AreLinesAt new new (λ i. []) s
     abbrev pub f : ℕ
     f = f_of (after_calls new calls).clock.redundancy
 
+    abbrev pub within : ℕ
+    within = (after_calls new calls).clock.within.us
+
     abbrev pub window : ℕ
     window = window_us (after_calls new calls).clock.within.us
 
@@ -282,32 +285,32 @@ module _ (new : Keeping) (start : ℕ) (begins : AreLinesAt new new (λ i. []) s
     few = narrow (after_calls new calls).clock
 
     -- what a line keeps
-    pub kept_by : (i : ℕ) → i < 5 → (y : KeptClaim) → claim_kept (line_at (settled clock lines) i).frame ≡ Some y → (claim_kept (line_at lines i).frame ≡ Some y) × (is_late y.end_us clock ≡ false)
-    kept_by i small y e = still clock (line_at lines i).frame y (ap claim_kept (sym (frame_settled clock lines i small)) ∙ e)
+    pub kept_by : (i : ℕ) → i < 5 → (y : KeptClaim) → claim_kept within (line_at (settled clock lines) i).frame ≡ Some y → (claim_kept within (line_at lines i).frame ≡ Some y) × (is_late y.end_us clock ≡ false)
+    kept_by i small y e = still _ clock (line_at lines i).frame y (ap (claim_kept within) (sym (frame_settled clock lines i small)) ∙ e)
 
     -- a frame on which more than f lines agree, and that one of them keeps
     pub record IsCandidateAt (x : KeptClaim) : Type 0 where
-      pub counts : is_candidate window f x (all_kept (settled clock lines)) ≡ true
+      pub counts : is_candidate f x (all_kept within (settled clock lines)) ≡ true
       pub range : x.end_us < 2 ^ 32
       pub i : ℕ
       pub small : i < 5
-      pub keeps : claim_kept (line_at (settled clock lines) i).frame ≡ Some x
+      pub keeps : claim_kept within (line_at (settled clock lines) i).frame ≡ Some x
 
     pub record IsKeptThere (x : KeptClaim) : Type 0 where
       pub range : x.end_us < 2 ^ 32
       pub i : ℕ
       pub small : i < 5
-      pub keeps : claim_kept (line_at (settled clock lines) i).frame ≡ Some x
+      pub keeps : claim_kept within (line_at (settled clock lines) i).frame ≡ Some x
 
-    pub there_at : (i : ℕ) → i < 5 → (y : KeptClaim) → claim_kept (line_at (settled clock lines) i).frame ≡ Some y → IsKeptThere y
+    pub there_at : (i : ℕ) → i < 5 → (y : KeptClaim) → claim_kept within (line_at (settled clock lines) i).frame ≡ Some y → IsKeptThere y
     there_at i small y e = record {
-      range = ranged (IsEndAt (pulses_on i calls) (last_tick start calls) now) _ _ (after_calls new calls).rules (claim_kept (line_at lines i).frame) (pulses_on i calls) y ((lines_after new start begins calls now order).lines i small).kept (kept_by i small y e).0;
+      range = ranged (IsEndAt (pulses_on i calls) (last_tick start calls) now) _ _ (after_calls new calls).rules (claim_kept within (line_at lines i).frame) (pulses_on i calls) y ((lines_after new start begins calls now order).lines i small).kept (kept_by i small y e).0;
       i = i;
       small = small;
       keeps = e;
     }
 
-    all_there : EachKept IsKeptThere (all_kept (settled clock lines))
+    all_there : EachKept IsKeptThere (all_kept within (settled clock lines))
     all_there =
         one_more IsKeptThere _ _ (there_at 0 (omega arith))
         (one_more IsKeptThere _ _ (there_at 1 (omega arith))
@@ -319,46 +322,49 @@ module _ (new : Keeping) (start : ℕ) (begins : AreLinesAt new new (λ i. []) s
     pub record IsAgreedOn (v : Vote) : Type 0 where
       pub x : KeptClaim
       pub is : IsCandidateAt x
-      pub first : first_candidate window f (all_kept (settled clock lines)) (all_kept (settled clock lines)) None ≡ Some x
-      pub parts : IsVoteOf rules (all_kept (settled clock lines)) v x
+      pub first : first_candidate window f (all_kept within (settled clock lines)) (all_kept within (settled clock lines)) None ≡ Some x
+      pub parts : IsVoteOf rules (all_kept within (settled clock lines)) v x
 
     pub agreed_on : (v : Vote) → agreed rules (settled clock lines) ≡ Some v → IsAgreedOn v
     agreed_on v e =
-        let all = all_kept (settled clock lines) in
+        let all = all_kept within (settled clock lines) in
         let first = agreed_first rules (settled clock lines) v e in
         let one = is_one IsKeptThere window f all all first.0 all_there first.1 in
         record {
           x = first.0;
           is = record { counts = one.0; range = one.1.range; i = one.1.i; small = one.1.small; keeps = one.1.keeps };
           first = first.1;
-          parts = vote_of rules all v first.0 one.0 first.2;
+          parts = vote_of rules (settled clock lines) v first.0 one.0 first.2;
         }
 
     module _ (x : KeptClaim) (is : IsCandidateAt x) where
+      pub half : IsHalf within x
+      half = half_kept within (line_at (settled clock lines) is.i).frame x is.keeps
+
       abbrev pub agreeing : ℕ → Bool
-      agreeing i = agrees window x (claim_kept (line_at (settled clock lines) i).frame)
+      agreeing i = agrees x (claim_kept within (line_at (settled clock lines) i).frame)
 
       pub many : f_of new.clock.redundancy < count_by agreeing (range_with_len 0 5)
       many =
           let same : f ≡ f_of new.clock.redundancy = ap (λ (c : ClockRules). f_of c.redundancy) (lines_after new start begins calls now order).same.clock in
-          let counted = ltb-true f (count_by (agrees window x) (all_kept (settled clock lines))) is.counts in
+          let counted = ltb-true f (count_by (agrees x) (all_kept within (settled clock lines))) is.counts in
           omega (arith, counted, same)
 
       pub absent : (i : ℕ) → i < 5 → ports_in new.clock.redundancy ≤ i → agreeing i ≡ false
-      absent i small far = of (claim_kept (line_at (settled clock lines) i).frame) refl
+      absent i small far = of (claim_kept within (line_at (settled clock lines) i).frame) refl
         where
-          of : (o : Option KeptClaim) → claim_kept (line_at (settled clock lines) i).frame ≡ o → agrees window x o ≡ false
+          of : (o : Option KeptClaim) → claim_kept within (line_at (settled clock lines) i).frame ≡ o → agrees x o ≡ false
           of None e = refl
           of (Some y) e =
               let l = (lines_after new start begins calls now order).lines i small in
-              let none = kept_of_nothing (IsEndAt (pulses_on i calls) (last_tick start calls) now) _ _ (after_calls new calls).rules (claim_kept (line_at lines i).frame) (pulses_on i calls) (silent_line start new.clock.redundancy i far calls order.3) l.kept in
+              let none = kept_of_nothing (IsEndAt (pulses_on i calls) (last_tick start calls) now) _ _ (after_calls new calls).rules (claim_kept within (line_at lines i).frame) (pulses_on i calls) (silent_line start new.clock.redundancy i far calls order.3) l.kept in
               absurd (let both : None ≡ Some y = sym none ∙ (kept_by i small y e).0 in cc)
 
       -- a line that agrees keeps a frame that ended with it, or up to the window behind
       pub record IsAgreeing (i : ℕ) : Type 0 where
         pub y : KeptClaim
-        pub keeps : claim_kept (line_at lines i).frame ≡ Some y
-        pub settled_keeps : claim_kept (line_at (settled clock lines) i).frame ≡ Some y
+        pub keeps : claim_kept within (line_at lines i).frame ≡ Some y
+        pub settled_keeps : claim_kept within (line_at (settled clock lines) i).frame ≡ Some y
         pub same : same_claim x.claim y.claim ≡ true
         pub ends : y.end_us ≡ whole_of (pulses_on i calls) % 2 ^ 32
         pub near : clock_gap x.end_us (whole_of (pulses_on i calls) % 2 ^ 32) ≤ window
@@ -367,9 +373,9 @@ module _ (new : Keeping) (start : ℕ) (begins : AreLinesAt new new (λ i. []) s
         pub low : 10000 ≤ whole_of (pulses_on i calls)
 
       pub agreed_by : (i : ℕ) → i < 5 → agreeing i ≡ true → IsAgreeing i
-      agreed_by i small agree = of (claim_kept (line_at (settled clock lines) i).frame) refl agree
+      agreed_by i small agree = of (claim_kept within (line_at (settled clock lines) i).frame) refl agree
         where
-          of : (o : Option KeptClaim) → claim_kept (line_at (settled clock lines) i).frame ≡ o → agrees window x o ≡ true → IsAgreeing i
+          of : (o : Option KeptClaim) → claim_kept within (line_at (settled clock lines) i).frame ≡ o → agrees x o ≡ true → IsAgreeing i
           of None e agree = absurd cc
           of (Some y) e agree =
               let l = (lines_after new start begins calls now order).lines i small in
@@ -379,14 +385,15 @@ module _ (new : Keeping) (start : ℕ) (begins : AreLinesAt new new (λ i. []) s
               let ends : y.end_us ≡ whole_of (pulses_on i calls) % 2 ^ 32 = h.1 ∙ ap (λ (x : ℕ). x % 2 ^ 32) whole in
               let ahead : whole_of (pulses_on i calls) ≤ now + 14000 = omega (arith, whole, h.3.0) in
               let turn : now + 14000 < whole_of (pulses_on i calls) + 2 ^ 32 = omega (arith, whole, h.3.1, order.1) in
-              let both = split (same_claim x.claim y.claim) (nat_le (clock_gap x.end_us y.end_us) window) agree in
+              let range : y.end_us < 2 ^ 32 = omega (arith, ends) in
+              let both = ends_agree within x y (after_calls new calls).clock.within.few half (half_kept within (line_at (settled clock lines) i).frame y e) is.range range agree in
               record {
                 y = y;
                 keeps = keeps.0;
                 settled_keeps = e;
                 same = both.0;
                 ends = ends;
-                near = subst (λ (e : ℕ). clock_gap x.end_us e ≤ window) ends (leb-true (clock_gap x.end_us y.end_us) window both.1);
+                near = subst (λ (e : ℕ). clock_gap x.end_us e ≤ window) ends both.1;
                 ahead = ahead;
                 soon = not_late (whole_of (pulses_on i calls)) now ahead turn (subst (λ (e : ℕ). is_late e clock ≡ false) ends keeps.1);
                 low = omega (arith, whole, last_late h.0 (drop h.2.late (pulses_on i calls)) h.2.last);
@@ -445,7 +452,7 @@ module _ (new : Keeping) (start : ℕ) (begins : AreLinesAt new new (λ i. []) s
     end = ends_at calls now order on.x on.is
 
     lies : LiesBehind (window calls now order) v.edge_us end.0
-    lies = lies_behind (rules calls now order) (all_kept (settled (now % 2 ^ 32) (lines calls now order))) v on.x on.parts end.0 end.1.clock
+    lies = lies_behind (rules calls now order) (all_kept (within calls now order) (settled (now % 2 ^ 32) (lines calls now order))) v on.x on.parts (half calls now order on.x on.is) end.0 end.1.clock
 
     narrows : window calls now order ≤ 898
     narrows = narrow (rules calls now order)
@@ -468,7 +475,7 @@ module _ (new : Keeping) (start : ℕ) (begins : AreLinesAt new new (λ i. []) s
     -- a line that agrees ended within a window of the edge, at most 898 us wide
     record IsVoter (V i : ℕ) : Type 0 where
       y : KeptClaim
-      keeps : claim_kept (line_at (lines calls now order) i).frame ≡ Some y
+      keeps : claim_kept (within calls now order) (line_at (lines calls now order) i).frame ≡ Some y
       least : V ≤ whole_of (pulses_on i calls) + 898
       most : whole_of (pulses_on i calls) ≤ V + 898
 
@@ -493,10 +500,10 @@ module _ (new : Keeping) (start : ℕ) (begins : AreLinesAt new new (λ i. []) s
       let i : ℕ = one.0 in
       let first = voter earlier before ordered v voted V at i one.1 one.2 in
       let second = voter calls now order v' voted' V' at' i one.1 one.3 in
-      let gone : claim_kept (line_at (after_calls new base).state.lines i).frame ≡ None =
-      ap (λ (l : Lines). claim_kept (line_at l i).frame) (takes (after_calls new earlier) (before % 2 ^ 32) v voted)
-      ∙ ap (λ (l : Line). claim_kept l.frame) (sym (line_takes (settled (before % 2 ^ 32) (after_calls new earlier).state.lines) i one.1)) in
-      let far = (since new start begins i one.1 base gone later now order).later second.y second.keeps in
+      let gone : claim_kept (within calls now order) (line_at (after_calls new base).state.lines i).frame ≡ None =
+      ap (λ (l : Lines). claim_kept (within calls now order) (line_at l i).frame) (takes (after_calls new earlier) (before % 2 ^ 32) v voted)
+      ∙ ap (λ (l : Line). claim_kept (within calls now order) l.frame) (sym (line_takes (settled (before % 2 ^ 32) (after_calls new earlier).state.lines) i one.1)) in
+      let far = (since new start begins (within calls now order) i one.1 base gone later now order).later second.y second.keeps in
       omega (arith, first.least, second.most, far)
 
   -- ---- one edge and a later one

@@ -22,11 +22,11 @@ use Rattle.irig_vote.specs.Vote.{f_of}
 use Rattle.irig_lines.specs.Edges.{IsQuartz, IsTrueNear}
 use Rattle.irig_lines.specs.Lines.{IsLastBefore, IsFrameOf, IfKept, IsInTurnOf, HasJustCome}
 use Rattle.irig_lines.specs.Counting.{is_late, has_come}
-use Rattle.irig_lines.specs.Steps.{line_at, still_kept, settled, claim_told, claim_kept, all_kept, agrees, is_candidate, place_behind, ends_by, ends_from, agreed, if_come}
+use Rattle.irig_lines.specs.Steps.{line_at, still_kept, settled, claim_told, claim_kept, all_kept, first_us, last_us, agrees, is_candidate, place_behind, ends_by, ends_from, agreed, if_come}
 use Rattle.irig_timekeeper.specs.Truth.{AreHeardTruly, IsTrueVote}
-use Rattle.irig_lines.specs.Exactness.{window_us, end_off_us, vote_us, most_drift_us, most_vote_us}
-use Rattle.irig_lines.proofs.AgreeLaws.{one_agrees, kept_at, EachKept, is_one}
-use Rattle.irig_lines.proofs.PartLaws.{split, narrow, IsVoteOf, agreed_first, vote_of}
+use Rattle.irig_lines.specs.Exactness.{half_us, window_us, end_off_us, vote_us, most_drift_us, most_vote_us}
+use Rattle.irig_lines.proofs.AgreeLaws.{one_agrees, kept_at, is_one}
+use Rattle.irig_lines.proofs.PartLaws.{split, narrow, IsHalf, half_kept, each_half, IsVoteOf, agreed_first, vote_of}
 use Rattle.irig_lines.proofs.CountingLaws.{rises}
 
 -- ---- what a tick keeps
@@ -39,27 +39,27 @@ frame_settled now lines (suc (suc (suc zero))) low = refl
 frame_settled now lines (suc (suc (suc (suc zero)))) low = refl
 frame_settled now lines (suc (suc (suc (suc (suc i))))) low = absurd (omega (arith, low))
 
-end_of_claim : (told : Told) (end : ℕ) (y : KeptClaim) → claim_told told end ≡ Some y → end ≡ y.end_us
-end_of_claim (tells.Claim c) end y e = cc
-end_of_claim tells.Silence end y e = absurd cc
-end_of_claim (tells.Fault f) end y e = absurd cc
-end_of_claim (tells.Poor q) end y e = absurd cc
+end_of_claim : (told : Told) (end half : ℕ) (y : KeptClaim) → claim_told told end half ≡ Some y → end ≡ y.end_us
+end_of_claim (tells.Claim c) end half y e = cc
+end_of_claim tells.Silence end half y e = absurd cc
+end_of_claim (tells.Fault f) end half y e = absurd cc
+end_of_claim (tells.Poor q) end half y e = absurd cc
 
 -- a frame is even that has a claim
-pub claim_of_even : (x : KeptFrame) (y : KeptClaim) → claim_kept (Some x) ≡ Some y → (x.is_even ≡ true) × (claim_told x.told x.end_us ≡ Some y)
-claim_of_even x y e = of x.is_even e
+pub claim_of_even : (within : ℕ) (x : KeptFrame) (y : KeptClaim) → claim_kept within (Some x) ≡ Some y → (x.is_even ≡ true) × (claim_told x.told x.end_us (half_us within) ≡ Some y)
+claim_of_even within x y e = of x.is_even e
   where
-    of : (b : Bool) → cond b (claim_told x.told x.end_us) None ≡ Some y → (b ≡ true) × (claim_told x.told x.end_us ≡ Some y)
+    of : (b : Bool) → cond b (claim_told x.told x.end_us (half_us within)) None ≡ Some y → (b ≡ true) × (claim_told x.told x.end_us (half_us within) ≡ Some y)
     of true e = (refl, e)
     of false e = absurd cc
 
-pub still : (now : ℕ) (o : Option KeptFrame) (y : KeptClaim) → claim_kept (still_kept now o) ≡ Some y → (claim_kept o ≡ Some y) × (is_late y.end_us now ≡ false)
-still now None y e = absurd cc
-still now (Some x) y e = by (is_late x.end_us now) refl e
+pub still : (within : ℕ) (now : ℕ) (o : Option KeptFrame) (y : KeptClaim) → claim_kept within (still_kept now o) ≡ Some y → (claim_kept within o ≡ Some y) × (is_late y.end_us now ≡ false)
+still within now None y e = absurd cc
+still within now (Some x) y e = by (is_late x.end_us now) refl e
   where
-    by : (b : Bool) → is_late x.end_us now ≡ b → claim_kept (cond b None (Some x)) ≡ Some y → (claim_kept (Some x) ≡ Some y) × (is_late y.end_us now ≡ false)
+    by : (b : Bool) → is_late x.end_us now ≡ b → claim_kept within (cond b None (Some x)) ≡ Some y → (claim_kept within (Some x) ≡ Some y) × (is_late y.end_us now ≡ false)
     by true late e = absurd cc
-    by false in_time e = (e, subst (λ (end : ℕ). is_late end now ≡ false) (end_of_claim x.told x.end_us y (claim_of_even x y e).1) in_time)
+    by false in_time e = (e, subst (λ (end : ℕ). is_late end now ≡ false) (end_of_claim x.told x.end_us (half_us within) y (claim_of_even _ x y e).1) in_time)
 
 pub come : (now : ℕ) (o : Option Vote) (y : Vote) → if_come now o ≡ Some y → (o ≡ Some y) × (has_come y.edge_us now ≡ true)
 come now None y e = absurd cc
@@ -80,16 +80,16 @@ not_late end now order turn e =
 few_is : (g : ℕ) → g ≤ 100000 → nat_le g 100000 ≡ true
 few_is g h = grind (arith, h)
 
--- an end that lies so little before another is at this time
-exact_end : (e end gap : ℕ) → e < 2 ^ 32 → 10000 ≤ end → clock_gap e (end % 2 ^ 32) ≡ gap → gap ≤ 898 → e ≡ (end - gap) % 2 ^ 32
-exact_end e end gap range late is near = omega (arith, range, late, is, near)
+-- a time so far behind a first time is at this one
+exact_time : (time first e : ℕ) → time < 2 ^ 32 → e ≡ first % 2 ^ 32 → time ≡ (first + clock_gap e time) % 2 ^ 32
+exact_time time first e range at = omega (arith, range, at)
 
--- what ends by such a time behind this end, and from it on
+-- what ends by such a time behind this one, and begins so little before it
 ends_before : (e e' x y by : ℕ) → e ≡ x % 2 ^ 32 → e' ≡ y % 2 ^ 32 → x ≤ y + 200000 → y ≤ x + 200000 → by ≤ 898 → (clock_gap e e' + 1000) % 2 ^ 32 ≤ by + 1000 → y ≤ x + by
 ends_before e e' x y by p q near far few low = omega (arith, p, q, near, far, few, low)
 
-ends_behind : (e e' x y from : ℕ) → e ≡ x % 2 ^ 32 → e' ≡ y % 2 ^ 32 → x ≤ y + 200000 → y ≤ x + 200000 → from + 1000 ≤ (clock_gap e e' + 1000) % 2 ^ 32 → (clock_gap e e' + 1000) % 2 ^ 32 < 2 ^ 31 → x + from ≤ y
-ends_behind e e' x y from p q near far high low = omega (arith, p, q, near, far, high, low)
+begins_behind : (e e' x y before : ℕ) → e ≡ x % 2 ^ 32 → e' ≡ y % 2 ^ 32 → x ≤ y + 200000 → y ≤ x + 200000 → before ≤ 898 → 1000 ≤ (clock_gap e e' + 1000) % 2 ^ 32 + before → (clock_gap e e' + 1000) % 2 ^ 32 < 2 ^ 31 → x ≤ y + before
+begins_behind e e' x y before p q near far few high low = omega (arith, p, q, near, far, few, high, low)
 
 -- an edge by the clock has come
 edge_come : (edge now : ℕ) → edge ≤ now + 15000 → now ≤ edge + 101000 → clock_gap (edge % 2 ^ 32) (now % 2 ^ 32) ≤ 100000 → (edge ≤ now) × (now ≤ edge + 100000)
@@ -99,13 +99,6 @@ come_edge : (edge now : ℕ) → edge ≤ now → now ≤ edge + 100000 → cloc
 come_edge edge now come soon = omega (arith, come, soon)
 
 -- ---- the vote
-
-InRange : KeptClaim → Type 0
-InRange y = y.end_us < 2 ^ 32
-
-pub one_more : (Such : KeptClaim → Type 0) (o : Option KeptClaim) (xs : List (Option KeptClaim)) → ((y : KeptClaim) → o ≡ Some y → Such y) → EachKept Such xs → EachKept Such (o ∷ xs)
-one_more Such None xs such each = each
-one_more Such (Some y) xs such each = (such y refl, each)
 
 pub last_late : (end : ℕ) (ps : List Pulse) → IsLastBefore end ps → 10000 ≤ end
 last_late end [] last = absurd last
@@ -153,26 +146,7 @@ module _ (IsTrue : List Pulse → Type 0) (rules : Rules) (t : TimelineValue) (c
   off = end_off_us c.within.us d
 
   abbrev all : List (Option KeptClaim)
-  all = all_kept (settled clock lines)
-
-  kept_range : (o : Option KeptClaim) (ps : List Pulse) (y : KeptClaim) → IfKept (IsInTurnOf now) c.within.us c.drift_us rules o ps → o ≡ Some y → InRange y
-  unfolding InRange
-  kept_range None ps y turn e = absurd cc
-  kept_range (Some x) ps y turn e =
-      let same : x ≡ y = cc in
-      let low : x.end_us < 2 ^ 32 = omega (arith, turn.1) in
-      subst (λ (v : KeptClaim). v.end_us < 2 ^ 32) same low
-
-  in_range : (i : ℕ) → i < 5 → (y : KeptClaim) → claim_kept (still_kept clock (line_at lines i).frame) ≡ Some y → InRange y
-  in_range i low y e = kept_range (claim_kept (line_at lines i).frame) (pulses i) y (h.kept i low) (still clock (line_at lines i).frame y e).0
-
-  each : EachKept InRange all
-  each =
-      one_more InRange _ _ (in_range 0 (omega arith))
-      (one_more InRange _ _ (in_range 1 (omega arith))
-      (one_more InRange _ _ (in_range 2 (omega arith))
-      (one_more InRange _ _ (in_range 3 (omega arith))
-      (one_more InRange _ _ (in_range 4 (omega arith)) tt))))
+  all = all_kept c.within.us (settled clock lines)
 
   -- a frame of a true line that is such
   record IsTrueKept (is_such : Option KeptClaim → Bool) : Type 0 where
@@ -180,7 +154,7 @@ module _ (IsTrue : List Pulse → Type 0) (rules : Rules) (t : TimelineValue) (c
     low : i < 5
     right : h.untrue i ≡ false
     y : KeptClaim
-    keeps : claim_kept (line_at lines i).frame ≡ Some y
+    keeps : claim_kept c.within.us (line_at lines i).frame ≡ Some y
     end : ℕ
     at : y.end_us ≡ end % 2 ^ 32
     frame : IsFrameOf c.within.us c.drift_us rules y.claim end (pulses i)
@@ -189,7 +163,7 @@ module _ (IsTrue : List Pulse → Type 0) (rules : Rules) (t : TimelineValue) (c
     soon : now ≤ end + 100000
     some : 10000 ≤ end
 
-  kept_true : (is_such : Option KeptClaim → Bool) (i : ℕ) → i < 5 → h.untrue i ≡ false → (y : KeptClaim) → claim_kept (line_at lines i).frame ≡ Some y → is_late y.end_us clock ≡ false → is_such (Some y) ≡ true
+  kept_true : (is_such : Option KeptClaim → Bool) (i : ℕ) → i < 5 → h.untrue i ≡ false → (y : KeptClaim) → claim_kept c.within.us (line_at lines i).frame ≡ Some y → is_late y.end_us clock ≡ false → is_such (Some y) ≡ true
       → IfKept (IsInTurnOf now) c.within.us c.drift_us rules (Some y) (pulses i) → IsTrueKept is_such
   kept_true is_such i low right y keeps in_time is turn = record {
     i = i;
@@ -210,7 +184,7 @@ module _ (IsTrue : List Pulse → Type 0) (rules : Rules) (t : TimelineValue) (c
   one_true is_such none many =
       let found = one_agrees h.untrue is_such none 0 all (omega (arith, many, h.few)) in
       let low : found.i < 5 = found.low in
-      let keeps = still clock (line_at lines found.i).frame found.y (ap claim_kept (sym (frame_settled clock lines found.i low)) ∙ kept_at (settled clock lines) found.i found.y found.keeps) in
+      let keeps = still _ clock (line_at lines found.i).frame found.y (ap (claim_kept c.within.us) (sym (frame_settled clock lines found.i low)) ∙ kept_at c.within.us (settled clock lines) found.i found.y found.keeps) in
       let at : 0 + found.i ≡ found.i = omega arith in
       kept_true is_such found.i low (subst (λ (j : ℕ). h.untrue j ≡ false) at found.true_line) found.y keeps.0 keeps.1 found.same
       (subst (λ (o : Option KeptClaim). IfKept (IsInTurnOf now) c.within.us c.drift_us rules o (pulses found.i)) keeps.0 (h.kept found.i low))
@@ -218,76 +192,107 @@ module _ (IsTrue : List Pulse → Type 0) (rules : Rules) (t : TimelineValue) (c
   near_edge : (is_such : Option KeptClaim → Bool) (k : IsTrueKept is_such) → IsTrueNear t edges (early + off) (late + off) k.end k.y.claim
   near_edge is_such k = tells_truly k.end (pulses k.i) k.y.claim (h.true_lines k.i k.low k.right) k.frame k.soon
 
-  -- a candidate, and where it ends
-  module _ (x : KeptClaim) (counts : is_candidate (window_us c.within.us) (f_of c.redundancy) x all ≡ true) (range : InRange x) where
-    one : IsTrueKept (agrees (window_us c.within.us) x)
-    one = one_true (agrees (window_us c.within.us) x) refl (ltb-true (f_of c.redundancy) (count_by (agrees (window_us c.within.us) x) all) counts)
+  -- so exact are all
+  half : ℕ
+  half = half_us c.within.us
+
+  half_few : half ≤ 449
+  unfolding half
+  half_few = omega (arith, c.within.few)
+
+  is_half : (is_such : Option KeptClaim → Bool) (k : IsTrueKept is_such) → k.y.half_us ≡ half
+  unfolding half
+  is_half is_such k = half_kept c.within.us (line_at lines k.i).frame k.y k.keeps
+
+  -- its last time, and its first one
+  last_at : (is_such : Option KeptClaim → Bool) (k : IsTrueKept is_such) → last_us k.y ≡ (k.end + half) % 2 ^ 32
+  last_at is_such k = of k.y.end_us k.y.half_us k.at (is_half is_such k)
+    where
+      of : (e h : ℕ) → e ≡ k.end % 2 ^ 32 → h ≡ half → (e + h) % 2 ^ 32 ≡ (k.end + half) % 2 ^ 32
+      of e h at is = omega (arith, at, is)
+
+  first_at : (is_such : Option KeptClaim → Bool) (k : IsTrueKept is_such) → first_us k.y ≡ (k.end - half) % 2 ^ 32
+  first_at is_such k = of k.y.end_us k.y.half_us k.at (is_half is_such k)
+    where
+      of : (e h : ℕ) → e ≡ k.end % 2 ^ 32 → h ≡ half → (e + 2 ^ 32 - h) % 2 ^ 32 ≡ (k.end - half) % 2 ^ 32
+      of e h at is = omega (arith, at, is, half_few, k.some)
+
+  -- a candidate, and its last time
+  module _ (x : KeptClaim) (counts : is_candidate (f_of c.redundancy) x all ≡ true) where
+    one : IsTrueKept (agrees x)
+    one = one_true (agrees x) refl (ltb-true (f_of c.redundancy) (count_by (agrees x) all) counts)
 
     gap : ℕ
-    gap = clock_gap x.end_us one.y.end_us
+    gap = clock_gap (first_us one.y) (last_us x)
 
-    near : gap ≤ 898
+    near : gap ≤ 2 * half
     unfolding gap
     near =
-        let parts = split (same_claim x.claim one.y.claim) (nat_le (clock_gap x.end_us one.y.end_us) (window_us c.within.us)) one.is in
-        let low = leb-true (clock_gap x.end_us one.y.end_us) (window_us c.within.us) parts.1 in
-        omega (arith, low, narrow c)
+        let parts = split (same_claim x.claim one.y.claim) (nat_le (clock_gap (first_us one.y) (last_us x)) (2 * one.y.half_us)) one.is in
+        let low = leb-true (clock_gap (first_us one.y) (last_us x)) (2 * one.y.half_us) parts.1 in
+        omega (arith, low, is_half (agrees x) one)
 
-    end : ℕ
-    end = one.end - gap
+    time : ℕ
+    time = one.end - half + gap
 
-    at_end : x.end_us ≡ end % 2 ^ 32
-    unfolding InRange gap end
-    at_end = exact_end x.end_us one.end (clock_gap x.end_us one.y.end_us) range one.some (ap (clock_gap x.end_us) (sym one.at)) near
+    at_time : last_us x ≡ time % 2 ^ 32
+    unfolding gap time
+    at_time = exact_time (last_us x) (one.end - half) (first_us one.y) (omega arith) (first_at (agrees x) one)
 
-    ahead : end ≤ now + 14000
-    unfolding end
-    ahead = omega (arith, one.ahead)
+    ahead : time ≤ now + 14449
+    unfolding time
+    ahead = omega (arith, one.ahead, near, half_few, one.some)
 
-    soon : now ≤ end + 100898
-    unfolding end
-    soon = omega (arith, one.soon, near, one.some)
+    soon : now ≤ time + 100449
+    unfolding time
+    soon = omega (arith, one.soon, half_few, one.some)
+
+    late_enough : 9000 ≤ time
+    unfolding time
+    late_enough = omega (arith, one.some, half_few)
 
     module _ (v : Vote) (of : IsVoteOf c all v x) where
-      by_then : IsTrueKept (ends_by x of.by)
-      by_then = one_true (ends_by x of.by) refl of.many_by
+      by_then : IsTrueKept (ends_by x of.behind)
+      by_then = one_true (ends_by x of.behind) refl of.many_by
 
-      from_then : IsTrueKept (ends_from x of.from)
-      from_then = one_true (ends_from x of.from) refl of.many_from
+      from_then : IsTrueKept (ends_from x of.before)
+      from_then = one_true (ends_from x of.before) refl of.many_from
 
-      by_split : (same_claim x.claim by_then.y.claim ≡ true) × (nat_le (place_behind x by_then.y) (of.by + 1000) ≡ true)
-      by_split = split (same_claim x.claim by_then.y.claim) (nat_le (place_behind x by_then.y) (of.by + 1000)) by_then.is
+      by_split : (same_claim x.claim by_then.y.claim ≡ true) × (nat_le (place_behind x (last_us by_then.y)) (of.behind + 1000) ≡ true)
+      by_split = split (same_claim x.claim by_then.y.claim) (nat_le (place_behind x (last_us by_then.y)) (of.behind + 1000)) by_then.is
 
-      before : by_then.end ≤ end + of.by
+      before : by_then.end + half ≤ time + of.behind
       before =
-          ends_before x.end_us by_then.y.end_us end by_then.end of.by at_end by_then.at (omega (arith, ahead, by_then.soon)) (omega (arith, soon, by_then.ahead)) (omega (arith, of.by_most, narrow c))
-          (leb-true (place_behind x by_then.y) (of.by + 1000) by_split.1)
+          ends_before (last_us x) (last_us by_then.y) time (by_then.end + half) of.behind at_time (last_at (ends_by x of.behind) by_then) (omega (arith, ahead, by_then.soon)) (omega (arith, soon, by_then.ahead, half_few)) (omega (arith, of.behind_most, narrow c))
+          (leb-true (place_behind x (last_us by_then.y)) (of.behind + 1000) by_split.1)
 
-      from_split : (nat_le (of.from + 1000) (place_behind x from_then.y) ≡ true) × (nat_lt (place_behind x from_then.y) (2 ^ 31) ≡ true)
+      from_split : (nat_le 1000 (place_behind x (first_us from_then.y) + of.before) ≡ true) × (nat_lt (place_behind x (first_us from_then.y)) (2 ^ 31) ≡ true)
       from_split =
-          split (nat_le (of.from + 1000) (place_behind x from_then.y)) (nat_lt (place_behind x from_then.y) (2 ^ 31))
-          (split (same_claim x.claim from_then.y.claim) (nat_le (of.from + 1000) (place_behind x from_then.y) && nat_lt (place_behind x from_then.y) (2 ^ 31)) from_then.is).1
+          split (nat_le 1000 (place_behind x (first_us from_then.y) + of.before)) (nat_lt (place_behind x (first_us from_then.y)) (2 ^ 31))
+          (split (same_claim x.claim from_then.y.claim) (nat_le 1000 (place_behind x (first_us from_then.y) + of.before) && nat_lt (place_behind x (first_us from_then.y)) (2 ^ 31)) from_then.is).1
 
-      behind : end + of.from ≤ from_then.end
+      behind : time + half ≤ from_then.end + of.before
       behind =
-          ends_behind x.end_us from_then.y.end_us end from_then.end of.from at_end from_then.at (omega (arith, ahead, from_then.soon)) (omega (arith, soon, from_then.ahead))
-          (leb-true (of.from + 1000) (place_behind x from_then.y) from_split.0) (ltb-true (place_behind x from_then.y) (2 ^ 31) from_split.1)
+          let low =
+          begins_behind (last_us x) (first_us from_then.y) time (from_then.end - half) of.before at_time (first_at (ends_from x of.before) from_then) (omega (arith, ahead, from_then.soon, from_then.some, half_few)) (omega (arith, soon, from_then.ahead)) (omega (arith, of.before_most, narrow c))
+          (leb-true 1000 (place_behind x (first_us from_then.y) + of.before) from_split.0) (ltb-true (place_behind x (first_us from_then.y)) (2 ^ 31) from_split.1) in
+          omega (arith, low, from_then.some, half_few)
 
       edge : ℕ
-      edge = end + (of.from + of.by) / 2
+      edge = time - of.before + (of.before + of.behind) / 2
 
       at_edge : v.edge_us ≡ edge % 2 ^ 32
       unfolding edge
-      at_edge = ap (λ (v : Vote). v.edge_us) of.is ∙ wraps x.end_us end ((of.from + of.by) / 2) at_end
+      at_edge = ap (λ (v : Vote). v.edge_us) of.is ∙ wraps (last_us x) time of.before ((of.before + of.behind) / 2) at_time late_enough (omega (arith, of.before_most, narrow c))
         where
-          wraps : (e end more : ℕ) → e ≡ end % 2 ^ 32 → (e + more) % 2 ^ 32 ≡ (end + more) % 2 ^ 32
-          wraps e end more is = omega (arith, is)
+          wraps : (e time less more : ℕ) → e ≡ time % 2 ^ 32 → 9000 ≤ time → less ≤ 898 → (e + 2 ^ 32 - less + more) % 2 ^ 32 ≡ (time - less + more) % 2 ^ 32
+          wraps e time less more is late few = omega (arith, is, late, few)
 
-      bound_is : v.bound_us ≡ end_off_us c.within.us c.drift_us + (of.by - of.from + 1) / 2
+      bound_is : v.bound_us ≡ element_drift c.drift_us + (of.before + of.behind + 1) / 2
       bound_is = ap (λ (v : Vote). v.bound_us) of.is
 
       far : ℕ
-      far = off + (of.by - of.from + 1) / 2
+      far = element_drift d + (of.before + of.behind + 1) / 2
 
       told : far + element_drift c.drift_us ≡ v.bound_us + element_drift d
       unfolding far
@@ -295,13 +300,17 @@ module _ (IsTrue : List Pulse → Type 0) (rules : Rules) (t : TimelineValue) (c
 
       few : far ≤ vote_us c.within.us d
       unfolding far
-      few = omega (arith, of.by_most, c.within.some)
+      few = omega (arith, of.before_most, of.behind_most, c.within.some)
 
       by_near : IsTrueNear t edges (early + off) (late + off) by_then.end by_then.y.claim
-      by_near = near_edge (ends_by x of.by) by_then
+      by_near = near_edge (ends_by x of.behind) by_then
 
       from_near : IsTrueNear t edges (early + off) (late + off) from_then.end from_then.y.claim
-      from_near = near_edge (ends_from x of.from) from_then
+      from_near = near_edge (ends_from x of.before) from_then
+
+      off_is : off ≡ half + element_drift d
+      unfolding half
+      off_is = omega arith
 
       off_few : off ≤ 450
       off_few = omega (arith, c.within.few, quartz.few)
@@ -316,25 +325,25 @@ module _ (IsTrue : List Pulse → Type 0) (rules : Rules) (t : TimelineValue) (c
 
       least : edges (by_near.second + 1) ≤ edge + (early + far)
       unfolding edge far
-      least = omega (arith, by_near.near.least, before)
+      least = omega (arith, by_near.near.least, before, off_is, late_enough, of.before_most, narrow c)
 
       most : edge ≤ edges (by_near.second + 1) + (late + far)
       unfolding edge far
       most =
           let same : edges (from_near.second + 1) ≡ edges (by_near.second + 1) = ap (λ (s : ℕ). edges (s + 1)) one_edge in
-          omega (arith, from_near.near.most, same, behind)
+          omega (arith, from_near.near.most, same, behind, off_is, late_enough, of.before_most, narrow c)
 
       claims : v.claim ≡ by_then.y.claim
       claims = ap (λ (v : Vote). v.claim) of.is ∙ same_is x.claim by_then.y.claim by_split.0
 
       small : c.drift_us ≤ most_drift_us → v.bound_us ≤ most_vote_us
-      small slow = omega (arith, bound_is, of.by_most, c.within.few, slow)
+      small slow = omega (arith, bound_is, of.before_most, of.behind_most, c.within.few, slow)
 
       there : has_come v.edge_us clock ≡ true → (edge ≤ now) × (now ≤ edge + 100000)
       unfolding edge
       there come =
           let few : clock_gap (edge % 2 ^ 32) (now % 2 ^ 32) ≤ 100000 = subst (λ (e : ℕ). clock_gap e clock ≤ 100000) at_edge (leb-true (clock_gap v.edge_us clock) 100000 come) in
-          edge_come edge now (omega (arith, ahead, of.from_most, of.by_most, narrow c)) (omega (arith, soon)) few
+          edge_come edge now (omega (arith, ahead, of.before_most, of.behind_most, narrow c, late_enough)) (omega (arith, soon, of.before_most, narrow c, late_enough)) few
 
       near_vote : has_come v.edge_us clock ≡ true → IsVoteNear c.within.us c.drift_us d t edges early late now v
       near_vote come = record {
@@ -356,7 +365,7 @@ module _ (IsTrue : List Pulse → Type 0) (rules : Rules) (t : TimelineValue) (c
   abbrev pub AreReady : Type 0
   AreReady =
       (i : ℕ) → i < 5 → h.untrue i ≡ false → (y : KeptClaim) (end : ℕ) → y.end_us ≡ end % 2 ^ 32 → IsFrameOf c.within.us c.drift_us rules y.claim end (pulses i) → end ≤ now + 14000 → now ≤ end + 100000
-      → claim_kept (line_at lines i).frame ≡ Some y → HasJustCome c.within.us now end
+      → claim_kept c.within.us (line_at lines i).frame ≡ Some y → HasJustCome c.within.us now end
 
   ready_of : AreReady → (is_such : Option KeptClaim → Bool) (k : IsTrueKept is_such) → HasJustCome c.within.us now k.end
   ready_of ready is_such k = ready k.i k.low k.right k.y k.end k.at k.frame k.ahead k.soon k.keeps
@@ -364,27 +373,26 @@ module _ (IsTrue : List Pulse → Type 0) (rules : Rules) (t : TimelineValue) (c
   -- the parts of what is agreed
   record IsAgreedBy (v : Vote) : Type 0 where
     x : KeptClaim
-    counts : is_candidate (window_us c.within.us) (f_of c.redundancy) x all ≡ true
-    range : InRange x
+    counts : is_candidate (f_of c.redundancy) x all ≡ true
     of : IsVoteOf c all v x
 
   parts_of : (v : Vote) → agreed c (settled clock lines) ≡ Some v → IsAgreedBy v
   parts_of v e =
       let first = agreed_first c (settled clock lines) v e in
-      let one = is_one InRange (window_us c.within.us) (f_of c.redundancy) all all first.0 each first.1 in
-      record { x = first.0; counts = one.0; range = one.1; of = vote_of c all v first.0 one.0 first.2 }
+      let one = is_one (IsHalf c.within.us) (window_us c.within.us) (f_of c.redundancy) all all first.0 (each_half c.within.us (settled clock lines)) first.1 in
+      record { x = first.0; counts = one.0; of = vote_of c (settled clock lines) v first.0 one.0 first.2 }
 
   pub vote_is_near : (v : Vote) → if_come clock (agreed c (settled clock lines)) ≡ Some v → IsVoteNear c.within.us c.drift_us d t edges early late now v
   vote_is_near v e =
       let there = come clock (agreed c (settled clock lines)) v e in
       let p = parts_of v there.0 in
-      near_vote p.x p.counts p.range v p.of there.1
+      near_vote p.x p.counts v p.of there.1
 
   -- its bound is small if the setup's drift is
   vote_is_small : c.drift_us ≤ most_drift_us → (v : Vote) → if_come clock (agreed c (settled clock lines)) ≡ Some v → v.bound_us ≤ most_vote_us
   vote_is_small slow v e =
       let p = parts_of v (come clock (agreed c (settled clock lines)) v e).0 in
-      small p.x p.counts p.range v p.of slow
+      small p.x p.counts v p.of slow
 
   -- ---- a vote comes
 
@@ -395,14 +403,15 @@ module _ (IsTrue : List Pulse → Type 0) (rules : Rules) (t : TimelineValue) (c
       subst (λ (z : Vote). if_come time (Some z) ≡ Some v) (sym same) (rw there refl)
 
   there_by : AreReady → (v : Vote) (p : IsAgreedBy v) → has_come v.edge_us clock ≡ true
-  unfolding edge
+  unfolding edge half
   there_by ready v p =
-      let b = ready_of ready (ends_by p.x p.of.by) (by_then p.x p.counts p.range v p.of) in
-      let l = ready_of ready (ends_from p.x p.of.from) (from_then p.x p.counts p.range v p.of) in
-      let low = before p.x p.counts p.range v p.of in
-      let high = behind p.x p.counts p.range v p.of in
-      few_is (clock_gap v.edge_us clock) (subst (λ (e : ℕ). clock_gap e clock ≤ 100000) (sym (at_edge p.x p.counts p.range v p.of))
-      (come_edge (edge p.x p.counts p.range v p.of) now (omega (arith, l.0, high, p.of.by_most, c.within.some)) (omega (arith, b.1, low, p.of.by_most, narrow c))))
+      let b = ready_of ready (ends_by p.x p.of.behind) (by_then p.x p.counts v p.of) in
+      let l = ready_of ready (ends_from p.x p.of.before) (from_then p.x p.counts v p.of) in
+      let low = before p.x p.counts v p.of in
+      let high = behind p.x p.counts v p.of in
+      let enough = late_enough p.x p.counts in
+      few_is (clock_gap v.edge_us clock) (subst (λ (e : ℕ). clock_gap e clock ≤ 100000) (sym (at_edge p.x p.counts v p.of))
+      (come_edge (edge p.x p.counts v p.of) now (omega (arith, l.0, high, enough, p.of.before_most, p.of.behind_most, c.within.some, c.within.few)) (omega (arith, b.1, low, enough, p.of.before_most, p.of.behind_most, narrow c))))
 
   pub vote_comes : AreReady → (v : Vote) → agreed c (settled clock lines) ≡ Some v → if_come clock (agreed c (settled clock lines)) ≡ Some v
   vote_comes ready v e = come_is v clock (there_by ready v (parts_of v e)) (agreed c (settled clock lines)) e

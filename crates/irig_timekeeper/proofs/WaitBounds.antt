@@ -1,6 +1,6 @@
 -- How long a device waits at most, in a life in order.
 use Rattle.std.specs.Prelude.{nat_lt}
-use Rattle.std.proofs.Common.{◌≡◌, ◌∷◌, ◌++◌, [], ◌+◌, ◌/◌, ◌%◌, ◌^◌, ◌<◌, ◌≤◌, ℕ, Bool, true, false, cond, List, Option, Some, None, refl, sym, ap, subst, arith, append-nil}
+use Rattle.std.proofs.Common.{◌≡◌, ◌∙◌, ◌∷◌, ◌++◌, [], ◌+◌, ◌/◌, ◌%◌, ◌^◌, ◌<◌, ◌≤◌, ℕ, Bool, true, false, cond, List, Option, Some, None, refl, sym, ap, subst, arith, append-nil, ◌-◌}
 use Rattle.std.proofs.lemmas.Bool.{ltb-false, ltb-true}
 use Rattle.irig_sync.specs.Lines.{Pulse}
 use Rattle.irig_sync.specs.Sync.{clock_gap}
@@ -10,7 +10,7 @@ use Rattle.irig_lines.specs.declared.lines.KeptClaim.{KeptClaim}
 use Rattle.irig_lines.specs.declared.lines.Lines.{Lines}
 use Rattle.irig_lines.specs.declared.lines.Vote.{Vote}
 use Rattle.irig_lines.specs.declared.setup.ClockRules.{ClockRules}
-use Rattle.irig_lines.specs.Exactness.{window_us}
+use Rattle.irig_lines.specs.Exactness.{half_us, window_us}
 use Rattle.irig_lines.specs.Counting.{is_late}
 use Rattle.irig_timekeeper.specs.Keeping.{Keeping, wait_at}
 use Rattle.irig_timekeeper.specs.Life.{Call, Made, AreInOrder, after_calls, device_of, last_tick, life_of, pulses_on}
@@ -19,10 +19,10 @@ use Rattle.irig_lines.specs.Lines.{IfKept}
 use Rattle.irig_lines.specs.Steps.{agreed, all_kept, claim_kept, line_at, settled, still_kept, until, wait_by}
 use Rattle.irig_timekeeper.specs.Truth.{IfEdgeAt}
 use Rattle.irig_lines.proofs.AgreeLaws.{EachKept, is_one}
-use Rattle.irig_lines.proofs.PartLaws.{agreed_first, vote_of, narrow}
+use Rattle.irig_lines.proofs.PartLaws.{half_kept, one_more, agreed_first, vote_of, narrow}
 use Rattle.irig_timekeeper.proofs.LifeLaws.{AreLinesAt, begins, lines_after}
 use Rattle.irig_timekeeper.proofs.OrderLaws.{IsPaced, paced_on}
-use Rattle.irig_timekeeper.proofs.VoteLaws.{one_more, still}
+use Rattle.irig_timekeeper.proofs.VoteLaws.{still}
 
 -- ---- the last edge, in a life
 
@@ -48,8 +48,8 @@ edge_in_life made start calls order = of (life_of made calls).state.edge_us pace
 
 -- ---- the frame that makes a vote is not late
 
-IsTimely : ℕ → KeptClaim → Type 0
-IsTimely clock y = (is_late y.end_us clock ≡ false) × (y.end_us < 2 ^ 32)
+IsTimely : (within clock : ℕ) → KeptClaim → Type 0
+IsTimely within clock y = (is_late y.end_us clock ≡ false) × (y.end_us < 2 ^ 32) × (y.half_us ≡ half_us within)
 
 of_clock : (EndsSo : ℕ → Type 0) (within d : ℕ) (rules : Rules) (kept : Option KeptClaim) (pulses : List Pulse) (y : KeptClaim) → IfKept EndsSo within d rules kept pulses → kept ≡ Some y → y.end_us < 2 ^ 32
 of_clock EndsSo within d rules None pulses y h e = absurd cc
@@ -90,28 +90,33 @@ module _ (made : Made) (start now : ℕ) (calls : List Call) (order : AreInOrder
   abbrev lines : Lines
   lines = settled (now % 2 ^ 32) (life_of made calls).state.lines
 
-  timely : (i : ℕ) → i < 5 → (y : KeptClaim) → claim_kept (still_kept (now % 2 ^ 32) (line_at (life_of made calls).state.lines i).frame) ≡ Some y → IsTimely (now % 2 ^ 32) y
+  timely : (i : ℕ) → i < 5 → (y : KeptClaim) → claim_kept (life_of made calls).clock.within.us (still_kept (now % 2 ^ 32) (line_at (life_of made calls).state.lines i).frame) ≡ Some y → IsTimely (life_of made calls).clock.within.us (now % 2 ^ 32) y
   unfolding IsTimely
   timely i low y e =
       let l = lines_after (device_of made) start (begins made.limits made.rules made.clock made.table made.lines start made.fresh) calls now order in
-      let kept = still (now % 2 ^ 32) (line_at (life_of made calls).state.lines i).frame y e in
-      (kept.1, of_clock _ _ _ _ _ (pulses_on i calls) y (l.lines i low).kept kept.0)
+      let kept = still _ (now % 2 ^ 32) (line_at (life_of made calls).state.lines i).frame y e in
+      (kept.1, of_clock _ _ _ _ _ (pulses_on i calls) y (l.lines i low).kept kept.0, half_kept (life_of made calls).clock.within.us (line_at (life_of made calls).state.lines i).frame y kept.0)
 
-  each_timely : EachKept (IsTimely (now % 2 ^ 32)) (all_kept lines)
-  each_timely = one_more (IsTimely (now % 2 ^ 32)) _ _ (timely 0 (omega arith))
-      (one_more (IsTimely (now % 2 ^ 32)) _ _ (timely 1 (omega arith))
-      (one_more (IsTimely (now % 2 ^ 32)) _ _ (timely 2 (omega arith))
-      (one_more (IsTimely (now % 2 ^ 32)) _ _ (timely 3 (omega arith))
-      (one_more (IsTimely (now % 2 ^ 32)) _ _ (timely 4 (omega arith)) tt))))
+  each_timely : EachKept (IsTimely (life_of made calls).clock.within.us (now % 2 ^ 32)) (all_kept c.within.us lines)
+  each_timely = one_more (IsTimely (life_of made calls).clock.within.us (now % 2 ^ 32)) _ _ (timely 0 (omega arith))
+      (one_more (IsTimely (life_of made calls).clock.within.us (now % 2 ^ 32)) _ _ (timely 1 (omega arith))
+      (one_more (IsTimely (life_of made calls).clock.within.us (now % 2 ^ 32)) _ _ (timely 2 (omega arith))
+      (one_more (IsTimely (life_of made calls).clock.within.us (now % 2 ^ 32)) _ _ (timely 3 (omega arith))
+      (one_more (IsTimely (life_of made calls).clock.within.us (now % 2 ^ 32)) _ _ (timely 4 (omega arith)) tt))))
 
   by_vote : (v : Vote) → agreed c lines ≡ Some v → until (now % 2 ^ 32) v.edge_us ≤ 1005000
   unfolding IsTimely
   by_vote v e =
       let first = agreed_first c lines v e in
-      let one = is_one (IsTimely (now % 2 ^ 32)) (window_us c.within.us) (f_of c.redundancy) (all_kept lines) (all_kept lines) first.0 each_timely first.1 in
-      let p = vote_of c (all_kept lines) v first.0 one.0 first.2 in
-      let near = until_vote v.edge_us first.0.end_us ((p.from + p.by) / 2) now one.1.0 one.1.1 (omega (arith, p.from_most, p.by_most, narrow c)) (ap (λ (x : Vote). x.edge_us) p.is) in
+      let one = is_one (IsTimely (life_of made calls).clock.within.us (now % 2 ^ 32)) (window_us c.within.us) (f_of c.redundancy) (all_kept c.within.us lines) (all_kept c.within.us lines) first.0 each_timely first.1 in
+      let p = vote_of c lines v first.0 one.0 first.2 in
+      let behind : ℕ = half_us c.within.us + (p.before + p.behind) / 2 - p.before in
+      let few : behind ≤ 898 = omega (arith, p.before_most, p.behind_most, narrow c) in
+      let near = until_vote v.edge_us first.0.end_us behind now one.1.0 one.1.1 few (ap (λ (x : Vote). x.edge_us) p.is ∙ wraps first.0.end_us first.0.half_us p.before p.behind one.1.2 p.before_most) in
       omega (arith, near)
+    where
+      wraps : (end half before behind : ℕ) → half ≡ half_us c.within.us → before ≤ window_us c.within.us → ((end + half) % 2 ^ 32 + 2 ^ 32 - before + (before + behind) / 2) % 2 ^ 32 ≡ (end + (half_us c.within.us + (before + behind) / 2 - before)) % 2 ^ 32
+      wraps end half before behind is low = omega (arith, is, low, c.within.few)
 
   of : (o : Option ℕ) → IfEdgeAt o (last_tick start calls) → (v : Option Vote) → agreed c lines ≡ v → wait_by (now % 2 ^ 32) o v ≤ 1005000
   of o at (Some v) e = by_vote v e

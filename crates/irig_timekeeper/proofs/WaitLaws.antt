@@ -10,7 +10,8 @@ use Rattle.irig_lines.specs.declared.lines.Vote.{Vote}
 use Rattle.irig_lines.specs.declared.setup.ClockRules.{ClockRules}
 use Rattle.irig_lines.specs.Exactness.{window_us}
 use Rattle.irig_lines.specs.Counting.{edges_own}
-use Rattle.irig_lines.specs.Steps.{line_at, claim_kept, all_kept, is_candidate, earlier, first_candidate, ended_by, ending_from, vote_between, vote_with, agreed, wait_by}
+use Rattle.irig_lines.specs.Steps.{line_at, claim_kept, all_kept, last_us, is_candidate, earlier, first_candidate, vote_with, agreed, wait_by}
+use Rattle.irig_lines.proofs.PartLaws.{vote_by}
 use Rattle.irig_timekeeper.specs.Truth.{IsEdgeAt}
 
 -- ---- waiting
@@ -87,7 +88,7 @@ module _ (window f : ℕ) (all : List (Option KeptClaim)) where
   earlier_there : (so_far : Option KeptClaim) (x : KeptClaim) → IsThere (earlier window so_far x)
   unfolding IsThere
   earlier_there None x = (x, refl)
-  earlier_there (Some y) x = of (nat_le (clock_gap y.end_us x.end_us) window)
+  earlier_there (Some y) x = of (nat_le (clock_gap (last_us y) (last_us x)) window)
     where
       of : (b : Bool) → (z : KeptClaim) × (cond b (Some y) (Some x) ≡ Some z)
       of true = (y, refl)
@@ -97,49 +98,49 @@ module _ (window f : ℕ) (all : List (Option KeptClaim)) where
   stays_there : (xs : List (Option KeptClaim)) (so_far : Option KeptClaim) → IsThere so_far → IsThere (first_candidate window f all xs so_far)
   stays_there [] so_far h = h
   stays_there (None ∷ xs) so_far h = stays_there xs so_far h
-  stays_there (Some x ∷ xs) so_far h = stays_there xs _ (of (is_candidate window f x all))
+  stays_there (Some x ∷ xs) so_far h = stays_there xs _ (of (is_candidate f x all))
     where
       of : (b : Bool) → IsThere (cond b (earlier window so_far x) so_far)
       of true = earlier_there so_far x
       of false = h
 
-  comes_there : (x : KeptClaim) (xs : List (Option KeptClaim)) (so_far : Option KeptClaim) → is_candidate window f x all ≡ true → IsThere (first_candidate window f all (Some x ∷ xs) so_far)
+  comes_there : (x : KeptClaim) (xs : List (Option KeptClaim)) (so_far : Option KeptClaim) → is_candidate f x all ≡ true → IsThere (first_candidate window f all (Some x ∷ xs) so_far)
   comes_there x xs so_far is = rw is (stays_there xs (earlier window so_far x) (earlier_there so_far x))
 
   goes_on : (o : Option KeptClaim) (xs : List (Option KeptClaim)) → ((so_far : Option KeptClaim) → IsThere (first_candidate window f all xs so_far)) → (so_far : Option KeptClaim) → IsThere (first_candidate window f all (o ∷ xs) so_far)
   goes_on None xs h so_far = h so_far
   goes_on (Some y) xs h so_far = h _
 
-  starts : (o : Option KeptClaim) (x : KeptClaim) (xs : List (Option KeptClaim)) → o ≡ Some x → is_candidate window f x all ≡ true → (so_far : Option KeptClaim) → IsThere (first_candidate window f all (o ∷ xs) so_far)
+  starts : (o : Option KeptClaim) (x : KeptClaim) (xs : List (Option KeptClaim)) → o ≡ Some x → is_candidate f x all ≡ true → (so_far : Option KeptClaim) → IsThere (first_candidate window f all (o ∷ xs) so_far)
   starts None x xs e is so_far = absurd cc
   starts (Some y) x xs e is so_far =
       let same : x ≡ y = cc in
-      comes_there y xs so_far (subst (λ (v : KeptClaim). is_candidate window f v all ≡ true) same is)
+      comes_there y xs so_far (subst (λ (v : KeptClaim). is_candidate f v all ≡ true) same is)
 
-  there_in : (x : KeptClaim) (xs : List (Option KeptClaim)) (i : ℕ) → slice_get xs i ≡ Some (Some x) → is_candidate window f x all ≡ true → (so_far : Option KeptClaim) → IsThere (first_candidate window f all xs so_far)
+  there_in : (x : KeptClaim) (xs : List (Option KeptClaim)) (i : ℕ) → slice_get xs i ≡ Some (Some x) → is_candidate f x all ≡ true → (so_far : Option KeptClaim) → IsThere (first_candidate window f all xs so_far)
   there_in x [] i e is so_far = absurd cc
   there_in x (o ∷ xs) zero e is so_far = let same : o ≡ Some x = cc in starts o x xs same is so_far
   there_in x (o ∷ xs) (suc i) e is so_far = goes_on o xs (there_in x xs i e is) so_far
 
-  pub there_of : (x : KeptClaim) (i : ℕ) → slice_get all i ≡ Some (Some x) → is_candidate window f x all ≡ true → (y : KeptClaim) × (first_candidate window f all all None ≡ Some y)
+  pub there_of : (x : KeptClaim) (i : ℕ) → slice_get all i ≡ Some (Some x) → is_candidate f x all ≡ true → (y : KeptClaim) × (first_candidate window f all all None ≡ Some y)
   unfolding IsThere
   there_of x i e is = there_in x all i e is None
 
-pub get_kept : (lines : Lines) (i : ℕ) (x : KeptClaim) → i < 5 → claim_kept (line_at lines i).frame ≡ Some x → slice_get (all_kept lines) i ≡ Some (Some x)
-get_kept lines zero x low e = cc
-get_kept lines (suc zero) x low e = cc
-get_kept lines (suc (suc zero)) x low e = cc
-get_kept lines (suc (suc (suc zero))) x low e = cc
-get_kept lines (suc (suc (suc (suc zero)))) x low e = cc
-get_kept lines (suc (suc (suc (suc (suc i))))) x low e = absurd (omega (arith, low))
+pub get_kept : (within : ℕ) (lines : Lines) (i : ℕ) (x : KeptClaim) → i < 5 → claim_kept within (line_at lines i).frame ≡ Some x → slice_get (all_kept within lines) i ≡ Some (Some x)
+get_kept within lines zero x low e = cc
+get_kept within lines (suc zero) x low e = cc
+get_kept within lines (suc (suc zero)) x low e = cc
+get_kept within lines (suc (suc (suc zero))) x low e = cc
+get_kept within lines (suc (suc (suc (suc zero)))) x low e = cc
+get_kept within lines (suc (suc (suc (suc (suc i))))) x low e = absurd (omega (arith, low))
 
 -- what agrees with enough others is a candidate, so there is a vote
-pub one_is_agreed : (c : ClockRules) (lines : Lines) (i : ℕ) (x : KeptClaim) → i < 5 → claim_kept (line_at lines i).frame ≡ Some x → is_candidate (window_us c.within.us) (f_of c.redundancy) x (all_kept lines) ≡ true → (vote : Vote) × (agreed c lines ≡ Some vote)
-one_is_agreed c lines i x low e is = of (first_candidate (window_us c.within.us) (f_of c.redundancy) (all_kept lines) (all_kept lines) None) first.0 first.1
+pub one_is_agreed : (c : ClockRules) (lines : Lines) (i : ℕ) (x : KeptClaim) → i < 5 → claim_kept c.within.us (line_at lines i).frame ≡ Some x → is_candidate (f_of c.redundancy) x (all_kept c.within.us lines) ≡ true → (vote : Vote) × (agreed c lines ≡ Some vote)
+one_is_agreed c lines i x low e is = of (first_candidate (window_us c.within.us) (f_of c.redundancy) (all_kept c.within.us lines) (all_kept c.within.us lines) None) first.0 first.1
   where
-    first : (y : KeptClaim) × (first_candidate (window_us c.within.us) (f_of c.redundancy) (all_kept lines) (all_kept lines) None ≡ Some y)
-    first = there_of (window_us c.within.us) (f_of c.redundancy) (all_kept lines) x i (get_kept lines i x low e) is
+    first : (y : KeptClaim) × (first_candidate (window_us c.within.us) (f_of c.redundancy) (all_kept c.within.us lines) (all_kept c.within.us lines) None ≡ Some y)
+    first = there_of (window_us c.within.us) (f_of c.redundancy) (all_kept c.within.us lines) x i (get_kept c.within.us lines i x low e) is
 
-    of : (o : Option KeptClaim) (y : KeptClaim) → o ≡ Some y → (vote : Vote) × (vote_with c.within.us c.drift_us (f_of c.redundancy) (all_kept lines) o ≡ Some vote)
+    of : (o : Option KeptClaim) (y : KeptClaim) → o ≡ Some y → (vote : Vote) × (vote_with c.within.us c.drift_us (f_of c.redundancy) (all_kept c.within.us lines) o ≡ Some vote)
     of None y e = absurd cc
-    of (Some y) z e = (vote_between c.within.us c.drift_us y (ending_from (window_us c.within.us) (f_of c.redundancy) y (all_kept lines) (all_kept lines) 0) (ended_by (window_us c.within.us) (f_of c.redundancy) y (all_kept lines) (all_kept lines) (window_us c.within.us)), refl)
+    of (Some y) z e = (vote_by c (all_kept c.within.us lines) y, refl)

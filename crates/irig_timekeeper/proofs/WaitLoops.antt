@@ -14,8 +14,8 @@ use Rattle.irig_lines.specs.declared.lines.Lines.{Lines}
 use Rattle.irig_lines.specs.declared.lines.Vote.{Vote}
 use Rattle.irig_lines.specs.declared.setup.ClockRules.{ClockRules}
 use Rattle.irig_lines.specs.Edges.{IsQuartz}
-use Rattle.irig_lines.specs.Exactness.{window_us, end_off_us}
-use Rattle.irig_lines.specs.Lines.{IsTrueLately}
+use Rattle.irig_lines.specs.Exactness.{half_us, window_us, end_off_us}
+use Rattle.irig_lines.specs.Lines.{IsTrueLately, IfKept}
 use Rattle.irig_lines.specs.Steps.{is_pulse, line_at, settled, claim_kept, all_kept, agrees, agreed, wait_by}
 use Rattle.irig_timekeeper.specs.Keeping.{Keeping, place_told, vote_at, wait_at}
 use Rattle.irig_timekeeper.specs.Life.{Made, device_of, Call, after_calls, pulses_on, last_tick, HaveRisen, AreInOrder, AreTrueOver}
@@ -24,8 +24,8 @@ use Rattle.irig_timekeeper.specs.Announcing.{Announces, ComesWhole}
 use Rattle.irig_timekeeper.specs.Loops.{ComeInARow, AreToldInTime, made_at, latest, AreMadeInTurn, named, IsSoonEnough, GoesByWait}
 use Rattle.irig_lines.proofs.LineLaws.{true_lately}
 use Rattle.irig_lines.proofs.AgreeLaws.{is_one}
-use Rattle.irig_lines.proofs.PartLaws.{split, agreed_first, vote_of}
-use Rattle.irig_timekeeper.proofs.VoteLaws.{still, frame_settled, one_more}
+use Rattle.irig_lines.proofs.PartLaws.{IsHalf, half_kept, one_more, ends_agree, agreed_first, vote_of}
+use Rattle.irig_timekeeper.proofs.VoteLaws.{still, frame_settled}
 use Rattle.irig_timekeeper.proofs.LifeLaws.{begins, AreLinesAt, IsEndAt, TellAlwaysTruly, lines_after, own_pulses, others_pulses, no_pulse, unheard, order_before}
 use Rattle.irig_lines.proofs.WholeLaws.{whole_of, nothing_whole}
 use Rattle.irig_timekeeper.proofs.OrderLaws.{shared, silent_line, kept_of_nothing, ranged, lies_behind}
@@ -110,24 +110,33 @@ module _ (t : TimelineValue) (edges : ℕ → ℕ) (new : Keeping) (quartz : IsQ
   ]
 
   -- what a line keeps then
-  raw : (i : ℕ) → i < 5 → (y : KeptClaim) → claim_kept (line_at lines i).frame ≡ Some y → claim_kept (line_at (after_calls new calls).state.lines i).frame ≡ Some y
-  raw i small y e = (still (time % 2 ^ 32) (line_at (after_calls new calls).state.lines i).frame y (ap claim_kept (sym (frame_settled (time % 2 ^ 32) (after_calls new calls).state.lines i small)) ∙ e)).0
+  raw : (i : ℕ) → i < 5 → (y : KeptClaim) → claim_kept new.clock.within.us (line_at lines i).frame ≡ Some y → claim_kept new.clock.within.us (line_at (after_calls new calls).state.lines i).frame ≡ Some y
+  raw i small y e = (still _ (time % 2 ^ 32) (line_at (after_calls new calls).state.lines i).frame y (ap (claim_kept new.clock.within.us) (sym (frame_settled (time % 2 ^ 32) (after_calls new calls).state.lines i small)) ∙ e)).0
+
+  -- by the rules that it had from the start
+  line_kept : (i : ℕ) → i < 5 → IfKept (IsEndAt (pulses_on i calls) (last_tick start calls) then) new.clock.within.us new.clock.drift_us (after_calls new calls).rules (claim_kept new.clock.within.us (line_at (after_calls new calls).state.lines i).frame) (pulses_on i calls)
+  line_kept i small =
+      let l = lines_after new start begun calls then order in
+      subst (λ (c : ClockRules). IfKept (IsEndAt (pulses_on i calls) (last_tick start calls) then) c.within.us c.drift_us (after_calls new calls).rules (claim_kept c.within.us (line_at (after_calls new calls).state.lines i).frame) (pulses_on i calls)) l.same.clock (l.lines i small).kept
 
   IsRanged : KeptClaim → Type 0
-  IsRanged y = y.end_us < 2 ^ 32
+  IsRanged y = (y.end_us < 2 ^ 32) × IsHalf new.clock.within.us y
 
-  in_range : (i : ℕ) → i < 5 → (y : KeptClaim) → claim_kept (line_at lines i).frame ≡ Some y → IsRanged y
+  in_range : (i : ℕ) → i < 5 → (y : KeptClaim) → claim_kept new.clock.within.us (line_at lines i).frame ≡ Some y → IsRanged y
   unfolding IsRanged
-  in_range i small y e = ranged (IsEndAt (pulses_on i calls) (last_tick start calls) then) _ _ (after_calls new calls).rules (claim_kept (line_at (after_calls new calls).state.lines i).frame) (pulses_on i calls) y ((lines_after new start begun calls then order).lines i small).kept (raw i small y e)
+  in_range i small y e =
+      let kept = raw i small y e in (
+        ranged (IsEndAt (pulses_on i calls) (last_tick start calls) then) _ _ (after_calls new calls).rules (claim_kept new.clock.within.us (line_at (after_calls new calls).state.lines i).frame) (pulses_on i calls) y (line_kept i small) kept,
+        half_kept new.clock.within.us (line_at (after_calls new calls).state.lines i).frame y kept,
+      )
 
-  none_agrees : (x : KeptClaim) (i : ℕ) → i < 5 → ports_in new.clock.redundancy ≤ i → agrees window x (claim_kept (line_at lines i).frame) ≡ false
-  none_agrees x i small far = of (claim_kept (line_at lines i).frame) refl
+  none_agrees : (x : KeptClaim) (i : ℕ) → i < 5 → ports_in new.clock.redundancy ≤ i → agrees x (claim_kept new.clock.within.us (line_at lines i).frame) ≡ false
+  none_agrees x i small far = of (claim_kept new.clock.within.us (line_at lines i).frame) refl
     where
-      of : (o : Option KeptClaim) → claim_kept (line_at lines i).frame ≡ o → agrees window x o ≡ false
+      of : (o : Option KeptClaim) → claim_kept new.clock.within.us (line_at lines i).frame ≡ o → agrees x o ≡ false
       of None e = refl
       of (Some y) e =
-          let l = (lines_after new start begun calls then order).lines i small in
-          let none = kept_of_nothing (IsEndAt (pulses_on i calls) (last_tick start calls) then) _ _ (after_calls new calls).rules (claim_kept (line_at (after_calls new calls).state.lines i).frame) (pulses_on i calls) (silent_line start new.clock.redundancy i far calls order.3) l.kept in
+          let none = kept_of_nothing (IsEndAt (pulses_on i calls) (last_tick start calls) then) _ _ (after_calls new calls).rules (claim_kept new.clock.within.us (line_at (after_calls new calls).state.lines i).frame) (pulses_on i calls) (silent_line start new.clock.redundancy i far calls order.3) (line_kept i small) in
           absurd (let both : None ≡ Some y = sym none ∙ raw i small y e in cc)
 
   -- its frame ends with a frame of these, or up to the window before, and its edge lies up to the
@@ -142,7 +151,7 @@ module _ (t : TimelineValue) (edges : ℕ → ℕ) (new : Keeping) (quartz : IsQ
   lies_near : (v : Vote) → agreed new.clock lines ≡ Some v → LiesNear v
   unfolding IsRanged
   lies_near v e =
-      let all = all_kept lines in
+      let all = all_kept new.clock.within.us lines in
       let f = f_of new.clock.redundancy in
       let first = agreed_first new.clock lines v e in
       let x = first.0 in
@@ -153,15 +162,16 @@ module _ (t : TimelineValue) (edges : ℕ → ℕ) (new : Keeping) (quartz : IsQ
       (one_more IsRanged _ _ (in_range 3 (omega arith))
       (one_more IsRanged _ _ (in_range 4 (omega arith)) tt)))))
       first.1 in
-      let counted = ltb-true f (count_by (agrees window x) all) one.0 in
-      let there = shared new.clock.redundancy come.whole (λ i. agrees window x (claim_kept (line_at lines i).frame)) none_there (none_agrees x) come.many (omega (arith, counted)) in
+      let counted = ltb-true f (count_by (agrees x) all) one.0 in
+      let there = shared new.clock.redundancy come.whole (λ i. agrees x (claim_kept new.clock.within.us (line_at lines i).frame)) none_there (none_agrees x) come.many (omega (arith, counted)) in
       let k = keeps there.0 there.1 there.2 in
       let keeps_it = kept t edges new quartz start begun m some older told risen past calls time upto come.whole come.many keeps ahead there.0 there.1 there.2 in
-      let agree : agrees window x (Some (record { claim = k.claim; end_us = k.end % 2 ^ 32 })) ≡ true = subst (λ (o : Option KeptClaim). agrees window x o ≡ true) keeps_it there.3 in
-      let near = leb-true (clock_gap x.end_us (k.end % 2 ^ 32)) window (split (same_claim x.claim k.claim) (nat_le (clock_gap x.end_us (k.end % 2 ^ 32)) window) agree).1 in
+      let y : KeptClaim = record { claim = k.claim; end_us = k.end % 2 ^ 32; half_us = half_us new.clock.within.us } in
+      let agree : agrees x (Some y) ≡ true = subst (λ (o : Option KeptClaim). agrees x o ≡ true) keeps_it there.3 in
+      let near = (ends_agree new.clock.within.us x y new.clock.within.few one.1.1 refl one.1.0 (omega arith) agree).1 in
       let few = new.clock.within.few in
-      let at = wrapped x.end_us k.end one.1 (omega (arith, k.least, past, few, quartz.few)) (omega (arith, near, few)) in
-      let lies = lies_behind new.clock all v x (vote_of new.clock all v x one.0 first.2) (k.end - clock_gap x.end_us (k.end % 2 ^ 32)) at in
+      let at = wrapped x.end_us k.end one.1.0 (omega (arith, k.least, past, few, quartz.few)) (omega (arith, near, few)) in
+      let lies = lies_behind new.clock all v x (vote_of new.clock lines v x one.0 first.2) one.1.1 (k.end - clock_gap x.end_us (k.end % 2 ^ 32)) at in
       record {
         edge = lies.edge;
         clock = lies.clock;

@@ -35,7 +35,7 @@ pub record AreHeardTruly (IsTrue : List Pulse → Type 0) (within d : ℕ) (rule
   pub few : count_by untrue (range_with_len 0 5) ≤ f
   pub true_lines : (i : ℕ) → i < 5 → untrue i ≡ false → IsTrue (pulses i)
   pub kept : (i : ℕ) → i < 5
-      → IfKept (IsInTurnOf now) within d rules (claim_kept (line_at lines i).frame) (pulses i)
+      → IfKept (IsInTurnOf now) within d rules (claim_kept within (line_at lines i).frame) (pulses i)
 
 -- lines claim the true second before an edge, and the edge on which they agree lies no further from it
 -- than its bound, and so much more before it and behind it; it has come, at most 100 ms ago
