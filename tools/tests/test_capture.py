@@ -37,6 +37,7 @@ NO_VOTE = "there is no tick before lines agree"
 RESTART = "no wire knows of a restart"
 NO_BEGIN = "a pulse that begins no frame is out of step on a wire"
 OTHER = "the last line speaks of another reader"
+INEXACT = "a timekeeper gives no vote to clocks that say that they may be 10 ms off"
 UNLIKE = {
     "a_deleted_second_has_no_number": NO_VOTE,
     "a_missed_tick_breaks_the_premise": RESTART,
@@ -50,6 +51,7 @@ UNLIKE = {
     "plant_line_alone": NO_VOTE,
     "ports_that_tell_faults": NO_VOTE,
     "pulses_since_a_port_was_empty": NO_VOTE,
+    "quality_and_replay": INEXACT,
     "restart": RESTART,
     "restart_empties_the_ports": RESTART,
     "restart_forgets_the_counter": RESTART,
