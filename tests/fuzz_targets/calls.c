@@ -229,7 +229,10 @@ static void call_timekeeper(void) {
     irig_stamp stamp;
     plan_world();
     irig_wires wires = wires_of(&one.world);
-    require(s->begin(&one.setup, &one.table, &wires, now_us) == IRIG_DONE, "begin");
+    bool is_one = one.setup.poor_from <= 8; /* and not of a reader alone */
+    uint32_t wanted = is_one ? IRIG_DONE : IRIG_FAULT_VALUE;
+    require(s->begin(&one.setup, &one.table, &wires, now_us) == wanted, "begin");
+    if (!is_one) return;
     while (next_byte < end_byte) {
         uint8_t line = (uint8_t)take(&luck, 6);
         switch (take(&luck, 8)) {
