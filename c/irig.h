@@ -185,9 +185,10 @@ typedef struct irig_leap {
     uint32_t kind; /* IRIG_LEAP_INSERT or IRIG_LEAP_DELETE */
 } irig_leap;
 
-/* The leaps at all month ends up to a day: of the others up to `until` it says that there is none. Of
- * a table of zeros nothing is known. What frames that were voted say of a day's end goes before the
- * table. `tools/leaps` prints the dates, and irig_second_read of a date's first second its day. */
+/* All leaps at the ends of months up to the day `until`: at an end up to then that is not listed
+ * there is none. A table of zeros says nothing. In a reader, what voted frames say of a day's end
+ * overrides the table. In a timekeeper the table guards it: irig_timekeeper_tick. `tools/leaps`
+ * prints the dates, and irig_second_read of a date's first second gives its day. */
 typedef struct irig_table {
     uint32_t until; /* the last day of which it speaks */
     uint32_t len;   /* how many leaps count, 64 at most */
@@ -310,33 +311,36 @@ IRIG_ASSERT((sizeof(irig_told) == 20u) && (offsetof(irig_told, fault) == 4u) &&
 /* ---- timekeepers */
 
 /* A timekeeper is a device that hears lines by its own free-running counter of microseconds, which
- * wraps at 2^32, and says which UTC second begins at which count. A tick may come at any time, early,
- * late, often or seldom, but at least once in 29 minutes.
+ * wraps at 2^32, and says which UTC second begins at which count. A tick may come at any time,
+ * early, late, often or seldom, but at least once in 29 minutes.
  *
- * What one gets wrong unnoticed: a tick has to be told the time up to which pulses were told, and not
- * a later one. Of pulses in a queue that is a time up to the end of the next one, and after the last
- * of them the time at which the loop looked into the queue. What counts is the time that a tick is
- * told: a loop that stood still ticks afterwards, between the pulses, at each time that
- * irig_timekeeper_wait names or each 95 ms, and misses no second (c/examples/poll.c). It leaves out a
- * time that lies before the one told last (`t - told > UINT32_MAX / 2`), else it counts on through 71
- * minutes that have not been. If ticks run ahead of pulses by more than 4 ms, seconds may be counted
- * by the counter alone, which `moved` and `missed` show if they come again and again; if by some
- * 100 ms, nothing is ever voted. After sleep, or if the counter stood still or was set:
+ * What is easily got wrong: a tick has to be told the time up to which pulses were told, and no
+ * later one. While pulses wait in a queue, that is a time up to the end of the next one; after the
+ * last of them it is the time at which the loop looked into the queue. Only the time that a tick is
+ * told counts, not when it is called. So a loop that stood still ticks afterwards, between the
+ * pulses, at each time that irig_timekeeper_wait names or each 95 ms, and misses no second
+ * (c/examples/poll.c). It leaves out a time that lies before the one told last
+ * (`t - told > UINT32_MAX / 2`). Otherwise the timekeeper counts on through 71 minutes that have
+ * not been. If ticks run ahead of pulses by more than 4 ms, seconds may be counted by the counter
+ * alone, which `moved` and `missed` show if it happens again and again; if by some 100 ms, nothing
+ * is ever voted. After sleep, or if the counter stood still or was set, call
  * irig_timekeeper_restart. */
 
-/* How exact a timekeeper's lines are, and its counter: so exact is what it tells
- * (irig_timekeeper_tick). A line whose pulses are further off than this counts as untrue. */
+/* How exact a timekeeper's lines and its counter are. What it tells is as exact as these
+ * (irig_timekeeper_tick). A line whose pulses are further off counts as untrue. docs/EXACTNESS.md
+ * says how to choose the numbers. */
 typedef struct irig_wires {
-    uint16_t within_us; /* each pulse of a true line rises less than so many us from its place, by
-                         * the counter, the k-th of a frame k hundredths of the second from edge to
-                         * edge behind its beginning: 1 to 450 */
-    uint16_t drift_us;  /* the most by which the counter is wrong in a second: 0 to 100 */
-    int16_t delay_us[5]; /* how much later each line's pulses rise here than at its clock, by a cable,
-                          * a converter or an input: -4,000 to 4,000, below 0 if a line is early. It
-                          * is taken off, so that a constant delay does not make a line untrue */
-    uint8_t prefers_frames; /* 0: where the lines and the table contradict each other over a month's
-                             * end nothing is announced (IRIG_CAUSE_LEAP_GUARD); any other: what the
-                             * lines say is followed */
+    uint16_t within_us; /* 1 to 450: each pulse of a true line rises less than so many us from its
+                         * place by the counter. That of pulse k, 0 to 99, lies k hundredths of the
+                         * way from the edge at which its frame begins to the next */
+    uint16_t drift_us;  /* 0 to 100: the most us by which the counter is wrong in a second */
+    int16_t delay_us[5]; /* -4,000 to 4,000: how many us later each line's pulses rise here than at
+                          * its clock, by a cable, a converter or an input; below 0 if they rise
+                          * earlier. It is taken off, so that a constant delay does not make a line
+                          * untrue */
+    uint8_t prefers_frames; /* 0: where the lines and the table lead to different seconds at a
+                             * month's end, none is announced (IRIG_CAUSE_LEAP_GUARD). Any other:
+                             * what the lines say is followed */
 } irig_wires;
 IRIG_ASSERT((sizeof(irig_wires) == 16u) && (offsetof(irig_wires, drift_us) == 2u) &&
             (offsetof(irig_wires, delay_us) == 4u) &&
@@ -347,8 +351,8 @@ typedef struct irig_line {
     irig_sync sync;     /* where it stands in its frame */
     irig_tally port;    /* what it heard of its frame */
     irig_tally frame;   /* its last whole frame */
-    uint32_t begin_us;  /* where the frame begins in which it stands */
-    uint32_t end_us;    /* where its last whole frame ends */
+    uint32_t begin_us;  /* when the frame begins in which it stands, by the counter */
+    uint32_t end_us;    /* when its last whole frame ends, by the counter */
     uint8_t is_uneven;  /* 0 if the first and the last pulse of that rose 990 ms apart */
     uint8_t has_frame;  /* 0 if that was taken, or is late */
     uint8_t is_seen;    /* 0 if that is more than 1.5 s old */
@@ -363,17 +367,17 @@ IRIG_ASSERT((sizeof(irig_line) == 72u) && (offsetof(irig_line, port) == 8u) &&
 typedef struct irig_announced {
     uint32_t day;
     uint32_t sod;
-    uint32_t edge_us;  /* where it begins */
-    uint32_t bound_us; /* how far from its true edge that may lie */
+    uint32_t edge_us;  /* when it begins, by the counter */
+    uint32_t bound_us; /* how many us from its true edge that may lie */
     uint8_t is_told;   /* 0 if there is none */
 } irig_announced;
 IRIG_ASSERT((sizeof(irig_announced) == 20u) && (offsetof(irig_announced, is_told) == 16u));
 
-/* From where the length of a second is measured: the interval in which the true edge of a voted second
- * lay. */
+/* The interval in which the true edge of a voted second lay: from there the length of a second is
+ * measured. */
 typedef struct irig_anchor {
-    uint32_t begin_us; /* where it begins */
-    uint32_t long_us;  /* how long it is */
+    uint32_t begin_us; /* when it begins, by the counter */
+    uint32_t long_us;  /* how many us long it is */
     uint32_t seconds;  /* the seconds that were counted since, 2,000 at most */
 } irig_anchor;
 IRIG_ASSERT((sizeof(irig_anchor) == 12u) && (offsetof(irig_anchor, seconds) == 8u));
@@ -395,11 +399,12 @@ typedef struct irig_timekeeper {
     irig_state state;
     irig_line lines[5];    /* those that it does not have hear nothing */
     irig_wires wires;      /* how exact they are, and its counter */
-    uint32_t edge_us;      /* where the last second begins that was counted */
+    uint32_t edge_us;      /* when the last second began that was counted */
     uint32_t moved;        /* how often lines moved that edge since */
     uint8_t has_edge;      /* 0 if none was counted */
     uint8_t has_interval;  /* 0 if there is no such interval as begins at `begin_us` */
-    uint16_t bound_us;     /* how far from its true edge that of the last vote may lie, 899 at most */
+    uint16_t bound_us;     /* how many us the edge of the last vote may lie from the true one, 899
+                            * at most */
     irig_announced last;   /* that second, if it was announced */
     irig_announced before; /* the one counted before it, if it was */
     irig_announced ended;  /* the second that ended at the last edge, if it was voted or held */
@@ -428,7 +433,7 @@ IRIG_ASSERT((sizeof(irig_timekeeper) == 1072u) && (offsetof(irig_timekeeper, sta
 /* What each line of a timekeeper is: bit p of a mask is line p. Each line is in exactly one. */
 typedef struct irig_masks {
     uint8_t agreed;   /* they claim the second that ended at the told edge, and end there */
-    uint8_t apart;    /* they claim it, but end further from that edge than a true line's frame */
+    uint8_t apart;    /* they claim it, but end further from that edge than a true line's frame can */
     uint8_t differed; /* they claim another second */
     uint8_t faulty;   /* their last frame is at fault, or does not last as long as a frame does */
     uint8_t poor;     /* their clock is too inexact to vote, as it says itself */
@@ -443,13 +448,13 @@ typedef struct irig_second {
     uint8_t is_told;    /* 1 if a second was counted; 0 if there is nothing to tell, then all zeros */
     uint8_t against_table; /* 1 if the lines that have the vote speak of a leap at the end of their
                             * day, and the table says otherwise; else 0 */
-    uint32_t edge_us;   /* where it begins, never ahead of the tick */
-    uint32_t bound_us;  /* how far from its true edge that may lie, if it is announced: what
-                         * irig_timekeeper_tick says, 490,899 at most */
+    uint32_t edge_us;   /* when it begins by the counter, never ahead of the tick */
+    uint32_t bound_us;  /* how many us from its true edge that may lie, if the second is announced:
+                         * what irig_timekeeper_tick says, 490,899 at most */
     uint32_t missed;    /* seconds that passed untold before it, as no tick came */
     uint32_t moved;     /* how often lines moved the edge since the second that was told before */
-    uint32_t strays;    /* how many votes contradicted those before them, since it was made or
-                         * restarted: above 0 something is not as it was set up
+    uint32_t strays;    /* how many votes contradicted those before them, since the timekeeper was
+                         * made or restarted. Above 0 something is not as it was set up
                          * (irig_timekeeper_tick) */
     uint32_t doubt;     /* how many seconds have to be voted yet before one is held again: until
                          * then a second with the cause IRIG_CAUSE_HELD is not announced */
@@ -480,17 +485,19 @@ enum {
 typedef struct irig_line_said {
     uint8_t state;   /* IRIG_LINE_SILENT .. */
     irig_told told;  /* what its last whole frame tells, silence if there is none within 1.5 s */
-    uint32_t end_us; /* where that frame ends, or 0 */
-    int32_t off_us;  /* how far that lies behind the told edge at which its second ended; of a line
-                      * that is not judged yet, behind the end of the first other line's frame of that
-                      * second. 0 if there is none, or none so near as two seconds */
+    uint32_t end_us; /* when that frame ends, by the counter, or 0 */
+    int32_t off_us;  /* how many us after the told edge at which its second ended, or below 0 before
+                      * it. As long as no edge was told: how long after the end of the first other
+                      * line's frame of that second. 0 if there is neither within two seconds, as
+                      * between a frame's last pulse and the tick at its edge */
 } irig_line_said;
 IRIG_ASSERT((sizeof(irig_line_said) == 32u) && (offsetof(irig_line_said, told) == 4u) &&
             (offsetof(irig_line_said, end_us) == 24u) && (offsetof(irig_line_said, off_us) == 28u));
 
-/* The time of an event: a second, and how long behind its beginning. By the error of its edge, and of
- * the next one, the offset may reach 1,000,000 and more, below 1,500,000, when the next second had
- * begun: it is no fraction to print behind a point. */
+/* The time of an event: a second, and how long after its beginning the event came. As the told
+ * edges of this second and of the next one may be off by their bounds, the offset may reach
+ * 1,000,000 and more, though less than 1,500,000: so do not print it as a decimal fraction of the
+ * second. */
 typedef struct irig_stamp {
     uint32_t day;
     uint32_t sod;
@@ -500,10 +507,11 @@ typedef struct irig_stamp {
 } irig_stamp;
 IRIG_ASSERT((sizeof(irig_stamp) == 16u) && (offsetof(irig_stamp, bound_us) == 12u));
 
-/* How long a second is by the device's own counter: the mean of the last `seconds`, which were counted.
- * It is 1,000,000,000 ns by a perfect counter, and 1,000,037,000 by one that is 37 ppm fast. */
+/* How long a second is by the device's own counter: the mean of the last `seconds`, up to the one
+ * counted last. It is 1,000,000,000 ns by a perfect counter, and 1,000,037,000 ns by one that is 37
+ * ppm fast (docs/COUNTER.md). */
 typedef struct irig_rate {
-    uint32_t seconds;  /* of how many it is the mean, 1 to 2,000 */
+    uint32_t seconds;  /* of how many seconds it is the mean, 1 to 2,000 */
     uint32_t least_ns; /* what it is at least, in nanoseconds of the counter */
     uint32_t most_ns;  /* what it is at most */
 } irig_rate;
@@ -695,117 +703,131 @@ uint32_t irig_reader_port(const irig_reader *reader, uint8_t port, irig_told *to
 uint32_t irig_timekeeper_init(irig_timekeeper *timekeeper, const irig_setup *setup,
                               const irig_table *table, const irig_wires *wires);
 
-/* A pulse on a line, 0 to 2 of three, 0 to 4 of five, 0 of one, once it has ended, each line's in
- * order, and before any tick of half a second or more after it rose: its place, as irig_sync_pulse
- * answers it. All that is said of when a pulse rose is said of the time from which the line's
- * `delay_us` is taken off. A width of 500,000 us or more is no pulse, the line is stuck: 0, and nothing changes.
- * IRIG_NO_PORT. After a place of 100 there may be less to wait. */
+/* A pulse on a line, once it has ended: its place, as irig_sync_pulse answers it. Lines are 0 to 2
+ * of three, 0 to 4 of five, 0 of one. Each line's pulses are told in order, and each before any
+ * tick of half a second or more after it rose. The line's `delay_us` is taken off `rise_us` here;
+ * what is said elsewhere of when a pulse rose is said of that time. A width of 500,000 us or more
+ * is no pulse, since the line is stuck: then the answer is 0, and nothing changes. IRIG_NO_PORT.
+ * After a place of 100 there may be less to wait: ask irig_timekeeper_wait again. */
 uint8_t irig_timekeeper_hear(irig_timekeeper *timekeeper, uint8_t line, uint32_t rise_us,
                              uint32_t width_us);
 
-/* Says which second begins, if one has begun since the last call, by frames of which enough claim one
- * second and end within 2 * (within_us - 1) us, 898 at most; or else by the counter alone, 5 ms later.
- * `now_us` is the time up to which pulses were told (above): it is not before the last tick's, nor
- * more than 4 ms before the rise of a pulse that was told. IRIG_FAULT_VALUE as irig_reader_tick answers it; then the
- * second is silent, and irig_timekeeper_init begins afresh.
+/* Says which second begins, if one has begun since the last call. Frames have the vote if enough of
+ * them claim one second and end within 2 * (within_us - 1) us of each other, 898 at most. If there
+ * is no vote, the counter alone counts a second, 5 ms after its edge. `now_us` is the time up to
+ * which pulses were told (above): it is not before the last tick's, nor more than 4 ms before the
+ * rise of a pulse that was told. IRIG_FAULT_VALUE as irig_reader_tick answers it; then the second
+ * is silent, and irig_timekeeper_init begins afresh.
  *
  * The edge that a vote tells lies in the middle between two ends of frames of that claim: that by
- * which enough end, and that from which on enough do (docs/WIRES.md). A call takes the vote from that
- * edge on, for 100 ms. `bound_us` is within_us - 1, 1 more if drift_us is not 0, and half of the
- * distance of these two ends, rounded up. With a drift it is within_us if all lines claim it, none
- * of them more than a millisecond before the others, since then the middle one of their ends is both;
- * else 2 * within_us - 1 at most. So at a within_us of 450 it is 450 to 899, at 10 it is 10 to 19.
+ * which enough end, and that from which on enough do (docs/EXACTNESS.md). A call takes the vote
+ * from that edge on, for 98 ms at least. `bound_us` is the sum of within_us - 1, of 1 if drift_us
+ * is not 0, and of half the distance between these two ends, rounded up. With a drift it is
+ * within_us if all lines claim that second and none ends more than a millisecond before the others,
+ * since then the middle one of their ends is both. Otherwise it is 2 * within_us - 1 at most. So at
+ * a within_us of 450 it is 450 to 899, and at 10 it is 10 to 19.
  *
  * If it answers 0, a second that is announced with the cause IRIG_CAUSE_VOTED is the true one, and
  * its true edge lies no more than `bound_us` from `edge_us`, provided that the counter is at most
  * `drift_us` a second wrong, no two of three lines (three of five; not the one line) were untrue in
- * the last 1.2 s, and each line that keeps a frame has heard it. That holds whenever the call comes,
- * whatever came before, and whatever other numbers lie in the timekeeper.
+ * the last 1.2 s, and each line that keeps a frame has heard it. That holds whenever the call
+ * comes, whatever came before, and whatever other numbers lie in the timekeeper.
  *
- * In one that irig_timekeeper_init made, a second with the cause IRIG_CAUSE_HELD is true too, if at
- * each tick since then, or since the last irig_timekeeper_restart, no two of three lines (three of
- * five; not the one line) were untrue in the last 1.2 s, the counter is as steady as `drift_us`
- * says, calls were in order, and the table is right, which up to a `holdover` of 57 it need not be.
- * Its `bound_us` is that of the last vote, and `drift_us` more for each of `lock_count` seconds: no
- * further from `edge_us` lies its true edge. Then each second that is announced is later than the one
- * before, and no cause is IRIG_CAUSE_JUMP. If lines were untrue before, all this holds again once a
- * tick has told a second with `agreed` above 0, provided that no two of three lines were untrue at that
- * tick and at each later one. That tick itself may have the cause IRIG_CAUSE_JUMP, or tell a second
- * that is not later than a false one before. What this paragraph says holds, with edges that lie
- * off by `bound_us` and 2 * (within_us - 1) + 2 * drift_us more, which is less than 1.1 ms, also if a
- * line counts as true that had one fault of any kind in each hundred pulses (docs/WIRES.md). Whatever lines carry, edges
- * that are told lie at least half a second apart if calls were in order. docs/WIRES.md also says when
- * it announces.
+ * In a timekeeper that irig_timekeeper_init made, a second with the cause IRIG_CAUSE_HELD is true
+ * too, if at each tick since then, or since the last irig_timekeeper_restart, no two of three lines
+ * (three of five; not the one line) were untrue in the last 1.2 s, the counter is as steady as
+ * `drift_us` says, calls were in order, and the table is right, which it need not be at a
+ * `holdover` of up to 57. Its `bound_us` is that of the last vote, and `drift_us` more for each of
+ * `lock_count` seconds. Its true edge lies no further than that from `edge_us`. On these conditions
+ * each second that is announced is later than the one before, and no cause is IRIG_CAUSE_JUMP.
  *
- * `strays` tells if votes contradict one another. By a vote the true edge lies no more than its bound
- * from the edge that it tells; a second later it lies in an interval that is `drift_us` longer at each
- * end; and each vote cuts that interval by its own. If the two have nothing in common, that vote
- * contradicts those before it: `strays` is 1 more, and the interval begins anew with that vote. So
- * two votes do if they differ from whole seconds by more than both bounds and the drift of the seconds
- * between. An interval longer than 980,000 us is forgotten, and a step of whole seconds is none. While at
- * each tick no two of three lines (three of five; not the one line) were untrue in the last 1.2 s,
- * the counter is as steady as `drift_us` says, and calls were in order, `strays` stays 0. A device
- * whose `strays` rise should be looked at: its lines, their delays, or the drift of its counter are
- * not what it was told. Seconds that lines vote are announced as before. Those that it would hold are
- * not, as nobody knows how far off they are, until as many seconds as `holdover` says, 1,000 at most
- * and one at least, were voted without another contradiction: so many are still wanted as `doubt`
- * says. Until then a second without a vote has the cause IRIG_CAUSE_HELD and is not announced.
+ * If lines were untrue before, all this holds again once a tick has told a second with
+ * `report.agreed` above 0, provided that no two of three lines were untrue at that tick and at each
+ * later one. That tick itself may have the cause IRIG_CAUSE_JUMP, or tell a second that is not
+ * later than a false one before it.
  *
- * `lines` says what each line is. A line that was true for the last 2.7 s is neither `apart` nor
- * `differed`, while what is announced is true. */
+ * The last two paragraphs hold, too, if a line counts as true that had one fault of any kind in
+ * each hundred pulses (docs/WIRES.md). Edges may then lie 2 * (within_us - 1) + 2 * drift_us
+ * further off than `bound_us`, which is less than 1.1 ms. Whatever lines carry, told edges lie at
+ * least half a second apart if calls were in order. docs/WIRES.md also says when it announces.
+ *
+ * Where the frames and the table lead to different seconds at a month's end, none is announced
+ * there, with the cause IRIG_CAUSE_LEAP_GUARD, unless the wires prefer frames. `against_table` is 1
+ * at each vote that contradicts the table on how the month ends (docs/LINES.md).
+ *
+ * `strays` counts the votes that contradict those before them: their edges differ from whole
+ * seconds by more than the sum of both bounds and the drift of the seconds between. A step of whole
+ * seconds is none. Frames whose first and last pulses are not 990 ms apart may count, too
+ * (docs/EXACTNESS.md has the rule). As long as at each tick no two of three lines (three of five;
+ * not the one line) were untrue in the last 1.2 s, the counter is as steady as `drift_us` says, and
+ * calls were in order, `strays` stays 0. If it rises, look at the device: its lines, their delays,
+ * or the drift of its counter are not what it was told. Seconds with a vote are announced as
+ * before. Seconds without one are not, since nobody knows how far off they are, until as many
+ * seconds were voted without another stray as `holdover` says, 1,000 at most and one at least.
+ * `doubt` says how many of these are still to come. Until then a second without a vote has the
+ * cause IRIG_CAUSE_HELD and is not announced.
+ *
+ * `lines` says what each line is (docs/LINES.md). A line that was true for the last 2.7 s is
+ * neither `apart` nor `differed`, as long as at each tick no two of three lines (three of five; not
+ * the one line) are untrue. */
 uint32_t irig_timekeeper_tick(irig_timekeeper *timekeeper, uint32_t now_us, irig_second *second);
 
-/* How long until a tick has something to do, in microseconds, if no call comes before it: 0 if it has
- * now. If lines agree, it is until the edge that a vote would tell. In a timekeeper that
- * irig_timekeeper_init made it is at most 1,005,000 at a time at which a tick may come, and above 0 if
- * no frames agree and no second is due. 0 where a tick would be refused: a loop that goes by it then
- * has to begin afresh. */
+/* How long it is until a tick has something to do, in microseconds, if no call comes before it: 0
+ * if it has now. If lines agree, it is the time until the edge of their vote. In a timekeeper that
+ * irig_timekeeper_init made it is at most 1,005,000 at a time at which a tick may come, and above 0
+ * if no frames agree and no second is due. It is 0, too, where a tick would be refused: a loop that
+ * goes by it then has to begin afresh. */
 uint32_t irig_timekeeper_wait(const irig_timekeeper *timekeeper, uint32_t now_us);
 
-/* The time of an event, by the second that was told last if it lies after that one's edge, as it was
- * told, else by the one before. These have to be announced, and the event comes at most a second
- * and the error of the edge after them; or before the edge that was told last, if that is less than
- * 1.5 s after the one before. Where a vote announces nothing, as at a jump, the one before is
- * forgotten: it may be false. Ask 5 ms to half a second after the event, when all ticks that were
- * due are told: its own second is told then, and no two after it. IRIG_FAULT_VALUE, also where a tick
- * would be refused.
+/* The time of an event. It is told by the second that was told last, if the event lies after its
+ * told edge, else by the second told before that one. That second has to be announced. The event
+ * comes at most a second and the bound after its edge; or before the edge that was told last, if
+ * that lies less than 1.5 s after the one before. Where a vote announces nothing, as at a jump, the
+ * second before is forgotten, since it may be false. Ask 5 ms to half a second after the event,
+ * when all ticks that were due have come: then its own second is told, and no two after it.
+ * IRIG_FAULT_VALUE if it has no stamp, and where a tick would be refused.
  *
- * In a timekeeper of which irig_timekeeper_tick's held seconds are true no event between the two
- * edges that were told last is without a stamp, if both seconds were announced and none was missed
- * between; nor one up to a second and the error of its edge after the last.
+ * In a timekeeper of which irig_timekeeper_tick's held seconds are true, each event between the two
+ * edges that were told last has a stamp, if both seconds were announced and none was missed
+ * between. So has one up to a second and the bound of its edge after the last.
  *
- * In a timekeeper of which irig_timekeeper_tick's held seconds are true the second began `offset_us`
- * before the event, to within `bound_us`, if a tick may come now and the event lies at most half an
- * hour back. If only ticks since a vote were true, the event has to come at that vote's edge or
- * later, unless that tick announced nothing. If lines with faults count as true, it is to within
- * `bound_us` and as much more. Stamps of one instant by two devices, each to within its `bound_us`, differ
- * by no more than the sum of both and the drift of two seconds of each device. */
+ * In a timekeeper of which irig_timekeeper_tick's held seconds are true the second began
+ * `offset_us` before the event, to within `bound_us`, if a tick may come now and the event lies at
+ * most half an hour back. If only ticks since a vote were true, the event has to come at that
+ * vote's edge or later, unless that tick announced nothing. If lines with faults count as true, it
+ * is to within `bound_us` and as much more as edges may lie further off. Stamps of one instant by
+ * two devices, each to within its `bound_us`, differ by no more than the sum of both and the drift
+ * of two seconds of each device. */
 uint32_t irig_timekeeper_stamp(const irig_timekeeper *timekeeper, uint32_t time_us,
                                irig_stamp *stamp);
 
-/* Says how long seconds are by the device's own counter: IRIG_DONE, or IRIG_FAULT_VALUE if nothing is
- * measured, since no second was counted since a vote or since one strayed (`strays`), or where a tick
- * would be refused. While all lines but f are true and the counter drifts no more than `drift_us`, the
- * mean of the last `seconds` lies between the least and the most. These differ by 2 ns and by the lengths
- * of two intervals in which votes left a true edge, over that time. */
+/* Says how long seconds are by the device's own counter: IRIG_DONE, or IRIG_FAULT_VALUE if nothing
+ * is measured, or where a tick would be refused. Nothing is measured as long as no second was
+ * counted after the first vote, or after one that strayed (`strays`), nor if votes lie too far back
+ * (docs/COUNTER.md). As long as all lines but f are true and the counter drifts no more than
+ * `drift_us`, the mean of the last `seconds` lies between the least and the most. These differ by
+ * at most 2 ns and the lengths of two intervals in which votes left a true edge, divided by the
+ * seconds. */
 uint32_t irig_timekeeper_rate(const irig_timekeeper *timekeeper, irig_rate *rate);
 
-/* What a line is as of the last tick, from the first pulse on and whether seconds are told or not:
- * what one looks at while a device is installed, or when it tells nothing. IRIG_FAULT_VALUE, also if
- * there is no such line, or where a tick would be refused.
+/* What a line is, as of the last tick and the pulses since. It is told from the first pulse on,
+ * whether seconds are told or not: look at it while a device is installed, or when it tells
+ * nothing. IRIG_FAULT_VALUE, also if there is no such line, or where a tick would be refused.
  *
- * In a timekeeper of which irig_timekeeper_tick's held seconds are true a line that was true for the
- * last 2.7 s is never IRIG_LINE_APART, nor IRIG_LINE_DIFFERED: one of which a tick says so was untrue. */
+ * In a timekeeper of which irig_timekeeper_tick's held seconds are true, a line that was true for
+ * the last 2.7 s is never IRIG_LINE_UNEVEN, IRIG_LINE_APART or IRIG_LINE_DIFFERED. So a line was
+ * untrue of which this is said. */
 uint32_t irig_timekeeper_line(const irig_timekeeper *timekeeper, uint8_t line,
                               irig_line_said *said);
 
 /* Forgets all that was heard and counted. A timekeeper that a tick refuses stays so. */
 void irig_timekeeper_restart(irig_timekeeper *timekeeper);
 
-/* The time quality that a device may send on of what lies off by so many microseconds at most, the
- * `bound_us` of a second that is announced or of a stamp, as IEEE 1344 and C37.118 number it: 4 of
- * 1 us, 5 of 10, 6 of 100, 7 of 1,000, 8 of 10,000, 9 of 100,000, 10 of 1,000,000, and 15 of more. It
- * is never 0 to 3: 0 says that a clock is locked to its source, which nobody knows by lines. */
+/* The time quality that a device may send on, as IEEE 1344 and C37.118 number it, of a time that is
+ * wrong by at most so many microseconds: the `bound_us` of a second that is announced, or of a
+ * stamp. It is 4 up to 1 us, 5 up to 10, 6 up to 100, 7 up to 1,000, 8 up to 10,000, 9 up to
+ * 100,000, 10 up to 1,000,000, and 15 above. It is never 0 to 3: 0 says that a clock is locked to
+ * its source, which nobody knows by lines (docs/EXACTNESS.md). */
 uint8_t irig_quality_of(uint32_t bound_us);
 
 #ifdef __cplusplus

@@ -18,9 +18,9 @@ uint32_t timer_now(void);
 /* Takes the second that begins at `second->edge_us`: what is said of it, and how many were missed. */
 void on_second(const irig_second *second);
 
-/* The alarm of a second, as a substation has it: `lost`, if none is announced; `untrusted`, if votes
- * contradicted one another of late, or the vote contradicts the leap table; `degraded`, if it is held, or a line is not as the others; or
- * none. */
+/* The alarm of a second, as a substation has it, the first of these that applies: `lost`, if none is
+ * announced; `untrusted`, if votes contradicted one another of late, or the vote contradicts the leap
+ * table; `degraded`, if the second is held, or a line neither agrees nor is unjudged; or none. */
 static inline const char *alarm_of(const irig_second *second) {
     const irig_masks *lines = &second->lines;
     if (!second->report.announces) return "lost";

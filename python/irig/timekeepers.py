@@ -53,8 +53,9 @@ class Line:
         further from that edge than a true line's frame; "differed", it claims another second
     told: what its last whole frame tells
     end_us: where that frame ends, or 0
-    off_us: how far that lies behind the told edge at which its second ended; of a line that is
-        unjudged, behind the end of the first other line's frame of that second; 0 if there is none
+    off_us: how far that lies behind the told edge at which its second ended, below 0 before it; as long
+        as no edge was told, behind the end of the first other line's frame of that second; 0 if there
+        is neither, as between a frame's last pulse and the tick at its edge
     """
 
     state: LineState
@@ -238,7 +239,8 @@ class Timekeeper(Ruled):
     def rate(self) -> Optional[Rate]:
         """How long the last seconds were by the counter, 2,000 of them at most. None until a second was
         counted behind the first vote, or behind one that contradicts those before it; while no interval
-        is known; and once no vote came for 2,000 s. What a tick would refuse is refused."""
+        is known; and once votes lie too far back, 2,000 s at most. What a tick would refuse is
+        refused."""
         held = c.Rate()
         if c.timekeeper_rate(self._held, held):
             self._refuse(c.Timekeeper.from_buffer_copy(self._held))
