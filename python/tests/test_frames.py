@@ -164,9 +164,10 @@ class Bits(unittest.TestCase):
             with self.subTest(word):
                 self.assertEqual(control.pack(), word)
                 self.assertEqual(irig.Control.unpack(word), control)
-        # 254, 256 and 258 are small numbers again where a byte holds them.
+        # -254, 256 and 258 are small numbers again where a byte holds them.
         offsets = [irig.Control(offset_half_hours=count) for count in (-32, 32, -254, 256, 258)]
-        for wrong in (irig.Control(quality=16), irig.Control(quality=256), *offsets):
+        flags = [irig.Control(**{name: 256}) for name in ("leap_pending", "leap_delete", "dst_pending", "dst")]
+        for wrong in (irig.Control(quality=16), irig.Control(quality=256), *offsets, *flags):
             self.assertRaises(irig.Fault, wrong.pack)
         self.assertRaisesRegex(irig.Fault, "quality is 16; 0 to 15 may", irig.Control(quality=16).pack)
         self.assertRaisesRegex(irig.Fault, "word is 262144; 0 to 262143", irig.Control.unpack, 1 << 18)

@@ -166,8 +166,10 @@ class Whole(unittest.TestCase):
         })
         self.assertEqual((rows[0]["second"], rows[0]["utc"], rows[0]["cause"]), (None, None, "no-vote"))
         leap = read_log("1 relay 2016-12-31T23:59:60Z locked voted\n" + KEPT).to_rows()
-        self.assertEqual((leap[0]["second"], leap[0]["utc"]), ("2016-12-31T23:59:60Z", None))
-        self.assertNotIn("port_0", leap[0])
+        self.assertEqual(leap, [{
+            "edge": 1, "reader": "relay", "second": "2016-12-31T23:59:60Z", "utc": None,
+            "lock": "locked", "count": 0, "cause": "voted",
+        }])
 
     def test_a_table_by_port(self) -> None:
         rows = read_log(LINES + KEPT).to_rows(by_port=True)

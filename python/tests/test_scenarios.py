@@ -133,6 +133,14 @@ class Lines(unittest.TestCase):
             ],
         )
 
+    def test_a_restart(self) -> None:
+        """What the reader counts begins anew, so that it announces nothing at edge 4."""
+        plant = Scenario("2016-06-15T12:00:00Z", [Reader("relay")])
+        plant.seconds(3)
+        plant.restart("relay")
+        plant.seconds(2)
+        self.assertEqual([line.split()[0] for line in log_of(plant.text())], ["2", "3", "5", "premises"])
+
     def test_more_seconds_than_a_line_holds(self) -> None:
         plant = Scenario("2016-06-15T12:00:00Z", [Reader("relay")])
         plant.seconds(250_000)

@@ -33,6 +33,12 @@ class OfTheProgram(unittest.TestCase):
         says = 'line 1: 27 Version: "version" is 4; 1, 2 or 3 may stand here'
         self.assertEqual(str(caught.exception), says)
 
+    def test_no_memory(self) -> None:
+        """The statuses of c/irig_scene.h: no memory for the log, and for the run."""
+        for status in (5, 6):
+            with mock.patch("irig._library.run_entries", lambda *words: status, create=True):
+                self.assertRaises(MemoryError, irig.run, example("plain_minute"))
+
     def test_runs_side_by_side(self) -> None:
         text, logs = example("dark_hour"), []
         threads = [threading.Thread(target=lambda: logs.append(irig.run(text))) for _ in range(4)]
