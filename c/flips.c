@@ -62,8 +62,8 @@ static void hear_reader(device *d, uint8_t port, uint32_t rise_us, uint32_t widt
 }
 
 static bool tick_reader(device *d, uint32_t now_us, told *t) {
-    irig_report report = {0};
-    if (irig_reader_tick(&d->reader, &report) == IRIG_FAULT_VALUE) return true;
+    irig_report report = {.announces = 1}; /* as the tick before may have left it */
+    if (irig_reader_tick(&d->reader, &report) == IRIG_FAULT_VALUE) return report.announces == 0;
     note(t, &report, (now_us + 500000) / 1000000);
     return false;
 }
@@ -85,7 +85,7 @@ static void hear_timekeeper(device *d, uint8_t line, uint32_t rise_us, uint32_t 
 }
 
 static bool tick_timekeeper(device *d, uint32_t now_us, told *t) {
-    irig_second second = {.is_told = 1}; /* as the tick before may have left it */
+    irig_second second = {.is_told = 1};
     irig_stamp stamp;
     if (irig_timekeeper_tick(&d->timekeeper, now_us, &second) == IRIG_FAULT_VALUE)
         return second.is_told == 0 && irig_timekeeper_wait(&d->timekeeper, now_us) == 0 &&
