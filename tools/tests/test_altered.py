@@ -195,6 +195,12 @@ RECORDS = {
     "short, one ahead": Record(
         (AGREES, BY_TWO, r"IRIG2 differs by \+18 s"), (GOOD, GPS, GOOD),
         scenario=False, skip_us=450_000, length_us=SHORT_US),
+    "short, the first zone and the last": Record(
+        (AGREES, BY_ALL), (Line(options=("--local=-24",)), GOOD, Line(options=("--local=28",))),
+        scenario=False, skip_us=450_000, length_us=SHORT_US),
+    "short, a stamp that is no time": Record(
+        (r"undecided: the record's stamp, 11/03/2025,14:22:60\.450000, is no time",), never=(AGREES,),
+        status=2, scenario=False, skip_us=450_000, length_us=SHORT_US, stamp="11/03/2025,14:22:60.450000"),
     "short, no second begins": Record(
         (r"undecided",), never=(r"stamp is", r"agrees", r"--within"),
         status=2, scenario=False, skip_us=300_000, length_us=400_000),

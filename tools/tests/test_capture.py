@@ -12,12 +12,14 @@ import subprocess
 import sys
 import tempfile
 import unittest
+import wave
 from collections.abc import Callable, Iterable, Iterator, Sequence
 from contextlib import redirect_stderr
 from dataclasses import dataclass, replace
 from functools import cache, cached_property
 from itertools import dropwhile, product
 from pathlib import Path
+from unittest import mock
 
 from loading import ROOT, InAFolder, loaded
 
@@ -25,6 +27,8 @@ import waves
 from case_files import all_cases
 from irig._library import IRIG
 from model.times import day_of_text
+from parts.changes import END
+from parts.listening import without_glitches
 from parts.recordings import open_recording
 from waves import Change
 
@@ -677,6 +681,15 @@ class Lines(unittest.TestCase):
              f"P   {1:8}  8.000 to 8.000 ms, mean 8.000", "one pulse alone is on it"],
         )
 
+    def test_a_few_pulses(self) -> None:
+        """Two of three gaps are of 10 ms, and one of two."""
+        for rises, last in (
+            ((500, 510, 520, 540), "no frame begins: never do two markers follow each other"),
+            ((500, 520, 530), ONE_MS.replace("1 ms", "20 ms") + ": another code, or a modulated one"),
+        ):
+            pulses = ((time * 1000 + after, level) for time in rises for after, level in ((0, 1), (2000, 0)))
+            self.assertEqual(self.said_of(self.replaced(pulses))[-1], last)
+
     def test_each_frame_loses_a_pulse(self) -> None:
         def but_one(change: Change) -> list[Change]:
             element = (change[0] - waves.FIRST_EDGE_US) % waves.SECOND_US // waves.ELEMENT_US
@@ -748,8 +761,14 @@ class Lines(unittest.TestCase):
         return changed
 
     def test_without_the_bits_of_ieee_1344(self) -> None:
-        said = self.said_of(wave_of("leap_inserted").line(1, self.cleared(50, 79)))
-        self.assertRegex(said[-1], "^its year and control bits are all 0, as of a clock without ")
+        """A clock of 2000 has its year 0 and bits in some frames; one without a leap second or an offset has
+        a year."""
+        for first, end, last in (
+            (50, 79, "its year and control bits are all 0, as of a clock without those of IEEE 1344"),
+            (50, 59, "a second is 0.0 ppm longer than one of the recorder"),
+            (60, 79, "a second is 0.0 ppm longer than one of the recorder"),
+        ):
+            self.assertEqual(self.said_of(wave_of("leap_inserted").line(1, self.cleared(first, end)))[-1], last)
 
     def test_without_straight_binary_seconds(self) -> None:
         lines = wave_of("plain_minute").of(self.cleared(80, 98))
@@ -771,6 +790,69 @@ class Lines(unittest.TestCase):
         ])
 
 
+class Tables(InAFolder):
+    """What stands above the rows of a table, and where edges are in what is below."""
+
+    def changes(self, text: str, threshold: float | None = None) -> list[tuple[float, int, int]]:
+        """Those of the first channel."""
+        path = self.folder / "a.csv"
+        path.write_text(text, encoding="utf-8")
+        return [(round(time, 6), place, level) for time, place, level in open_recording(path, threshold).changes([0])]
+
+    def test_rates(self) -> None:
+        """Of sigrok, where a row is a sample."""
+        for rate, step in ("5", 2e5), ("2.5 kHz", 400), ("2 MHz", 0.5), ("1 GHz", 0.001), ("10000 Hz", 100):
+            found = self.changes(f"; Samplerate: {rate}\nlogic\n0\n1\n1\n")
+            self.assertEqual(found, [(0, 0, 0), (step, 0, 1), (2 * step, END, 0)], rate)
+
+    def test_times(self) -> None:
+        """In the unit that the head names. Sigrok's own are whole, and cut: of 3 MHz each is 333 ns."""
+        for head, us in ("Time [s]", 1e6), ("Time (ms)", 1e3), ("time[\u00b5s]", 1), ("Time [ns]", 1e-3), ("Time", 1e6):
+            found = self.changes(f"{head},a\n-1,0\n2,1\n3,1\n")
+            self.assertEqual(found, [(-us, 0, 0), (2 * us, 0, 1), (3 * us, END, 0)], head)
+        found = self.changes("META samplerate: 3000000\nNanoseconds,a\n333,0\n666,1\n999000,1\n")
+        self.assertEqual(found, [(0, 0, 0), (0.333333, 0, 1), (round(2999 / 3, 6), END, 0)])
+
+    def test_volts_about_the_threshold(self) -> None:
+        """The most that they are off 2 V is 2 V, so that an edge has to pass it by 0.2 V."""
+        rows = enumerate((0, 2.1, 2.3, 1.9, 1.7, 2.1))
+        found = self.changes("Time [us],a\n" + "".join(f"{time},{volts}\n" for time, volts in rows), 2)
+        self.assertEqual(found, [(0, 0, 0), (2, 0, 1), (4, 0, 0), (5, END, 0)])
+
+    def test_levels_that_are_short_or_twice(self) -> None:
+        """A pulse of 20 us is none, and one that a dump says twice is one."""
+        changes = [(0, 0, 0), (100, 0, 1), (120, 0, 0), (200, 0, 1), (230, 0, 1), (300, 0, 0), (400, END, 0)]
+        found = list(without_glitches(changes, 50))
+        self.assertEqual(found, [(0, 0, 0), (200, 0, 1), (300, 0, 0), (400, END, 0)])
+
+
+class BySigrok(InAFolder):
+    """What sigrok-cli makes of a recording, by a stand-in that prints a text."""
+
+    def read(self, name: str, printed: str, status: int) -> list[tuple[float, int, int]]:
+        (self.folder / "printed").write_text(printed)
+        tool = self.folder / "sigrok-cli"
+        tool.write_text(f"#!/bin/sh\n/bin/cat '{self.folder}/printed'\nexit {status}\n")
+        tool.chmod(0o755)
+        with mock.patch.dict("os.environ", PATH=str(self.folder)):
+            return list(open_recording(self.folder / name, None).changes([0]))
+
+    def test_it_breaks_off(self) -> None:
+        dump = "$timescale 1 us $end $var wire 1 ! a $end $enddefinitions $end\n#0 0! #7 1!"
+        (self.folder / "a.sr").write_bytes(b"")
+        self.assertEqual(self.read("a.sr", dump, 0), [(0, 0, 0), (7, 0, 1), (7, END, 0)])
+        for printed, said in (dump, "broke off"), ("", "does not read it"):
+            self.assertRaisesRegex(ValueError, f"sigrok-cli {said}", self.read, "a.sr", printed, 1)
+
+    def test_sounds(self) -> None:
+        """Of 8 bits sigrok's numbers are 0 to 1, and of 16 bits -1 to 1."""
+        for bytes_each, changes in (1, [(0, 0, 0), (1000, 0, 1)]), (2, [(0, 0, 1)]):
+            with wave.open(str(self.folder / "a.wav"), "wb") as sound:
+                sound.setparams((1, bytes_each, 1000, 0, "NONE", ""))
+            found = self.read("a.wav", "; Samplerate: 1 kHz\na\n0.4\n0.6\n", 0)
+            self.assertEqual(found, [*changes, (1000, END, 0)])
+
+
 class Words(InAFolder):
     def refused(self, *words: object) -> str:
         ran = subprocess.run(
@@ -789,6 +871,7 @@ class Words(InAFolder):
             ("a.csv", "a,b,c\n0,0,0\n", "its first column is no time"),
             ("a.csv", "Time [s];a\n0,0;1\n", "no ',' stands between its columns"),
             ("a.csv", "Time [days],a\n0,0\n", "'days' is no unit of times"),
+            ("a.csv", "Time [s],a\n", "it has no row"),
             ("a.csv", "Time [s],a\n0,0\n0.1,2.7\n", "'2.7' is no level, 0 or 1"),
             ("a.csv", "Time [s],a,b,c\n0,0\n", "its row 1 has fewer columns than names"),
             ("a.csv", "Time [s],a\n0.2,0\n0.1,1\n", "its times go back"),

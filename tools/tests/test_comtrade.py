@@ -16,10 +16,11 @@ from pathlib import Path
 from loading import ROOT, InAFolder
 
 from parts.changes import Stamp
+from parts.comtrade import leap_field
 from parts.recordings import open_recording
 from test_capture import ONE_CLOCK_AHEAD, PROGRAM, Wave, trips_of, wave_of, wave_of_text
 
-from irig import Second
+from irig import Leap, Second
 
 END = -1
 HALF_PAST = Second.read("2026-11-24T09:30:00Z")
@@ -156,6 +157,13 @@ class Variants(InAFolder):
             (1000, END, 0)])
         self.assertEqual(self.changes(path, "V1", threshold=4), [(0, 0, 0), (1000, 0, 1), (1000, END, 0)])
 
+    def test_as_many_words_as_channels_need(self) -> None:
+        """Each has 16 channels; the last one of all rises at sample 2."""
+        for count, last in ((15, (0x4000,)), (16, (0x8000,)), (17, (0, 1)), (32, (0, 0x8000)), (33, (0, 0, 1))):
+            rows = numbers(f"<II{len(last)}H", (0,) * len(last), last)
+            path = self.pair(binary(0, count, "BINARY", 2), rows)
+            self.assertEqual(self.changes(path, f"D{count}"), [(0, 0, 0), (500, 0, 1), (500, END, 0)])
+
     def test_numbers_of_32_bits(self) -> None:
         """5,999 and 6,001 halves plus one are about 3,001 V; what is missing changes nothing."""
         for form, code, missing in (
@@ -195,12 +203,23 @@ class Variants(InAFolder):
             path = self.pair(NEW_CFG.replace("24/11/2026 , 09:30:00.25", text), NEW_DAT)
             self.assertIsNone(self.stamp(path).second)
 
+    def test_a_leap_second_in_it(self) -> None:
+        """From its first second to its last one, as the field of 2013 has it."""
+        leaps = [Leap("2016-12-31"), Leap("2029-06-30", "delete")]
+        for first, last, wanted in (
+            ("2016-12-31T23:59:58Z", "2016-12-31T23:59:59Z", 0), ("2016-12-31T23:59:58Z", "2016-12-31T23:59:60Z", 1),
+            ("2016-12-31T23:59:60Z", "2017-01-01T00:00:01Z", 1), ("2017-01-01T00:00:00Z", "2017-01-01T00:00:01Z", 0),
+            ("2029-06-30T23:59:57Z", "2029-06-30T23:59:58Z", 0), ("2029-06-30T23:59:58Z", "2029-07-01T00:00:00Z", 2),
+        ):
+            self.assertEqual(leap_field(Second.read(first), Second.read(last), leaps), wanted, first)
+
     def test_wrong_files(self) -> None:
         rows, two = numbers("<IIH", (0,), (1,)), binary(0, 1, "BINARY", 2)
         rates = "60\n1\n"
         for configuration, samples, reason in (
             (two, rows[:-1], "its samples end with number 1, where it says 2: it is cut off"),
             (two, b"", "its samples end with number 0, where it says 2"),
+            (FREE_CFG.replace("0\n0,3\n", "0\n"), b"", "its samples end with number 0, where it says 0: it is cut off"),
             (OLD_CFG, OLD_DAT.split("     3")[0], "its samples end with number 2, where it says 4"),
             (OLD_CFG.replace("ASCII", "FLOAT64"), OLD_DAT, "line 11 of its configuration: 'FLOAT64' is none of"),
             (OLD_CFG.replace(rates, "60\nmany\n"), OLD_DAT, "line 7 of its configuration: 'many' is no number"),
@@ -471,9 +490,11 @@ class Short(InAFolder):
             self.decided("agrees within 1.3 ms by 3 of 3 lines", record, 1.45, 1.5)
 
     def test_clocks_that_are_off(self) -> None:
-        fault = '{"do":"fault","g":1,"kind":"quality","q":10}\n{"do":"fault","g":2,"kind":"quality","q":12}'
-        self.undecided("IRIG2 says itself that its clock is off by a second or more; IRIG3 says",
-                       replace(GOOD, lines=self.sent(fault)), 1.45, 1.5)
+        """A quality of 9 is 100 ms, of 10 a second; 12 to 15 have another bit in common."""
+        faults = (f'{{"do":"fault","g":{of},"kind":"quality","q":{q}}}' for of, q in enumerate((9, 10, 12)))
+        self.undecided("IRIG1 has the recording begin at 2026-11-24T09:30:01.400Z; "
+                       "IRIG2 says itself that its clock is off by a second or more; IRIG3 says",
+                       replace(GOOD, lines=self.sent("\n".join(faults))), 1.45, 1.5)
 
     @staticmethod
     def sent(event: str) -> Wave:
