@@ -229,21 +229,25 @@ def run_of(name: str) -> Run:
 
 
 class Heard(NamedTuple):
-    """What a reader's port told of a line: where each frame begins and what it tells of it, and
-    where the pulses out of step rise."""
+    """What a reader's port told of a line: where each frame begins and what it tells of it, and where the
+    pulses out of step rise; and the steps from pulse to pulse of a frame that are not of 9 to 11 ms."""
 
     frames: list[tuple[int, str]]
     out: list[int]
+    late: list[tuple[int, int]]
 
 
 def heard(pulses: Iterable[Pulse], rules: Rules) -> Heard:
     """What a port tells before a frame begins, and where `irig.Sync` says that none goes on."""
     reader = irig.Reader(parity=rules.parity, sense=rules.sense, sbs=rules.sbs)
     sync = irig.Sync()
-    found, begin, place = Heard([], []), 0, 0
+    found, begin, place, last = Heard([], [], []), 0, 0, 0
     for rise, width in pulses:
         told, before, place = str(reader.port(0)), place, sync.pulse(rise, width)
         assert reader.hear(0, rise, width) == place
+        if before and not 9_000 <= rise - last < 11_000:
+            found.late.append((last, rise))
+        last = rise
         if before and place < 2:
             found.frames.append((begin, in_words(told)))
         if place == 0:
@@ -396,17 +400,50 @@ class Frames(unittest.TestCase):
         return [waves.WIDTHS.get(letter, 300) for letter in letters]
 
     def compare(self, told: list[str], begin: int, said: list[Said]) -> None:
+        def is_at(one: Said, first: int, last: int) -> None:
+            places = (time - begin for time in one[:2])
+            self.assertEqual([*places], [waves.ELEMENT_US * first, waves.ELEMENT_US * (last + 1)], one.text)
+
         (verdict,) = verdicts(said)
         self.assertEqual(verdict.text, in_words(told[-1]))
-        if place := re.fullmatch(r"fault [34] \w+ (\d+)", told[-1]):
-            rise = begin + waves.ELEMENT_US * int(place[1])
-            self.assertEqual(verdict[:2], (rise, rise + waves.ELEMENT_US))
+        is_at(verdict, *elements_of(told[-1]))
         if told[0].startswith("coded"):
-            fields = [one.text for one in said if one.text.split(":")[0] in FIELDS]
-            self.assertEqual(fields, fields_of(*told))
+            fields = [one for one in said if one.text.split(":")[0] in FIELDS]
+            self.assertEqual([one.text for one in fields], fields_of(*told))
+            for one in fields:
+                is_at(one, *FIELDS[one.text.split(":")[0]])
+        for one in said:
+            if element := re.search(": element (.*)", one.text):
+                is_at(one, int(element[1]), int(element[1]))
 
 
-FIELDS = {text.split(":")[0] for text in fields_of("2000-001 00:00:00 control 0 sbs 0", "")}
+# The first and the last element of each field, by docs/FRAME.md.
+FIELDS = {
+    "Second": (1, 8), "Minute": (10, 17), "Hour": (20, 26), "Day of the year": (30, 41), "Year": (50, 58),
+    "Leap second": (60, 61), "Daylight saving": (62, 63), "Offset": (64, 70), "Time quality": (71, 74),
+    "Parity": (75, 75), "Straight binary seconds": (80, 97),
+}
+
+
+def elements_of(told: str) -> tuple[int, int]:
+    """The first and the last element that a port speaks of."""
+    word = told.split()[-1]
+    match told.split()[:2]:
+        case ["fault", "1"]:
+            return 0, int(word) - 1
+        case ["fault", "3" | "4"]:
+            return int(word), int(word)
+        case ["fault", "5" | "6"]:
+            return FIELDS["Day of the year" if word == "day" else word.capitalize()]
+        case ["fault", number]:
+            return {"7": (30, 41), "8": (30, 58), "9": (1, 8), "10": (60, 61), "17": (1, 75), "18": (80, 97)}[number]
+    return 0, 99
+
+
+def shown(pulse: Pulse) -> Said:
+    """A pulse as the decoder has to show it."""
+    name = {"P": "Marker", "?": "Bad pulse"}.get(letter := symbol_of(pulse.width_us), letter)
+    return Said(pulse.rise_us, sum(pulse), f"{name}: {pulse.width_us / 1000:.2f} ms")
 
 
 class Lines(unittest.TestCase):
@@ -423,7 +460,9 @@ class Lines(unittest.TestCase):
         self, said: list[Said], pulses: Sequence[Pulse], rules: Rules = Rules()
     ) -> None:
         wanted = heard(pulses, rules)
+        self.assertEqual({one for one in said if one.text.endswith(" ms")} ^ set(map(shown, pulses)), set())
         self.assertEqual([one.begin_us for one in said if one.text == "Out of step"], wanted.out)
+        self.assertEqual([one[:2] for one in said if one.text.startswith("Not on time")], wanted.late)
         texts = [one.text for one in verdicts(said)]
         self.assertEqual(texts, [text for _, text in wanted.frames])
         for one, (begin, _) in zip(verdicts(said), wanted.frames):
