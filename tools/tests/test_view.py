@@ -226,11 +226,14 @@ class InBrowser(browser.Driven):
 
     def test_utc_and_offsets(self) -> None:
         """The plant starts at 23:59:50: edge 10 is the leap second, and a clock that has none is 17 s ahead of
-        23:59:59, and 18 s of 23:59:60."""
+        23:59:59, and 18 s of 23:59:60. At edge 11, whose second is 00:00:00, another tells 23:59:60."""
         plant = '{"start":"2016-12-31T23:59:50Z","leaps":[{"day":"2016-12-31","kind":"insert"}]}\n'
-        ports = " 10 relay ok 2017-01-01T00:00:16Z ok", " 11 relay 2016-12-31T23:59:59Z 2017-01-01T00:00:17Z ok"
-        lines = LOG.splitlines()[:-1]
-        lines[19:20], lines[22:22] = [ports[0], lines[19]], [ports[1]]
+        ports = {
+            "10 meter": " 10 relay ok 2017-01-01T00:00:16Z ok",
+            "11 meter": " 11 relay 2016-12-31T23:59:59Z 2017-01-01T00:00:17Z ok",
+            "12 meter": " 12 relay 2016-12-31T23:59:60Z 2017-01-02T00:00:00Z ok",
+        }
+        lines = [one for line in LOG.splitlines()[:-1] for one in (ports.get(line[:8]), line) if one]
         self.open(plant, "\n".join([*lines, "13 relay 2017-01-01T01:30:02Z locked voted"]))
         self.assertEqual(
             self.text("range"), "edges 1 to 13 of 1 to 13, 2016-12-31T23:59:51Z to 2017-01-01T00:00:02Z"
@@ -239,6 +242,7 @@ class InBrowser(browser.Driven):
             (3, "edge 3 is 2016-12-31T23:59:53Z"),
             (10, "10 relay 2016-12-31T23:59:60Z locked voted\nports: ok 2017-01-01T00:00:16Z (17 s ahead) ok"),
             (11, "ports: 2016-12-31T23:59:59Z (1 s behind) 2017-01-01T00:00:17Z (18 s ahead) ok"),
+            (12, "ports: 2016-12-31T23:59:60Z (1 s behind) 2017-01-02T00:00:00Z (1 d ahead) ok"),
             (13, "13 relay 2017-01-01T01:30:02Z (1 h 30 min ahead) locked voted\nedge 13 is 2017-01-01T00:00:02Z"),
         ):
             self.set("edge", str(edge))
@@ -248,6 +252,24 @@ class InBrowser(browser.Driven):
             " timeline.draw(); delete ruler.fillText; return written; })()"
         )
         self.assertLessEqual({"UTC", "10", "23:59:60", "2016-12-31", "00:00:00", "2017-01-01"}, set(written))
+
+    def test_utc_across_leap_seconds(self) -> None:
+        """From July to the end of 2016 are 184 days."""
+        half_year = 184 * 86_400
+        inserted = [{"day": day, "kind": "insert"} for day in ("2016-12-31", "2016-06-30")]
+        for start, leaps, edge, wanted in (
+            ("2016-06-30T23:59:59Z", inserted, 1, "2016-06-30T23:59:60Z"),
+            ("2016-06-30T23:59:59Z", inserted, half_year + 1, "2016-12-31T23:59:59Z"),
+            ("2016-06-30T23:59:59Z", inserted, half_year + 2, "2016-12-31T23:59:60Z"),
+            ("2016-06-30T23:59:59Z", inserted, half_year + 3, "2017-01-01T00:00:00Z"),
+            ("2016-12-31T23:59:60Z", inserted, 1, "2017-01-01T00:00:00Z"),
+            ("2017-01-01T00:00:00Z", inserted, 0, "2017-01-01T00:00:00Z"),
+            ("2029-06-30T23:59:57Z", [{"day": "2029-06-30", "kind": "delete"}], 1, "2029-06-30T23:59:58Z"),
+            ("2029-06-30T23:59:57Z", [{"day": "2029-06-30", "kind": "delete"}], 2, "2029-07-01T00:00:00Z"),
+            ("noon", [], 0, ""),
+        ):
+            plant = json.dumps({"start": start, "leaps": leaps})
+            self.assertEqual(self.page.ask(f"clock_of(['', {plant!r}])({edge})"), wanted)
 
     def test_search_by_cause(self) -> None:
         self.set("cause", "jump")
@@ -272,6 +294,8 @@ class InBrowser(browser.Driven):
         self.set("text", "23:59:60")
         self.press("text", "Enter")
         self.assertTrue(self.text("line").startswith("10 relay 2016-12-31T23:59:60Z"))
+        self.press("text", "Enter")
+        self.assertTrue(self.text("line").startswith("10 relay 2016-12-31T23:59:60Z"), "and round")
 
     def test_lists(self) -> None:
         self.press("log", "End")
