@@ -179,7 +179,7 @@ class Search(NamedTuple):
         if stamp.second is None or not _is_time(stamp, known):
             raise ValueError(f"undecided: the record's stamp, {stamp.text}, is no time")
         leaps: List[Sequence[Leap]] = [known]
-        end = stamp.second.plus(-within).day
+        end = stamp.second.day - (stamp.second.sod < within)
         if not known and is_month_end(end):
             leaps += [[Leap(day_text(end), kind)] for kind in KINDS[: 1 if stamp.second.is_leap else 2]]
         return cls(stamp, within, leaps, reading)
@@ -276,12 +276,21 @@ def _fitting(seen: Seen, search: Search) -> List[Zero]:
     """The beginnings of a recording that fit all that is seen of a line."""
     found: Dict[Tuple[int, Second], Zero] = {}
     for leaps, away in product(search.leaps, range(-search.within, search.within + 1)):
-        told = Zero.of(search.stamp, leaps)
-        second = told.second.plus(round((told.after_us + seen.begins_us) / 1e6) + away, leaps)
-        if _fits(seen, second, leaps, search.reading):
-            zero = Zero.behind(second, -seen.begins_us, leaps)
+        zero = _fitting_at(seen, search, leaps, away)
+        if zero:
             found.setdefault((away, zero.second), zero)
     return list(found.values())
+
+
+def _fitting_at(seen: Seen, search: Search, leaps: Sequence[Leap], away: int) -> Optional[Zero]:
+    """That so many seconds away from the stamp, if it fits. A second that is not served fits nothing."""
+    told = Zero.of(search.stamp, leaps)
+    try:
+        second = told.second.plus(round((told.after_us + seen.begins_us) / 1e6) + away, leaps)
+        fits = _fits(seen, second, leaps, search.reading)
+        return Zero.behind(second, -seen.begins_us, leaps) if fits else None
+    except Fault:
+        return None
 
 
 def _fits(seen: Seen, second: Second, leaps: Sequence[Leap], reading: Reading) -> bool:
@@ -301,7 +310,4 @@ def _fits_in(zone: int, seen: Seen, seconds: Dict[int, Second], reading: Reading
 
 @lru_cache(maxsize=1 << 17)
 def _frame(second: Second, zone: int, sense: Sense) -> str:
-    try:
-        return frame(second, zone, sense=sense).replace(" ", "")
-    except Fault:
-        return "?" * 100  # it has no frame, which fits nothing
+    return frame(second, zone, sense=sense).replace(" ", "")

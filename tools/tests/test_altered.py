@@ -198,6 +198,10 @@ RECORDS = {
     "short, the first zone and the last": Record(
         (AGREES, BY_ALL), (Line(options=("--local=-24",)), GOOD, Line(options=("--local=28",))),
         scenario=False, skip_us=450_000, length_us=SHORT_US),
+    "short, the first day that is served": Record(
+        (AGREES, BY_ALL), first="2000-01-02T00:00:05", scenario=False, skip_us=450_000, length_us=SHORT_US),
+    "short, the last day that is served": Record(
+        (AGREES, BY_ALL), first="2099-12-30T23:59:50", scenario=False, skip_us=450_000, length_us=SHORT_US),
     "short, a stamp that is no time": Record(
         (r"undecided: the record's stamp, 11/03/2025,14:22:60\.450000, is no time",), never=(AGREES,),
         status=2, scenario=False, skip_us=450_000, length_us=SHORT_US, stamp="11/03/2025,14:22:60.450000"),
