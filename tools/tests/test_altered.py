@@ -189,6 +189,9 @@ RECORDS = {
         ("IRIG2" + MOST + "-10 h", r"'subtract' it would be 2025-03-11T14:22:08Z", AGREES),
         (GOOD, Line(options=("--local=-10", "--sense=subtract")), GOOD),
         (ANOTHER + "10 h behind",)),
+    "an offset in the leap second": Record(
+        (r"offset of -1:00, read by 'add' as " + LEAP + "60Z; by 'subtract' it would be fault 9 Second60", AGREES),
+        (GOOD, Line(options=("--local=2",)), GOOD), never=(DIFFERS, TOLD), first=LEAP + "59", skip_us=900_000),
     "short, stamp early": Record(
         (r"stamp is 3\.000 s early by 3 of 3 lines",),
         scenario=False, skip_us=450_000, length_us=SHORT_US, late_us=-3_000_000),

@@ -682,13 +682,16 @@ class Lines(unittest.TestCase):
         )
 
     def test_a_few_pulses(self) -> None:
-        """Two of three gaps are of 10 ms, and one of two."""
-        for rises, last in (
-            ((500, 510, 520, 540), "no frame begins: never do two markers follow each other"),
-            ((500, 520, 530), ONE_MS.replace("1 ms", "20 ms") + ": another code, or a modulated one"),
+        """Two of three gaps are of 10 ms, and one of two. Of the last ones none is a zero."""
+        for rises, widths, last in (
+            ((500, 510, 520, 540), (2, 2, 2, 2), "no frame begins: never do two markers follow each other"),
+            ((500, 520, 530), (2, 2, 2), ONE_MS.replace("1 ms", "20 ms") + ": another code, or a modulated one"),
+            ((500, 510, 520), (8, 5, 5), "no pulse of 2 ms is on it: a filter of its input, of milliseconds, takes"
+                                         " them away"),
         ):
-            pulses = ((time * 1000 + after, level) for time in rises for after, level in ((0, 1), (2000, 0)))
-            self.assertEqual(self.said_of(self.replaced(pulses))[-1], last)
+            ends = [1000 * (rise + width) for rise, width in zip(rises, widths)]
+            changes = [*((1000 * rise, 1) for rise in rises), *((end, 0) for end in ends)]
+            self.assertEqual(self.said_of(self.replaced(changes))[-1], last)
 
     def test_each_frame_loses_a_pulse(self) -> None:
         def but_one(change: Change) -> list[Change]:
