@@ -298,8 +298,12 @@ class InBrowser(browser.Driven):
         self.assertTrue(self.text("line").startswith("10 relay 2016-12-31T23:59:60Z"), "and round")
 
     def test_lists(self) -> None:
-        self.press("log", "End")
-        self.assertEqual(self.text("line"), "premises broken: edge 3 reader relay")
+        for keys in (("Home",), ("ArrowUp",), ("PageUp",), ("PageDown", "PageUp")):
+            self.press("log", *keys)
+            self.assertTrue(self.text("line").startswith("1 relay"), keys)
+        for keys in (("End",), ("ArrowDown",), ("PageDown",), ("PageUp", "PageDown")):
+            self.press("log", *keys)
+            self.assertEqual(self.text("line"), "premises broken: edge 3 reader relay", keys)
         self.press("log", "ArrowUp")
         self.assertTrue(self.text("line").startswith("12 meter"))
         self.press("scenario", "End", "ArrowUp")
