@@ -175,7 +175,8 @@ typedef struct irig_setup {
                           * weeks began anew */
     uint8_t poor_from;   /* the quality from which a frame has no vote. Of a reader it is 1 to 10, and
                           * 0 is 10. Of a timekeeper it is 1 to 8, and 0 is 7: by 7 a clock has none
-                          * that says of itself that it may be 1 ms off, by 8 one that may be 10 ms */
+                          * that says of itself that it may be 1 ms off, by 8 one that may be 10 ms;
+                          * what those that have one say of themselves is in the bound of a vote */
 } irig_setup;
 IRIG_ASSERT((sizeof(irig_setup) == 16u) && (offsetof(irig_setup, holdover) == 8u) &&
             (offsetof(irig_setup, not_before) == 12u) && (offsetof(irig_setup, poor_from) == 14u));
@@ -403,8 +404,8 @@ typedef struct irig_timekeeper {
     uint32_t moved;        /* how often lines moved that edge since */
     uint8_t has_edge;      /* 0 if none was counted */
     uint8_t has_interval;  /* 0 if there is no such interval as begins at `begin_us` */
-    uint16_t bound_us;     /* how many us the edge of the last vote may lie from the true one, 899
-                            * at most */
+    uint16_t bound_us;     /* how many us the edge of the last vote may lie from the true one,
+                            * 2,899 at most */
     irig_announced last;   /* that second, if it was announced */
     irig_announced before; /* the one counted before it, if it was */
     irig_announced ended;  /* the second that ended at the last edge, if it was voted or held */
@@ -450,7 +451,7 @@ typedef struct irig_second {
                             * day, and the table says otherwise; else 0 */
     uint32_t edge_us;   /* when it begins by the counter, never ahead of the tick */
     uint32_t bound_us;  /* how many us from its true edge that may lie, if the second is announced:
-                         * what irig_timekeeper_tick says, 490,899 at most */
+                         * what irig_timekeeper_tick says, 492,899 at most */
     uint32_t missed;    /* seconds that passed untold before it, as no tick came */
     uint32_t moved;     /* how often lines moved the edge since the second that was told before */
     uint32_t strays;    /* how many votes contradicted those before them, since the timekeeper was
@@ -477,7 +478,8 @@ enum {
     IRIG_LINE_POOR = 4,     /* its clock is too inexact to vote, as it says itself */
     IRIG_LINE_UNJUDGED = 5, /* it claims a second, and none is told yet to compare it with */
     IRIG_LINE_AGREED = 6,   /* it claims the second that ended at the told edge, and ends there */
-    IRIG_LINE_APART = 7,    /* it claims it, but ends further off than a true line's frame */
+    IRIG_LINE_APART = 7,    /* it claims it, but ends further off than a true line's frame of its
+                             * quality */
     IRIG_LINE_DIFFERED = 8  /* it claims another second */
 };
 
@@ -503,7 +505,7 @@ typedef struct irig_stamp {
     uint32_t sod;
     uint32_t offset_us; /* from where the second begins to the event, by the counter */
     uint32_t bound_us;  /* how far from the true instant the two may lie, by the counter: that of the
-                         * second's edge, 490,899 at most */
+                         * second's edge, 492,899 at most */
 } irig_stamp;
 IRIG_ASSERT((sizeof(irig_stamp) == 16u) && (offsetof(irig_stamp, bound_us) == 12u));
 
@@ -712,20 +714,24 @@ uint32_t irig_timekeeper_init(irig_timekeeper *timekeeper, const irig_setup *set
 uint8_t irig_timekeeper_hear(irig_timekeeper *timekeeper, uint8_t line, uint32_t rise_us,
                              uint32_t width_us);
 
-/* Says which second begins, if one has begun since the last call. Frames have the vote if enough of
- * them claim one second and end within 2 * (within_us - 1) us of each other, 898 at most. If there
- * is no vote, the counter alone counts a second, 5 ms after its edge. `now_us` is the time up to
- * which pulses were told (above): it is not before the last tick's, nor more than 4 ms before the
- * rise of a pulse that was told. IRIG_FAULT_VALUE as irig_reader_tick answers it; then the second
- * is silent, and irig_timekeeper_init begins afresh.
+/* Says which second begins, if one has begun since the last call. The edge of a true line lies at
+ * most within_us - 1 from the end of its frame, and as much more as the frame says by its time
+ * quality that its clock may be off: 0 us by quality 0, 1 by 1 to 4, 10 by 5, 100 by 6 and 1,000 by
+ * 7. Frames have the vote if enough of them claim one second and these intervals have a time in
+ * common. If there is no vote, the counter alone counts a second, 6 ms after its edge. `now_us` is
+ * the time up to which pulses were told (above): it is not before the last tick's, nor more than
+ * 4 ms before the rise of a pulse that was told. IRIG_FAULT_VALUE as irig_reader_tick answers it;
+ * then the second is silent, and irig_timekeeper_init begins afresh.
  *
- * The edge that a vote tells lies in the middle between two ends of frames of that claim: that by
- * which enough end, and that from which on enough do (docs/EXACTNESS.md). A call takes the vote
- * from that edge on, for 98 ms at least. `bound_us` is the sum of within_us - 1, of 1 if drift_us
- * is not 0, and of half the distance between these two ends, rounded up. With a drift it is
- * within_us if all lines claim that second and none ends more than a millisecond before the others,
- * since then the middle one of their ends is both. Otherwise it is 2 * within_us - 1 at most. So at
- * a within_us of 450 it is 450 to 899, and at 10 it is 10 to 19.
+ * The edge that a vote tells lies in the middle between two times: that from which on the intervals
+ * of enough frames of that claim begin, and that by which enough end (docs/EXACTNESS.md). A call
+ * takes the vote from that edge on, for 94 ms at least. `bound_us` is half the distance between
+ * these two times, rounded up, and 1 more if drift_us is not 0. By clocks of one quality, and with
+ * a drift, it is within_us and what the quality says, if all lines claim that second and none ends
+ * more than 3 ms before the others, since then both times are by the middle one of their ends.
+ * Otherwise it may be almost twice as much. So by clocks that say quality 0 it is 450 to 899 at a
+ * within_us of 450, and 10 to 19 at 10. At 450 it is 1,099 at most by clocks of any quality below
+ * 7, and 2,899 at most with a `poor_from` of 8.
  *
  * If it answers 0, a second that is announced with the cause IRIG_CAUSE_VOTED is the true one, and
  * its true edge lies no more than `bound_us` from `edge_us`, provided that the counter is at most
@@ -746,10 +752,12 @@ uint8_t irig_timekeeper_hear(irig_timekeeper *timekeeper, uint8_t line, uint32_t
  * later one. That tick itself may have the cause IRIG_CAUSE_JUMP, or tell a second that is not
  * later than a false one before it.
  *
- * The last two paragraphs hold, too, if a line counts as true that had one fault of any kind in
- * each hundred pulses (docs/WIRES.md). Edges may then lie 2 * (within_us - 1) + 2 * drift_us
- * further off than `bound_us`, which is less than 1.1 ms. Whatever lines carry, told edges lie at
- * least half a second apart if calls were in order. docs/WIRES.md also says when it announces.
+ * The last two paragraphs hold, too, if a line counts as true whose clock is off UTC, but by no
+ * more than the time quality of its frames says. So they do if one counts as true that had one
+ * fault of any kind in each hundred pulses (docs/WIRES.md): edges may then lie
+ * 2 * (within_us - 1) + 2 * drift_us further off than `bound_us`, which is less than 1.1 ms.
+ * Whatever lines carry, told edges lie at least half a second apart if calls were in order.
+ * docs/WIRES.md also says when it announces.
  *
  * Where the frames and the table lead to different seconds at a month's end, none is announced
  * there, with the cause IRIG_CAUSE_LEAP_GUARD, unless the wires prefer frames. `against_table` is 1
@@ -774,7 +782,7 @@ uint32_t irig_timekeeper_tick(irig_timekeeper *timekeeper, uint32_t now_us, irig
 
 /* How long it is until a tick has something to do, in microseconds, if no call comes before it: 0
  * if it has now. If lines agree, it is the time until the edge of their vote. In a timekeeper that
- * irig_timekeeper_init made it is at most 1,005,000 at a time at which a tick may come, and above 0
+ * irig_timekeeper_init made it is at most 1,006,000 at a time at which a tick may come, and above 0
  * if no frames agree and no second is due. It is 0, too, where a tick would be refused: a loop that
  * goes by it then has to begin afresh. */
 uint32_t irig_timekeeper_wait(const irig_timekeeper *timekeeper, uint32_t now_us);
@@ -783,7 +791,7 @@ uint32_t irig_timekeeper_wait(const irig_timekeeper *timekeeper, uint32_t now_us
  * told edge, else by the second told before that one. That second has to be announced. The event
  * comes at most a second and the bound after its edge; or before the edge that was told last, if
  * that lies less than 1.5 s after the one before. Where a vote announces nothing, as at a jump, the
- * second before is forgotten, since it may be false. Ask 5 ms to half a second after the event,
+ * second before is forgotten, since it may be false. Ask 6 ms to half a second after the event,
  * when all ticks that were due have come: then its own second is told, and no two after it.
  * IRIG_FAULT_VALUE if it has no stamp, and where a tick would be refused.
  *

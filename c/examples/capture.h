@@ -68,7 +68,7 @@ typedef struct queued {
  * nothing has to be restarted. Seconds are held until frames come whole again. */
 bool take_queued(queued *oldest);
 
-/* Takes the time of an event, 5 ms later or more. Of events that lie closer the first alone has one. */
+/* Takes the time of an event, 6 ms later or more. Of events that lie closer the first alone has one. */
 void on_event(const irig_stamp *stamp);
 
 /* Begins, as `capture_init` does. */

@@ -3,7 +3,7 @@
 #include "capture.h"
 
 /* How long behind its edge a second is told at the latest. An event waits as long for its second. */
-static const uint32_t LATEST_US = 5000;
+static const uint32_t LATEST_US = 6000;
 
 static irig_setup setup;
 static irig_table table;

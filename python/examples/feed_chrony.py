@@ -1,16 +1,16 @@
 """Feeds a chronyd with what a timekeeper says of IRIG-B lines, by chrony's reference clock SOCK:
 
-    refclock SOCK /run/chrony.irig.sock refid IRIG poll 2 delay 0.0018
+    refclock SOCK /run/chrony.irig.sock refid IRIG poll 2 delay 0.0022
 
 in chrony.conf, and then `capture | python3 feed_chrony.py /run/chrony.irig.sock`. What captures three
 lines writes a row `line,rise_us,width_us` when a pulse has ended, by CLOCK_MONOTONIC, which does not
-wrap. The delay is twice the most bound of a voted edge, 899 us. Of three clocks 123.456 ms ahead of the
+wrap. The delay is twice the most bound of a voted edge, 1,099 us. Of three clocks 123.456 ms ahead of the
 system's (tests/chrony) `chronyc tracking` of chrony 4.3 then says
 
     Reference ID    : 49524947 (IRIG)
     Stratum         : 1
     System time     : 0.123452038 seconds slow of NTP time
-    Root delay      : 0.001800000 seconds
+    Root delay      : 0.002200000 seconds
     Leap status     : Normal
 
 **An example, of which nothing is promised**: how well a pulse is captured, when its row is read, and

@@ -50,7 +50,8 @@ class Line:
         1.5 s; by its last whole frame "faulty", "uneven", if its first and last pulse did not rise 990 ms
         apart, or "poor"; "unjudged", it claims a second, and none is told yet to compare it with;
         "agreed", it claims the second that ended at the told edge, and ends there; "apart", it ends
-        further from that edge than a true line's frame; "differed", it claims another second
+        further from that edge than a true line's frame of its time quality; "differed", it claims
+        another second
     told: what its last whole frame tells
     end_us: where that frame ends, or 0
     off_us: how far that lies behind the told edge at which its second ended, below 0 before it; as long
@@ -132,9 +133,15 @@ class Timekeeper(Ruled):
     true edge lies at most `bound_us` from `edge_us`, if no two of its three lines (three of five;
     not the one) were untrue in the last 1.2 s. One with the cause "held" is true if that was so at
     each tick, the counter is as steady as `drift_us` says, and the leap table is right or `holdover`
-    at most 57. The `bound_us` of a vote is `within_us` if all lines claim the second, or enough of
-    them end together, and less than twice that else: by 450 it is 450 to 899 us, by 10 it is 10 to
-    19; 1 less if `drift_us` is 0. For each second since the last vote it is `drift_us` more.
+    at most 57. By clocks that say time quality 0 the `bound_us` of a vote is `within_us` if all lines
+    claim the second, or enough of them end together, and less than twice that else: by 450 it is 450
+    to 899 us, by 10 it is 10 to 19; 1 less if `drift_us` is 0. For each second since the last vote it
+    is `drift_us` more.
+
+    A frame may end further off by what its clock says of itself: 1 us by quality 1 to 4, 10 by 5, 100
+    by 6 and 1,000 by 7. That is in the bound. If all clocks say 5, a vote's bound is 20 to 39 us by a
+    `within_us` of 10. It is never above 1,099 us, or 2,899 us if `poor_from` is 8
+    (docs/EXACTNESS.md).
 
     Votes contradict one another if they differ from whole seconds by more than the sum of their
     bounds and the drift of the seconds between. `strays` counts those that contradict the ones before
@@ -145,7 +152,7 @@ class Timekeeper(Ruled):
 
     within_us: how exact lines are that are true: each of their pulses rises less than so many
         microseconds from its place, by the counter, 1 to 450. Enough lines have to end within
-        2 * (within_us - 1) for a vote
+        2 * (within_us - 1) for a vote, or further apart by what their clocks say of themselves
     drift_us: the most by which its counter is wrong, in microseconds a second, 0 to 100; then
         (holdover + 2) * drift_us may be 490,000 at most
     delay_us: how many microseconds later than at its clock each line's pulses rise here, -4,000 to
@@ -153,7 +160,8 @@ class Timekeeper(Ruled):
     prefers_frames: whether it follows the frames where they contradict its leap table on a leap second.
         Else it is silent at the second where the two part, and locks anew
     poor_from: the time quality from which a frame has no vote, 1 to 8. By 7 a clock has none that says
-        of itself that it may be 1 ms off, and by 8 one that may be 10 ms off
+        of itself that it may be 1 ms off, and by 8 one that may be 10 ms off. It limits bounds: set it
+        as low as the clocks allow
 
     What else it takes is what a `Reader` takes, and a port is a line.
     """

@@ -55,8 +55,8 @@ class Ticks(unittest.TestCase):
             (3, 450, {0: 0, 1: 400, 2: 898}, 400, 450),
             (3, 450, {0: 0, 2: 898}, 449, 899),
             (3, 450, {1: 0, 2: 301}, 150, 601),
-            (3, 450, {0: 0, 1: 898, 2: -1_000}, 0, 450),
-            (3, 450, {0: 0, 1: 898, 2: -1_001}, 449, 899),
+            (3, 450, {0: 0, 1: 898, 2: -3_000}, 0, 450),
+            (3, 450, {0: 0, 1: 898, 2: -3_001}, 449, 899),
             (5, 450, {0: 0, 1: 10, 3: 21}, 10, 461),
             (5, 450, {0: 0, 1: 10, 3: 21, 4: 3_000}, 15, 456),
             (3, 10, {0: 0, 1: 18}, 9, 19),
@@ -74,12 +74,62 @@ class Ticks(unittest.TestCase):
                 held = told(keeper, 3_500_000)
                 self.assertEqual((held.missed, held.bound_us), (1, bound_us + 2 * 3))
 
+    def test_clocks_that_say_how_far_off_they_are(self) -> None:
+        """Each line says a quality, 5 for 10 us, 6 for 100 and 7 for 1,000, and ends so much late. Its edge lies
+        within that and within_us - 1 of the end. The vote's lies between the second of three last times and the second
+        of three first ones, the third of five, and of two between all; the bound has 1 us more for the drift."""
+        for ports, within_us, said, edge_us, bound_us in (
+            (3, 450, {0: (5, 10), 1: (5, -10), 2: (5, -10)}, -10, 460),
+            (3, 10, {0: (5, 10), 1: (5, -10), 2: (5, -10)}, -10, 20),
+            (3, 450, {0: (6, 0), 2: (6, 1_098)}, 549, 1_099),
+            (3, 10, {0: (6, 0), 2: (6, 218)}, 109, 219),
+            (3, 450, {1: (7, 0), 2: (7, 2_898)}, 1_449, 2_899),
+            (3, 10, {1: (7, 0), 2: (7, 2_018)}, 1_009, 2_019),
+            (3, 450, {0: (0, 449), 1: (7, 1_449), 2: (5, -459)}, 449, 450),
+            (3, 10, {0: (0, 9), 1: (7, 1_009), 2: (5, -19)}, 9, 10),
+            (3, 450, {0: (0, 0), 1: (7, -1_449)}, -1_225, 1_675),
+            (3, 10, {0: (0, 0), 1: (7, -1_009)}, -1_005, 1_015),
+            (5, 450, {0: (7, 1_000), 1: (7, -1_000), 2: (7, 0), 3: (4, 1), 4: (4, -1)}, 0, 452),
+            (5, 10, {0: (7, 1_000), 1: (7, -1_000), 2: (7, 0), 3: (6, 100)}, 0, 1_010),
+            (1, 10, {0: (7, 1_000)}, 1_000, 1_010),
+            (1, 450, {0: (6, -100)}, -100, 550),
+        ):
+            with self.subTest(within_us=within_us, said=said):
+                keeper = Timekeeper(1, drift_us=1, within_us=within_us, ports=ports, poor_from=8)
+                for line, (quality, late_us) in said.items():
+                    frame = irig.frame("2016-12-31T23:59:60Z", quality=quality)
+                    hear_frame(keeper, frame, 5_000_000 + late_us, line)
+                beat = told(keeper, 6_003_000)
+                self.assertEqual((beat.edge_us, beat.bound_us), (6_000_000 + edge_us, bound_us))
+                self.assertEqual([beat.lines[line] for line in said], ["agreed"] * len(said))
+                stamp = keeper.stamp(6_250_000)
+                self.assertEqual(stamp, Stamp(Second.read("2017-01-01T00:00:00Z"), 250_000 - edge_us, bound_us))
+
     def test_lines_that_end_too_far_apart(self) -> None:
-        for within_us, late_us in ((450, 899), (10, 19), (1, 1)):
-            keeper = Timekeeper(1, drift_us=0, within_us=within_us)
-            hear_frame(keeper, FRAME, 0, 0)
-            hear_frame(keeper, FRAME, late_us, 1)
-            self.assertIsNone(keeper.tick(1_001_000))
+        """By 1 us, of the most of which clocks agree that say the same quality, or one that and the other 0."""
+        for within_us, qualities, late_us in (
+            (450, (0, 0), 899), (10, (0, 0), 19), (1, (0, 0), 1), (450, (5, 5), 919), (10, (6, 6), 219),
+            (450, (7, 7), 2_899), (10, (0, 7), 1_019), (10, (7, 0), 1_019),
+        ):  # fmt: skip
+            for more_us in (-1, 0):
+                keeper = Timekeeper(1, drift_us=0, within_us=within_us, poor_from=8)
+                for line, quality in enumerate(qualities):
+                    frame = irig.frame("2016-12-31T23:59:60Z", quality=quality)
+                    hear_frame(keeper, frame, line * (late_us + more_us), line)
+                self.assertEqual(keeper.tick(1_003_000) is None, more_us == 0)
+
+    def test_a_line_that_is_further_off_than_its_clock_says(self) -> None:
+        """Two lines end together, and their edge is told within 9 us. The third one is 9 us and what it says further
+        off than that, or 1 us more."""
+        for quality, off_us in ((0, 0), (4, 1), (5, 10), (6, 100), (7, 1_000)):
+            for more_us, state in ((0, "agreed"), (1, "apart")):
+                keeper = Timekeeper(1, drift_us=0, within_us=10, poor_from=8)
+                hear_frame(keeper, FRAME, 0, 0, 1)
+                frame = irig.frame("2016-12-31T23:59:60Z", quality=quality)
+                hear_frame(keeper, frame, 18 + off_us + more_us, 2)
+                beat = told(keeper, 1_003_000)
+                self.assertEqual((beat.edge_us, beat.bound_us), (1_000_000, 9))
+                self.assertEqual(beat.lines, ("agreed", "agreed", state))
 
     def test_a_first_day(self) -> None:
         voted = "2017-01-01T00:00:00Z locked voted"
@@ -96,7 +146,7 @@ class Ticks(unittest.TestCase):
         self.assertEqual(str(beat), "- acquiring:1 acquiring")
         self.assertEqual((beat.report.agreed, beat.report.quality), ((0, 2), 2))
         self.assertEqual(beat.report.zone, Zone(2, True))
-        held = told(keeper, 2_005_000).report
+        held = told(keeper, 2_006_000).report
         self.assertEqual((held.agreed, held.quality, held.zone), ((), 15, None))
 
     def test_clocks_that_say_that_they_are_off(self) -> None:
@@ -112,21 +162,22 @@ class Ticks(unittest.TestCase):
             self.assertEqual(keeper.tick(1_000_000) is not None, has_vote)
 
     def test_an_edge_that_lines_move(self) -> None:
-        """The own one lies 11 ms before theirs, and is told 4 ms before their last pulse ends."""
+        """The own one lies 11 ms before theirs, and is told 3 ms before their last pulse ends."""
         keeper, frame = self.voted(), irig.widths(irig.frame("2017-01-01T00:00:00Z"))
         for line in range(3):
             for element, width in enumerate(frame[:99]):
                 keeper.hear(line, 11_000 + 10_000 * element, width)
-        self.assertEqual(str(told(keeper, 1_005_000)), "2017-01-01T00:00:01Z holdover:1 held")
+        self.assertIsNone(keeper.tick(1_005_999))
+        self.assertEqual(str(told(keeper, 1_006_000)), "2017-01-01T00:00:01Z holdover:1 held")
         for line in range(3):
             self.assertEqual(keeper.hear(line, 1_001_000, frame[99]), 100)
         self.assertIsNone(keeper.tick(1_011_000))
-        beat = told(keeper, 2_016_000)
+        beat = told(keeper, 2_017_000)
         self.assertEqual((beat.edge_us, beat.missed, beat.moved), (2_011_000, 0, 1))
 
     def test_stamps_by_the_last_two_seconds(self) -> None:
         keeper = self.voted()
-        told(keeper, 1_005_000)
+        told(keeper, 1_006_000)
         seconds = [Second.read(f"2017-01-01T00:00:0{place}Z") for place in range(2)]
         for time_us, stamp in (
             (2_000_000 + VOTE_US + 50, Stamp(seconds[1], 1_000_000 + VOTE_US + 50, VOTE_US + 50)),
@@ -202,13 +253,13 @@ class Ticks(unittest.TestCase):
             beat = told(keeper, (second + 1) * 1_000_000 + 2_000)
             wanted.append((beat.strays, beat.doubt, str(beat.report.second)))
         self.assertEqual(wanted, [(1, max(0, 2 - second), f"2017-01-01T00:00:0{second + 1}Z") for second in range(4)])
-        self.assertEqual(str(told(keeper, 5_007_000)), "2017-01-01T00:00:05Z holdover:1 held")
+        self.assertEqual(str(told(keeper, 5_008_000)), "2017-01-01T00:00:05Z holdover:1 held")
 
     def test_doubt(self) -> None:
         keeper = self.voted()
         hear_frame(keeper, irig.frame("2017-01-01T00:00:00Z"), 951, 0, 1, 2)
         self.assertEqual(told(keeper, 1_000_951).doubt, 20)
-        beat = told(keeper, 2_006_000)
+        beat = told(keeper, 2_007_000)
         self.assertEqual((beat.report.second, beat.report.cause, beat.doubt), (None, "held", 20))
         self.assertIsNone(keeper.stamp(2_100_000))
 
@@ -232,7 +283,7 @@ class Ticks(unittest.TestCase):
         hear_frame(keeper, irig.frame("2017-01-01T00:00:00Z"), 0, 0, 1, 2)
         told(keeper, 1_000_000)
         self.assertEqual(keeper.rate(), irig.Rate(1, 999_100_000, 1_000_900_000))
-        told(keeper, 2_005_000)
+        told(keeper, 2_006_000)
         self.assertEqual(keeper.rate(), irig.Rate(2, 999_525_000, 1_000_475_000))
         keeper.restart()
         self.assertIsNone(keeper.rate())
@@ -276,7 +327,7 @@ class Ticks(unittest.TestCase):
     def test_qualities(self) -> None:
         for bound_us, quality in (
             (0, 4), (1, 4), (2, 5), (10, 5), (11, 6), (449, 7), (899, 7), (1_000, 7), (1_001, 8),
-            (490_899, 10), (1_000_000, 10), (1_000_001, 15), (WRAP - 1, 15),
+            (492_899, 10), (1_000_000, 10), (1_000_001, 15), (WRAP - 1, 15),
         ):  # fmt: skip
             self.assertEqual(irig.quality_of(bound_us), quality)
         self.assertRaisesRegex(irig.Fault, "bound_us is -1; 0 to", irig.quality_of, -1)

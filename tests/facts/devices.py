@@ -5,11 +5,11 @@ from collections.abc import Iterator
 from dataclasses import dataclass, replace
 from random import Random
 
-from model.device import POOR_FROM, SECOND, WRAP, Beat, Device, Rate, Stamp
+from model.device import OFF, SECOND, WRAP, Beat, Device, Frame, Rate, Stamp
 from model.frames import Parity, Rules, Sense, symbol_of
-from model.generator import Generator, GeneratorFault, Zone, sent
+from model.generator import Generator, GeneratorFault, Kind, Zone, sent
 from model.reader import ReaderRules
-from model.times import Mark, Second, Table, Timeline
+from model.times import Claim, Mark, Second, Table, Timeline
 from random_scenarios import random_fault
 
 from . import values as v
@@ -18,6 +18,7 @@ from .times import LATE
 
 WIDTHS = {"0": 2_000, "1": 5_000, "P": 8_000}
 STUCK, HALF_HOUR = 500_000, 1_800 * SECOND
+EXACT = "use Rattle.irig_lines.specs.Refusals.{within_of, limits_of}\n"
 EARLY = 4_000  # so long before it rose by its clock a pulse may be told, of a line that is early
 
 
@@ -109,16 +110,29 @@ def line_pulses(random: Random, world: World, line: int, frames: list[str], late
     return told_in_order(random, found[:start] + found[start + pulled :], world.delay)
 
 
-def true_line(random: Random, world: World, line: int, seconds: int, zone: Zone) -> list[Pulse]:
-    return line_pulses(random, world, line, world.frames(seconds, zone), random.choice(world.late))
+def true_line(random: Random, world: World, line: int, seconds: int, zone: Zone, quality: int = 0) -> list[Pulse]:
+    """A line whose clock says this quality, and is so far off at most; of one that has no vote it says nothing."""
+    most = OFF[quality] if quality < len(OFF) else 5_000
+    late = random.choice(world.late) + random.choice((-most, most, random.randint(-most, most)))
+    return line_pulses(random, world, line, world.frames(seconds, zone, quality_fault(quality)), late)
+
+
+def quality_fault(quality: int) -> GeneratorFault:
+    return GeneratorFault(Kind.QUALITY, quality)
+
+
+def random_quality(random: Random, poor_from: int) -> int:
+    """As a clock may say it: the worst that has a vote as often as any other, and now and then one that has none."""
+    return random.choice((0, poor_from - 1, random.randrange(poor_from), random.randrange(9)))
 
 
 def false_lines(random: Random, world: World, lines: list[int], seconds: int, zone: Zone) -> list[list[Pulse]]:
-    """Lines of clocks that have one fault, or are too late or early, from some second on."""
+    """Lines of clocks that have one fault, or are too late or early, whatever quality they say, from some second on."""
     fault, true = random.choice((None, v.fault_of(random_fault(random), 1))), random.randrange(seconds)
-    frames = [*world.frames(seconds, zone)[:true], *world.frames(seconds, zone, fault)[true:]]
-    apart = 2 * (world.within - 1)
-    lates = (-5_000, -1_001, -1_000, -apart, apart, apart + 1, 1_449, 5_000) if fault is None else (0,)
+    said, apart = random.randrange(8), 2 * (world.within - 1)
+    frames = [*world.frames(seconds, zone)[:true], *world.frames(seconds, zone, fault or quality_fault(said))[true:]]
+    ends = (apart, apart + 1, apart + OFF[said], apart + OFF[said] + 1, 3_000 - OFF[said], 3_001 - OFF[said], 5_000)
+    lates = [sign * end for end in ends for sign in (-1, 1)] if fault is None else (0,)
     return [line_pulses(random, world, line, frames, random.choice(lates)) for line in lines]
 
 
@@ -127,9 +141,9 @@ def false_lines(random: Random, world: World, lines: list[int], seconds: int, zo
 
 def random_ticks(random: Random, world: World, count: int) -> list[int]:
     """Ticks of some seconds: where frames end, before the counter alone counts, behind that, at any time, and late."""
-    near, any_ = (0, world.within - 1, 899, 2_001, 5_000), [random.randint(0, SECOND - 10_000) for _ in range(3)]
-    ways = [random.sample(near, 1), (-1, 1_000), random.sample(near, 2), (7_000, 60_000), (98_000,), (100_000,)]
-    ways += [(100_001,), any_[:1], any_[1:], ()]
+    near, any_ = (0, world.within - 1, 1_099, 2_899, 6_000), [random.randint(0, SECOND - 10_000) for _ in range(3)]
+    ways = [random.sample(near, 1), (-1, 1_000), random.sample(near, 2), (8_000, 60_000), (98_000,), (100_000,)]
+    ways += [(100_001,), (103_000,), any_[:1], any_[1:], ()]
     mostly = random.choice(ways[:6])
     each = [mostly if random.random() < 0.6 else random.choice(ways) for _ in range(count)]
     return sorted(world.edge(n) + behind for n, way in enumerate(each, 1) for behind in way)
@@ -155,14 +169,17 @@ def random_life(random: Random) -> tuple[World, Device, list[Call]]:
     few = random.sample(range(redundancy), random.randint(0, redundancy // 2 + (random.random() < 0.4)))
     lines = false_lines(random, world, few, seconds, random.choice(zones))
     others = set(range(redundancy)) - set(few)
-    lines += [true_line(random, world, line, seconds, random.choice(zones)) for line in sorted(others)]
-    day = world.timeline.start.day
+    day, poor_from = world.timeline.start.day, random.choice((7, 7, 8, 8, random.randint(1, 8)))
+    qualities = [random_quality(random, poor_from) for _ in others]
+    lines += [true_line(random, world, line, seconds, random.choice(zones), quality)
+              for line, quality in zip(sorted(others), qualities)]  # fmt: skip
     wrong = random.choice(((), ((day, random.choice((Mark.INSERT, Mark.DELETE))),)))
     table = random.choice((None, Table(day, world.timeline.leaps), Table(day, wrong)))
     rules = ReaderRules(random.choice((1, 1, 2)), random.choice((0, 1, 100)))
     drift = random.choice((100, abs(world.second - SECOND)))
     delays = tuple(random.choice((0, 0, 4_000, -4_000, random.randint(-4_000, 4_000))) for _ in range(5))
-    device = Device(world.rules, rules, table, redundancy, world.within, drift, delays, random.random() < 0.3)
+    prefers = random.random() < 0.3
+    device = Device(world.rules, rules, table, redundancy, world.within, drift, delays, prefers, poor_from)
     ticks = random_ticks(random, world, seconds + random.choice((0, 2, 4)))
     calls = in_turn([pulse for line in lines for pulse in line], ticks)
     return world, device, pause(random, world, calls, random.choice((0, 0, 0, 0, 0, SECOND, WRAP)))
@@ -187,14 +204,18 @@ def rate(value: Rate | None) -> Antt:
     return some(value and record(seconds=value.seconds, least_ns=value.least, most_ns=value.most))
 
 
-def made(device: Device) -> Antt:
+def clock(device: Device) -> Antt:
+    """The rules of a device's clock."""
+    limits = Antt(f"limits_of {record(not_before=0, poor_from=device.poor_from)}")
     delays = record(**dict(zip("abcde", map(integer, device.delays))))
-    exact = {"within": Antt(f"within_of {device.within}"), "drift_us": device.drift, "delays": delays,
-             "prefers_frames": device.prefers_frames}
-    clock = record(reader_rules=device.reader_rules, redundancy=v.ports(device.redundancy), **exact)
+    exact = {"within": Antt(f"within_of {device.within}"), "limits": limits, "drift_us": device.drift,
+             "delays": delays, "prefers_frames": device.prefers_frames}  # fmt: skip
+    return record(reader_rules=device.reader_rules, redundancy=v.ports(device.redundancy), **exact)
+
+
+def made(device: Device) -> Antt:
     lines = {"lines": Antt("new_lines"), "fresh": Antt("are_new")}
-    limits = some(record(not_before=0, poor_from=POOR_FROM))
-    return record(limits=limits, rules=device.rules, clock=clock, table=device.table or Table(0, ()), **lines)
+    return record(rules=device.rules, clock=clock(device), table=device.table or Table(0, ()), **lines)
 
 
 # A life in parts, each of calls, the newest first, with a tick behind them and an event: what the tick answers, how
@@ -202,7 +223,6 @@ def made(device: Device) -> Antt:
 # seconds are in doubt, how long seconds are, and what the lines are. Each step is a function of its own, so that the
 # checker computes once what becomes of the device.
 WALK = """use Rattle.irig_lives.proofs.LifeFacts.{new_lines, are_new}
-use Rattle.irig_lines.specs.Refusals.{within_of}
 use Rattle.irig_timekeeper.specs.Life.{after_calls}
 use Rattle.irig_timekeeper.specs.Life.Call.{Hear, Tick}
 use Rattle.irig_timekeeper.specs.Keeping.{after_tick, rate_at}
@@ -248,10 +268,51 @@ def parts_of(random: Random, device: Device, calls: list[Call]) -> Iterator[tupl
 def lives(random: Random) -> Iterator[Fact]:
     for _ in range(16):
         _, device, calls = random_life(random)
-        above = (f"abbrev $_made : Made\n$_made = {made(device)}\n", *WALK)
+        above = (EXACT, f"abbrev $_made : Made\n$_made = {made(device)}\n", *WALK)
         parts = list(parts_of(random, device, calls))
         asked = antt([part for part, _ in parts])
         yield equal(f"asked {asked} (life_of $_made [])", [antt(said) for _, said in parts], above=above)
+
+
+def random_frame(random: Random, device: Device, base: int) -> tuple[Frame, int]:
+    """A frame whose last time lies near this one, or where it begins or ends to count, and the quality that it says."""
+    quality = random.choice((0, device.poor_from - 1, random.randrange(device.poor_from)))
+    half = device.half(quality)
+    inside = random.randint(0, 2 * half)
+    ends = (2 * half + 1, -3_000, -3_001, 3_001, random.randint(-3_000, 3_000))
+    near = random.choice((0, 0, 2 * half, inside, inside, inside, *ends))
+    second = Second(6_209, 43_200 + (random.random() < 0.1))
+    claim = Claim(second, Mark.INSERT if random.random() < 0.1 else Mark.UNSPOKEN)
+    return Frame(claim, (base + near - half) % WRAP, random.random() < 0.9, half), quality
+
+
+def line_with(frame: Frame | None, quality: int) -> Antt:
+    sync = record(rise_us=0, place=0, was_marker=0)
+    kept = frame and record(told=v.told(frame.word), quality=quality, end_us=frame.end, is_even=frame.is_even)
+    return record(sync=sync, begin_us=0, frame=some(kept), seen=some(None), is_heard=False)
+
+
+def random_vote(random: Random) -> tuple[Antt, Antt]:
+    """Frames of lines, as definitions are asked, and the vote that they have."""
+    within, drift, poor_from = (random.choice(one) for one in ((450, 10, 1), (0, 1, 100), (1, 6, 7, 8)))
+    redundancy, base = random.choice((1, 3, 3, 5, 5)), random.choice((0, WRAP - 1_000, random.randrange(WRAP)))
+    device = Device(Rules(), ReaderRules(1, 0), None, redundancy, within, drift, (0,) * 5, False, poor_from)
+    found = [random_frame(random, device, base) for _ in range(redundancy)]
+    for line, (frame, _) in zip(device.lines, found):
+        line.frame = frame
+    lines = [line_with(*one) for one in found] + [line_with(None, 0)] * (5 - redundancy)
+    agreed = device.agreed(base)
+    vote = agreed and record(claim=agreed.claim, edge_us=agreed.edge, bound_us=agreed.bound)
+    return Antt(f"(agreed {clock(device)} {record(**dict(zip('abcde', lines)))})"), some(vote)
+
+
+@question("model", "irig_lines.agreed")
+def agreed_edges(random: Random) -> Iterator[Fact]:
+    """By docs/EXACTNESS.md: the edge on which frames agree, whose last times lie about where one begins or ends to have
+    a part."""
+    for _ in range(10):
+        asked, said = zip(*(random_vote(random) for _ in range(20)))
+        yield equal(antt(list(asked)), list(said), above=(EXACT,))
 
 
 def random_anchor(random: Random, now: int) -> tuple[int, int, int] | None:

@@ -17,7 +17,7 @@ HEADER = (Path(__file__).resolve().parents[2] / "c/irig.h").read_text()
 NUMBER = {name: int(number) for name, number in re.findall(r"\bIRIG_(\w+) = (\d+)", HEADER)}
 PORTS = {1: "ONE", 3: "THREE", 5: "FIVE"}
 SILENT = record(**dict.fromkeys("abcde", Antt("Told.Silence")))
-EXACT = "use Rattle.irig_lines.specs.Refusals.{within_of}\n"
+EXACT = "use Rattle.irig_lines.specs.Refusals.{within_of, limits_of}\n"
 MOMENTS = """use Rattle.c_keeper.specs.Lives.Moment.{Pulsed as was_pulsed, Ticked as was_ticked}
 use Rattle.irig_timekeeper.specs.Life.Call.{Hear, Tick}
 """
@@ -57,10 +57,11 @@ def random_setup(random: Random) -> tuple[Antt, Antt]:
     table = record(until=until, len=count, leaps=numbers)
     prefers = random.choice((0, 0, 1, random.randrange(256)))
     wires = record(within_us=within, drift_us=drift, delays=late, prefers_frames=prefers)
-    limits = record(not_before=not_before, poor_from=poor_from or 7)
-    exact = {"within": Antt(f"within_of {within}"), "drift_us": drift, "delays": late, "prefers_frames": prefers != 0}
+    limits = Antt(f"limits_of {record(not_before=not_before, poor_from=poor_from or 7)}")
+    exact = {"within": Antt(f"within_of {within}"), "limits": limits, "drift_us": drift, "delays": late,
+             "prefers_frames": prefers != 0}  # fmt: skip
     clock = record(reader_rules=reader_rules, redundancy=v.ports(ports), **exact)
-    made = record(limits=some(limits), rules=rules, clock=clock, table=Table(until, tuple(leaps[:count])))
+    made = record(rules=rules, clock=clock, table=Table(until, tuple(leaps[:count])))
     return Antt(f"(made_in {setup} {table} {wires})"), made
 
 
@@ -91,7 +92,7 @@ def second_of(random: Random, report: Report, beside: dict[str, int], told: int 
 def seconds(random: Random) -> Iterator[tuple]:
     for _ in range(60):
         report, missed = random_report(random), random.choice((0, random.randrange(2_000)))
-        edge, bound = random.randrange(2**32), random.randrange(490_900)
+        edge, bound = random.randrange(2**32), random.randrange(492_900)
         beside = {"edge_us": edge, "bound_us": bound, "missed": missed, "moved": random.randrange(3)}
         against = random.randrange(2)
         beat = record(report=report, told=SILENT, against_table=against == 1, **beside)
@@ -103,7 +104,7 @@ def stamps(random: Random) -> Iterator[tuple]:
     """A stamp stands for one if the call answered 0."""
     for answer in (0, 0, 0, 0, 26, 1):
         second = Second(random.randint(1, LAST_DAY), random.randrange(86_401))
-        offset, bound = random.randrange(2_000_000), random.randrange(490_900)
+        offset, bound = random.randrange(2_000_000), random.randrange(492_900)
         numbers = record(day=second.day, sod=second.of_day, offset_us=offset, bound_us=bound)
         stamp = record(second=second, offset_us=offset, bound_us=bound)
         yield (answer, numbers), some(stamp if answer == 0 else None)

@@ -214,7 +214,7 @@ static void take_widths(int64_t second, uint32_t widths_us[ELEMENTS]) {
 static void send_frames(int64_t second, uint32_t now_us) {
     uint32_t widths_us[ELEMENTS];
     for (uint8_t line = 0; line < one.sky.lines; line++) {
-        uint32_t rise_us = now_us - SECOND_US - take(&luck, take(&luck, 4) ? 256 : 3000);
+        uint32_t rise_us = now_us - SECOND_US - take(&luck, take(&luck, 4) ? 256 : 6000);
         take_widths(second, widths_us);
         for (unsigned i = 0; i < ELEMENTS; i++, rise_us += ELEMENT_US)
             require(both_subject.hear(line, rise_us, widths_us[i]) != DIFFERS, "a frame's pulse");

@@ -29,10 +29,11 @@ static void arm(life *l, bool is_behind_tick) {
 /* Around edge after edge, the next one that lies ahead; or where something is just in time, or just
  * too late, if nothing drifts. */
 static uint64_t around_edge(life *l) {
-    static const uint32_t JUST_US[] = {99999,   100000,  100001,  1004999, 1005000, 1005001,
-                                       1099999, 1100000, 1100001, 2004999, 2005000};
+    static const uint32_t JUST_US[] = {99999,   100000,  100001,  102999,  103000,  103001,
+                                       1005999, 1006000, 1006001, 1099999, 1100000, 1100001,
+                                       1102999, 1103000, 1103001, 2005999, 2006000};
     device *d = &l->device;
-    uint64_t just_us = l->sky.told_edge_us + JUST_US[below(&d->luck, 11)];
+    uint64_t just_us = l->sky.told_edge_us + JUST_US[below(&d->luck, sizeof JUST_US / sizeof *JUST_US)];
     if (is_once_in(&d->luck, 2) && just_us > d->now_us) return just_us;
     while (d->edge <= l->world.seconds) {
         uint64_t at_us =

@@ -6,10 +6,11 @@
 #include <string.h>
 
 enum {
-    WAIT_MOST_US = 1005000,
+    WAIT_MOST_US = 1006000,
     IN_TIME_US = 98000,
     TRUE_US = 2700000,
-    OWN_LATE_US = 4800 /* behind its edge a second is counted 5 ms, of ends that are told a little sooner */
+    OWN_LATE_US = 6000, /* so long behind its own edge it counts a second */
+    ENDS_AHEAD_US = 500 /* a frame's last pulse ends at least so long before the frame */
 };
 
 #define SAID_OF(name, said) said,
@@ -27,10 +28,11 @@ void fail(judge *j, const char *form, ...) {
     va_end(values);
 }
 
-/* How far a vote's edge may lie off: the ends of two true lines do by twice their jitter, and the
- * drift in the element that is told before its end. */
+/* How far a vote's edge may lie off: one of its ends is within reach of a true line's edge, whose clock
+ * says the worst that has a vote, and the other one of another's; and the drift in the element that is
+ * told before its end. */
 static int64_t vote_us(const judge *j) {
-    return 2 * jitter_us(j->world) + (j->world->drift_us > 0);
+    return 2 * widest_us(j->world) + (j->world->drift_us > 0);
 }
 
 static int liars_at_most(const judge *j) { return j->lines / 2; }
@@ -79,20 +81,33 @@ static void follow_run(sent *s, const pulse *p) {
     if (s->run == ELEMENTS && p->is_claim) s->whole = p->frame;
 }
 
+/* Whether the seconds of a line's clock are as long as the device is told, and a frame that has a vote
+ * says how far off they are. */
+static bool is_honest(const world *w, uint8_t line, const pulse *p) {
+    uint64_t edge_us = clock_edge_us(w, line, p->frame);
+    uint64_t long_us = clock_edge_us(w, line, p->frame + 1) - edge_us;
+    bool is_steady = long_us - SECOND_US + w->drift_us <= 2 * w->drift_us;
+    return is_steady &&
+           (!p->is_claim || abs(w->clock_us[line][p->frame + 1]) <= quality_us(p->quality));
+}
+
+static void judge_true(judge *j, uint8_t line, const pulse *p) {
+    uint64_t at_us = element_us(j->world, line, p->frame, p->element);
+    uint64_t most_us = (uint64_t)jitter_us(j->world);
+    if (p->rise_us - at_us + most_us > 2 * most_us)
+        fail(j, "world: a true pulse of line %u is not at its time", line);
+    if (!is_honest(j->world, line, p) && !j->is_beyond)
+        fail(j, "world: the clock of line %u is further off than it says", line);
+}
+
 void judge_pulse(judge *j, uint8_t line, const pulse *p, uint64_t told_us) {
     sent *s = &j->sent[line];
     if (p->rise_us <= s->last.rise_us || p->rise_us < s->last.end_us)
         fail(j, "world: a pulse of line %u out of order", line);
     if (told_us < j->tick_us) fail(j, "world: a pulse of line %u behind a later tick", line);
     if (told_us > j->now_us) j->now_us = told_us;
-    if (p->is_true) {
-        uint64_t at_us = element_us(j->world, p->frame, p->element);
-        uint64_t most_us = (uint64_t)jitter_us(j->world);
-        if (p->rise_us - at_us + most_us > 2 * most_us)
-            fail(j, "world: a true pulse of line %u is not at its time", line);
-    } else {
-        s->false_us = p->rise_us;
-    }
+    if (p->is_true) judge_true(j, line, p);
+    else s->false_us = p->rise_us;
     follow_run(s, p);
     s->last = *p;
     s->is_any = true;
@@ -276,12 +291,13 @@ static int whole_lines(const judge *j, int64_t frame) {
     return count;
 }
 
-/* The last edge had no vote: the second was told before the lines ended their frame, by an own edge
- * that was some milliseconds early. It has been moved to the lines' since. */
+/* The last edge had no vote: the second was told before the last pulses of the lines' frames, by an own
+ * edge that was some milliseconds early. It has been moved to the lines' since. */
 static void judge_moved(judge *j, uint32_t m) {
     uint32_t wait_us = j->subject->wait((uint32_t)j->now_us);
     int64_t off_us = off(j, j->now_us + wait_us - WAIT_MOST_US, m);
-    bool was_early = j->has_told && off(j, j->edge_us, m) < MOST_DELAY_US - OWN_LATE_US;
+    int64_t told_us = widest_us(j->world) - ENDS_AHEAD_US + MOST_DELAY_US; /* behind the edge */
+    bool was_early = j->has_told && off(j, j->edge_us, m) + OWN_LATE_US < told_us;
     if (!was_early || llabs(off_us) > vote_us(j))
         fail(j, "%d lines sent frame %u whole, and edge %u has no vote", whole_lines(j, m - 1),
              m - 1, m);

@@ -10,7 +10,7 @@ static content saying_of(line *l, const sky *s, const lie *told) {
     utc at = second_at(w, n);
     if (at.day < 1 || at.day > LAST_DAY) at.day = 1;
     content what = true_content(w, at, l->zone);
-    what.quality = l->quality;
+    what.quality = told->quality;
     what.dst = l->dst;
     if (told->saying == SAYS_LEAP) {
         what.is_delete = what.pending ? !what.is_delete && told->by % 2 : told->by % 2;
@@ -30,7 +30,7 @@ static uint64_t end_of(const line *l, const sky *s) {
     switch (told->aim) {
     case AT_PLACE: break;
     case AT_BOUND: /* where that line ends, by its last pulse */
-        end_us = (int64_t)element_us(s->world, frame, ELEMENTS - 1) + ELEMENT_US +
+        end_us = (int64_t)element_us(s->world, told->target, frame, ELEMENTS - 1) + ELEMENT_US +
                  last_offset(&s->line[told->target], s, frame);
         break;
     case SHIFTED: break;

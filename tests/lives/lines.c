@@ -1,5 +1,7 @@
 #include "lines.h"
 
+#include <stdlib.h>
+
 uint32_t width_of(width kind, const frame *symbols, unsigned element, chance *luck) {
     uint32_t low = is_marker(element) ? 6500 : is_one(symbols, element) ? 3500 : 500;
     switch (kind) {
@@ -57,6 +59,14 @@ static bool lose_pulses(line *l) {
     return false;
 }
 
+/* What the frame says of its clock, by how far off that is at the frame's end. */
+static uint32_t quality_of(line *l, const sky *s) {
+    uint32_t poor_from = s->world->poor_from, least = 0;
+    if (!l->says_any || l->frame >= s->world->seconds) return l->quality;
+    while (quality_us(least) < abs(s->world->clock_us[l->number][l->frame + 1]) + l->walks) least++;
+    return least + below(&l->luck, poor_from - least);
+}
+
 /* Makes the frame in which the line stands, or goes on to the next one that is not dark. */
 static void make_frame(line *l, const sky *s) {
     while (l->frame < s->world->seconds && is_dark(l, s)) l->frame++;
@@ -64,7 +74,8 @@ static void make_frame(line *l, const sky *s) {
     bool is_poor = lose_pulses(l);
     content what = true_content(s->world, at, l->zone);
     what.dst = l->dst;
-    what.quality = is_poor ? poor_quality(s->world, &l->luck) : l->quality;
+    what.quality = is_poor ? poor_quality(s->world, &l->luck) : quality_of(l, s);
+    l->said = (uint8_t)what.quality;
     l->is_claim = at.day <= LAST_DAY && what.quality < s->world->poor_from;
     l->symbols = encode(&what, s->world->is_odd, s->world->is_subtracted);
 }
@@ -85,7 +96,7 @@ static bool next_true(line *l, const sky *s) {
         }
         int32_t offset =
             l->element == ELEMENTS - 1 ? last_offset(l, s, l->frame) : offset_of(l, s);
-        uint64_t at_us = element_us(s->world, l->frame, l->element);
+        uint64_t at_us = element_us(s->world, l->number, l->frame, l->element);
         uint64_t rise_us = at_us + (uint64_t)(int64_t)offset;
         uint64_t last_us = at_us + (uint64_t)jitter_us(s->world);
         if (rise_us <= l->end_us && l->end_us < last_us) rise_us = l->end_us + 1;
@@ -96,7 +107,8 @@ static bool next_true(line *l, const sky *s) {
                           .frame = l->frame,
                           .element = (uint8_t)l->element,
                           .is_true = true,
-                          .is_claim = l->is_claim};
+                          .is_claim = l->is_claim,
+                          .quality = l->said};
         l->element++;
         return true;
     }
@@ -109,7 +121,7 @@ static void return_to_truth(line *l, const sky *s, uint64_t time_us) {
     make_frame(l, s);
     l->element = 0;
     if (l->frame != frame) return;
-    while (l->element < ELEMENTS && element_us(s->world, frame, l->element) <= time_us)
+    while (l->element < ELEMENTS && element_us(s->world, l->number, frame, l->element) <= time_us)
         l->element++;
 }
 

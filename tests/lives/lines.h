@@ -9,7 +9,8 @@ typedef struct pulse {
     uint32_t frame;  /* of a true one: the frame that it belongs to, */
     uint8_t element; /* and which of its elements it is */
     bool is_true;    /* it is that symbol, and as near its time as the world says */
-    bool is_claim;   /* and its frame, if whole, tells the true claim */
+    bool is_claim;   /* and its frame, if whole, tells the true claim, */
+    uint8_t quality; /* and says this of its clock */
 } pulse;
 
 /* ---- lies */
@@ -55,6 +56,7 @@ typedef struct lie {
     aim aim;
     harm harm;
     int32_t by;       /* seconds off of SAYS_OTHER */
+    uint32_t quality; /* that it says */
     uint32_t poor;    /* the quality of SAYS_POOR, or 0 for any that has no vote */
     int32_t shift_us; /* of the first frame's end */
     int32_t rate_us;  /* of WALKING, a second */
@@ -82,7 +84,9 @@ typedef struct line {
     width width;
     int32_t zone;
     bool dst;
-    uint32_t quality;
+    uint32_t quality;     /* that its clock says; it is no further off, */
+    bool says_any;        /* or any that its clock is no further off than, in each frame another one, */
+    bool walks;           /* and 1 us less, if it is not always as far off */
     uint32_t harm_one_in; /* frames that lose pulses, or are of poor quality; 0 none */
     uint64_t seed;
     /* where it stands */
@@ -90,6 +94,7 @@ typedef struct line {
     unsigned element;
     frame symbols;
     bool is_claim;
+    uint8_t said; /* the quality of this frame */
     unsigned lost_from, lost_to, lost_one_in;
     uint64_t end_us; /* of its last pulse */
     int lie;         /* the lie that is told now, or comes next */

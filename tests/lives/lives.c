@@ -78,14 +78,19 @@ static void play_up_to_seconds(void) {
 /* All kinds have to be among them. */
 static void play_kinds(void) {
     static const uint64_t ALL = UINT64_MAX >> (64 - KINDS);
+    static const uint32_t ALL_CLOCKS = (UINT32_C(1) << CLOCKS) - 1;
     uint64_t played = 0;
-    for (uint64_t number = 0; played != ALL && number < MOST_PLANNED; number++) {
+    uint32_t clocks = 0;
+    bool is_all = false;
+    for (uint64_t number = 0; !is_all && number < MOST_PLANNED; number++) {
         plan(&one, options.seed, number);
-        if ((one.kinds & ~played) == 0) continue;
+        if ((one.kinds & ~played) == 0 && (one.clocks & ~clocks) == 0) continue;
         played |= one.kinds;
+        clocks |= one.clocks;
+        is_all = played == ALL && clocks == ALL_CLOCKS;
         add_life(number);
     }
-    add(played == ALL);
+    add(is_all);
 }
 
 static void play_lives(void) {

@@ -10,7 +10,8 @@ const char *const WRONG_NAMES[WRONGS] = {EACH_WRONG(NAME_OF)};
 wrong model_wrong;
 
 static const uint32_t AHEAD_US = 14000;
-static const int32_t BEFORE_US = 1000; /* what ends longer before the first on which lines agree */
+static const int32_t BEFORE_US = 3000; /* what ends longer before the first on which lines agree */
+static const uint32_t SERVED_US = 103000; /* and so long a tick has their edge */
 static const int32_t LONGEST_US = 980000; /* what is longer is not known */
 static const uint32_t HALF_TURN = UINT32_C(1) << 31;
 enum { NO_VOTE = MOST_LINES + 1 }; /* more than there are */
@@ -24,6 +25,7 @@ typedef struct heard_line {
      * a frame does */
     bool has_end, is_seen, is_even;
     uint32_t end_us;
+    int32_t half_us; /* so far from its end its edge lies at most, if the line is true */
     voice kept;
 } heard_line;
 
@@ -59,6 +61,21 @@ static bool is_even(uint32_t begin_us, uint32_t rise_us) {
     return is(LETS_UNEVEN) || (more_us <= most_us && more_us >= -most_us);
 }
 
+/* How far a clock is off at most that says this quality: ten times as far by each one more, from 4, which
+ * is a microsecond; less than that is one, and 0 is right. */
+static int32_t clock_off_us(uint32_t quality) {
+    int32_t off_us = quality > 0;
+    for (uint32_t at = 4; at < quality; at++) off_us *= 10;
+    return off_us;
+}
+
+/* By how exact lines are, and by what the frame says of its clock. */
+static int32_t half_us(const voice *v) {
+    uint32_t quality = v->kind == IRIG_TOLD_CLAIM ? bits(&v->frame, 71, 4) : 0;
+    if (is(TAKES_WORST)) quality = k.reader.setup.poor_from - 1u;
+    return k.wires.within_us - 1 + (is(IGNORES_QUALITY) ? 0 : clock_off_us(quality));
+}
+
 static uint8_t hear(uint8_t number, uint32_t rise_us, uint32_t width_us) {
     if (number >= k.lines) return IRIG_NO_PORT;
     if (width_us >= 500000) return 0;
@@ -78,6 +95,7 @@ static uint8_t hear(uint8_t number, uint32_t rise_us, uint32_t width_us) {
         l->is_even = is_even(l->begin_us, rise_us);
         l->end_us = rise_us + ELEMENT_US;
         l->kept = voice_of(&k.reader.setup, &l->heard);
+        l->half_us = half_us(&l->kept);
     }
     return place;
 }
@@ -110,61 +128,75 @@ typedef struct agreed_edge {
     uint32_t edge_us, bound_us;
 } agreed_edge;
 
-/* How far apart ends lie at most that agree. */
-static int32_t apart_us(void) {
-    int32_t apart = 2 * (k.wires.within_us - 1);
-    return is(AGREES_WIDELY) ? apart + 2000 : is(AGREES_SHORTLY) ? apart - 1 : apart;
-}
+/* When the edge of a line's frame comes at last, if the line is true. */
+static uint32_t last_us(const heard_line *l) { return l->end_us + (uint32_t)l->half_us; }
 
-/* How far behind the end of a line's frame those end that claim the same, in order, but for those
- * that end longer before it than this; how many there are. */
-static int ends_behind(const heard_line *one, uint32_t now_us, int32_t before_us, int32_t *behind) {
+/* Whether both claim the same, and may vote. */
+static bool are_of_one(const heard_line *a, const heard_line *b, uint32_t now_us) {
     voice voices[MOST_LINES];
-    int count = 0;
     voices_at(now_us, voices);
-    for (int i = 0; i < k.lines; i++) {
-        int32_t behind_us = (int32_t)(k.line[i].end_us - one->end_us);
-        bool is_one = may_vote(&k.line[i], now_us) && behind_us >= -before_us &&
-                      (are_one(&voices[one - k.line], &voices[i]) || is(ANY_CLAIM));
-        if (!is_one) continue;
-        int at = count++;
-        for (; at > 0 && behind[at - 1] > behind_us; at--) behind[at] = behind[at - 1];
-        behind[at] = behind_us;
+    return may_vote(a, now_us) && may_vote(b, now_us) &&
+           (are_one(&voices[a - k.line], &voices[b - k.line]) || is(ANY_CLAIM));
+}
+
+/* Whether the edge of the other one may come then, when that of the first one comes at last. */
+static bool agrees(const heard_line *one, const heard_line *other, uint32_t now_us) {
+    int32_t behind_us = (int32_t)(last_us(one) - other->end_us);
+    int32_t more_us = is(AGREES_WIDELY) ? 2000 : 0, less_us = is(AGREES_SHORTLY);
+    return are_of_one(one, other, now_us) && behind_us <= other->half_us + more_us &&
+           behind_us >= less_us - other->half_us - more_us;
+}
+
+static bool agrees_with_enough(const heard_line *one, uint32_t now_us) {
+    int count = 0;
+    for (int i = 0; i < k.lines; i++) count += agrees(one, &k.line[i], now_us);
+    return count >= majority();
+}
+
+/* The edges of all frames of a claim, but those that come too long before the last time of one: how far
+ * behind that they come at last, and at first; in order. */
+typedef struct edges {
+    int count;
+    int32_t last_us[MOST_LINES], first_us[MOST_LINES];
+} edges;
+
+static void put_in_order(int32_t *numbers, int count, int32_t number) {
+    int at = count;
+    for (; at > 0 && numbers[at - 1] > number; at--) numbers[at] = numbers[at - 1];
+    numbers[at] = number;
+}
+
+static edges edges_behind(const heard_line *one, uint32_t now_us) {
+    edges all = {0};
+    int32_t before_us = is(LEAVES_OUT_MORE) ? 1000 : BEFORE_US;
+    for (const heard_line *l = k.line; l < k.line + k.lines; l++) {
+        int32_t behind_us = (int32_t)(last_us(l) - last_us(one));
+        if (!are_of_one(one, l, now_us) || behind_us < -before_us) continue;
+        put_in_order(all.last_us, all.count, behind_us);
+        put_in_order(all.first_us, all.count, behind_us - 2 * l->half_us);
+        all.count++;
     }
-    return count;
+    return all;
 }
 
-/* Whether enough end with this one, or no further behind it than agrees. */
-static bool is_first_of_enough(const heard_line *one, uint32_t now_us) {
-    int32_t behind[MOST_LINES];
-    bool is_claim = may_vote(one, now_us) && (one->kept.kind == IRIG_TOLD_CLAIM || is(ANY_CLAIM));
-    int count = is_claim ? ends_behind(one, now_us, 0, behind) : 0;
-    return count >= majority() && behind[majority() - 1] <= apart_us();
-}
-
-static int32_t clipped(int32_t behind_us) {
-    return behind_us < 0 ? 0 : behind_us > apart_us() ? apart_us() : behind_us;
-}
-
-/* The edge lies in the middle between the end by which enough of that claim end, and the one from
- * which on enough do. */
+/* The edge lies in the middle between the time by which enough of them come at last, and the one from
+ * which on enough do at first. */
 static agreed_edge middle(const heard_line *first, uint32_t now_us) {
-    int32_t behind[MOST_LINES];
-    int count = ends_behind(first, now_us, BEFORE_US, behind);
-    int32_t by = clipped(behind[majority() - 1]), from = clipped(behind[count - majority()]);
-    uint32_t middle_us = is(TAKES_FIRST) ? 0 : (uint32_t)(from + by) / 2;
-    uint32_t half_us = is(BOUNDS_LITTLE) ? 0 : (uint32_t)(by - from + 1) / 2;
-    uint32_t drift_us = k.wires.drift_us > 0 && !is(BOUNDS_STEADILY);
-    uint32_t bound_us = k.wires.within_us - 1u + drift_us + half_us;
-    return (agreed_edge){first, first->end_us + middle_us, bound_us};
+    edges all = edges_behind(first, now_us);
+    int32_t by_us = all.last_us[majority() - 1], from_us = all.first_us[all.count - majority()];
+    uint32_t long_us = (uint32_t)(by_us - from_us);
+    uint32_t edge_us = last_us(first) + (uint32_t)from_us + long_us / 2;
+    uint32_t bound_us = is(BOUNDS_LITTLE) ? (uint32_t)first->half_us : (long_us + 1) / 2;
+    bound_us += k.wires.drift_us > 0 && !is(BOUNDS_STEADILY);
+    return (agreed_edge){first, is(TAKES_FIRST) ? first->end_us : edge_us, bound_us};
 }
 
 /* By the first of those on which lines agree. */
 static agreed_edge agreed(uint32_t now_us) {
     const heard_line *first = NULL;
     for (const heard_line *one = k.line; one < k.line + k.lines; one++)
-        if (is_first_of_enough(one, now_us) &&
-            (!first || (int32_t)(one->end_us - first->end_us) < 0))
+        if (agrees_with_enough(one, now_us) &&
+            (!first || (int32_t)(last_us(one) - last_us(first)) < 0))
             first = one;
     return first ? middle(first, now_us) : (agreed_edge){0};
 }
@@ -220,7 +252,8 @@ static void know_vote(uint32_t seconds) {
 /* How a frame's end lies to a told edge. */
 static uint8_t beside(const heard_line *l, const ended_second *told) {
     int32_t off_us = (int32_t)(l->end_us - told->edge_us);
-    int32_t own_us = is(JUDGES_CLOSELY) ? 0 : k.wires.within_us - 1 + (k.wires.drift_us > 0);
+    int32_t half_us = is(JUDGES_ALIKE) ? k.wires.within_us - 1 : l->half_us;
+    int32_t own_us = is(JUDGES_CLOSELY) ? 0 : half_us + (k.wires.drift_us > 0);
     int32_t most_us = own_us + (int32_t)told->bound_us;
     return off_us <= most_us && off_us >= -most_us ? IRIG_LINE_AGREED : IRIG_LINE_APART;
 }
@@ -329,13 +362,17 @@ static bool is_unsteady(uint32_t now_us) {
     return uneven > k.lines / 2 && !is(TRUSTS_COUNTER);
 }
 
+/* How long behind its own edge it counts a second. */
+static uint32_t patience_us(void) {
+    return is(HAS_NO_PATIENCE) ? 0 : is(HAS_LESS_PATIENCE) ? 5000 : 6000;
+}
+
 static void tell_alone(irig_second *s, uint32_t now_us) {
-    uint32_t patience_us = is(HAS_NO_PATIENCE) ? 0 : 5000;
     uint32_t gap_us = now_us - k.edge_us;
     if (is(COUNTS_EARLY) && k.has_edge && gap_us < HALF_TURN) gap_us += SECOND_US / 2;
-    if (!k.has_edge || gap_us < SECOND_US + patience_us) return;
+    if (!k.has_edge || gap_us < SECOND_US + patience_us()) return;
     if (gap_us >= HALF_TURN && !is(GUARDS_NOT)) return;
-    uint32_t count = (gap_us - patience_us) / SECOND_US;
+    uint32_t count = (gap_us - patience_us()) / SECOND_US;
     if (is_unsteady(now_us)) doubt();
     carry(count, 0);
     tell(s, now_us, k.edge_us + count * SECOND_US, count - 1, NO_VOTE);
@@ -353,7 +390,8 @@ static uint32_t tick(uint32_t now_us, irig_second *s) {
     }
     agreed_edge by = agreed(now_us);
     uint32_t ahead_us = is(TAKES_AHEAD) ? AHEAD_US : 0;
-    if (by.first && now_us + ahead_us - by.edge_us <= late_us() + ahead_us)
+    uint32_t served_us = is(FORGETS_FAST) ? late_us() : SERVED_US;
+    if (by.first && now_us + ahead_us - by.edge_us <= served_us + ahead_us)
         tell_by_lines(s, now_us, &by);
     else tell_alone(s, now_us);
     for (int i = 0; i < k.lines && is(EMPTIES_PORTS); i++) k.line[i].heard.count = 0;
@@ -367,9 +405,9 @@ static uint32_t until(uint32_t time_us, uint32_t now_us) {
 
 static uint32_t wait(uint32_t now_us) {
     agreed_edge by = agreed(now_us);
-    uint32_t patience_us = is(WAITS_LONG) ? 6000 : 5000;
+    uint32_t long_us = SECOND_US + patience_us() + (is(WAITS_LONG) ? 1000 : 0);
     if (by.first) return until(by.edge_us, now_us);
-    return k.has_edge ? until(k.edge_us + SECOND_US + patience_us, now_us) : SECOND_US;
+    return k.has_edge ? until(k.edge_us + long_us, now_us) : SECOND_US;
 }
 
 /* A stamp by a second, of what came behind its edge, by a second and the edge's error at most, or

@@ -40,7 +40,7 @@ static void plan_setup(life *l, chance *luck) {
         .holdover = holdover,
     };
     int32_t any = 1 + (int32_t)below(luck, 8);
-    l->setup.poor_from = (uint8_t)ONE_OF(luck, 0, 0, 0, 7, 8, any);
+    l->setup.poor_from = (uint8_t)ONE_OF(luck, 0, 0, 7, 8, 8, any);
     l->world.poor_from = l->setup.poor_from > 0 ? l->setup.poor_from : 7;
     l->world.is_odd = l->setup.parity == IRIG_PARITY_ODD;
     l->world.is_subtracted = l->setup.sense == IRIG_SENSE_SUBTRACT;
@@ -114,6 +114,14 @@ void begin_lines(life *l, uint64_t start_us, walk kind, chance *luck) {
     memset(l->sky.line, 0, sizeof l->sky.line);
 }
 
+/* What its clock says of itself, the worst that has a vote as often as any other; and how far off it is. */
+static void plan_clock(line *l, world *w, unsigned number, chance *luck) {
+    l->quality = is_once_in(luck, 2) ? w->poor_from - 1 : below(luck, w->poor_from);
+    l->says_any = is_once_in(luck, 4);
+    l->walks = l->quality > 0 && is_once_in(luck, 2);
+    make_clock(w, number, quality_us(l->quality) - l->walks, l->walks, luck);
+}
+
 /* Half of them are of one zone. */
 static void plan_line(line *l, const world *w, int32_t zone, chance *luck) {
     int32_t most_us = jitter_us(w);
@@ -123,7 +131,6 @@ static void plan_line(line *l, const world *w, int32_t zone, chance *luck) {
     l->width = (width)below(luck, WIDTHS);
     l->zone = is_once_in(luck, 2) ? zone : between(luck, -31, 31);
     l->dst = is_once_in(luck, 4);
-    l->quality = below(luck, w->poor_from);
     l->harm_one_in = (uint32_t)ONE_OF(luck, 0, 0, 4, 15, 60);
 }
 
@@ -138,27 +145,38 @@ static void plan_darkness(life *l, chance *luck) {
 
 /* ---- lies */
 
-static int32_t plan_shift(aim aim, int32_t most_us, chance *luck) {
-    int32_t apart_us = 2 * most_us; /* so far at most lie ends that agree */
-    switch (aim) {
+/* How far behind a frame of that quality one of this quality ends, so that their edges may just be one,
+ * or the last time of one lies with that of the other, or just so far off that it has no part. */
+static int32_t plan_bound(const world *w, uint32_t said, uint32_t other, chance *luck) {
+    int32_t both_us = half_of(w, said) + half_of(w, other);
+    int32_t even_us = half_of(w, other) - half_of(w, said);
+    return ONE_OF(luck, -both_us, -both_us, both_us, both_us, even_us, even_us - 3000,
+                  even_us - 3000, even_us + 3000) +
+           ONE_OF(luck, -1, 0, 0, 1);
+}
+
+static int32_t plan_shift(const lie *told, const sky *s, chance *luck) {
+    int32_t most_us = jitter_us(s->world);
+    switch (told->aim) {
     case AT_PLACE: return between(luck, -most_us, most_us);
     case AT_BOUND:
-        return ONE_OF(luck, -1001, -1000, -999, 999, 1000, 1001, 0, -10100, -9000, 500, -apart_us,
-                      -apart_us, -apart_us - 1, 1 - apart_us, apart_us, apart_us, apart_us + 1,
-                      apart_us - 1, -most_us, most_us);
+        return is_once_in(luck, 4)
+                   ? ONE_OF(luck, 0, -10100, -9000, 500, 1000, -1000, -most_us, most_us)
+                   : plan_bound(s->world, told->quality, s->line[told->target].quality, luck);
     case SHIFTED:
         return is_once_in(luck, 2)
                    ? between(luck, -500000, 500000)
-                   : ONE_OF(luck, -500000, 500000, -2000, 2000, -20000, 20000, 8000, -999);
+                   : ONE_OF(luck, -500000, 500000, -2000, 2000, -20000, 20000, 8000, -2999);
     case WALKING: return between(luck, -2000, 2000);
     default:
-        return ONE_OF(luck, -500000, 500000, 499999, -499999, -4000, 4000, 4999, 5000, 99999,
-                      -99999, 100001, -6000);
+        return ONE_OF(luck, -500000, 500000, 499999, -499999, -4000, 4000, 5999, 6000, 99999,
+                      -99999, 100001, -7000);
     }
 }
 
-static lie plan_lie(chance *luck, int32_t most_us, uint8_t lines) {
+static lie plan_lie(chance *luck, const sky *s) {
     lie told = {.seed = draw(luck)};
+    uint32_t poor_from = s->world->poor_from;
     told.manner = (manner)ONE_OF(luck, 0, 0, 0, 0, 0, 0, 0, 0, NOISE, STUCK);
     told.saying = (saying)ONE_OF(luck, SAYS_TRUTH, SAYS_OTHER, SAYS_OTHER, SAYS_LEAP, SAYS_POOR,
                                  SAYS_ANY, SAYS_WRONGLY);
@@ -166,13 +184,14 @@ static lie plan_lie(chance *luck, int32_t most_us, uint8_t lines) {
     told.harm = (harm)ONE_OF(luck, 0, 0, 0, 0, CUT, TRAILED, LAST_MOVED, GLITCHES, HOLES);
     told.by = is_once_in(luck, 2) ? ONE_OF(luck, -1, 1)
                                   : ONE_OF(luck, -2, 2, 60, -60, 3600, -TURN_S, 86400, 7);
-    told.shift_us = plan_shift(told.aim, most_us, luck);
+    told.quality = is_once_in(luck, 2) ? poor_from - 1 : below(luck, poor_from);
+    told.target = (uint8_t)below(luck, s->lines);
+    told.shift_us = plan_shift(&told, s, luck);
     told.rate_us =
         is_once_in(luck, 2) ? between(luck, -1000, 1000) : ONE_OF(luck, -1, 1, -100, 100, 1000);
     told.spacing_us = is_once_in(luck, 3) ? (uint32_t)between(luck, 9000, 10999) : ELEMENT_US;
     if (is_once_in(luck, 20)) told.spacing_us = (uint32_t)ONE_OF(luck, 9000, 10999, 5000);
     if (told.aim == AT_BOUND && is_once_in(luck, 2)) told.saying = SAYS_TRUTH;
-    told.target = (uint8_t)below(luck, lines);
     return told;
 }
 
@@ -185,7 +204,7 @@ static void plan_liar(life *l, const uint8_t *lines, uint32_t count, uint32_t fr
     bool is_patient = is_once_in(luck, 3);
     uint32_t most = (uint32_t)ONE_OF(luck, 3, 10, 60);
     for (int most_lies = s->lies + MOST_LIES / 3; s->lies < most_lies && time_us < end_us;) {
-        lie told = plan_lie(luck, jitter_us(&l->world), s->lines);
+        lie told = plan_lie(luck, s);
         told.line = lines[below(luck, count)];
         told.from_us = time_us;
         told.to_us =
@@ -274,8 +293,9 @@ static void plan_turn(life *l, chance *luck) {
                 .saying = SAYS_OTHER,
                 .by = (int32_t)last - (int32_t)frame,
                 .aim = SHIFTED,
-                .shift_us =
-                    (int32_t)(int64_t)(end_us - l->world.edge_us[frame + 1]) + s->line[0].offset_us,
+                .quality = s->line[0].quality,
+                .shift_us = (int32_t)(int64_t)(end_us - l->world.edge_us[frame + 1]) +
+                            s->line[0].offset_us + l->world.clock_us[0][last + 1],
                 .spacing_us = ELEMENT_US,
                 .seed = draw(luck)};
     s->line[0].spread = EQUAL;
@@ -337,6 +357,15 @@ static uint64_t kinds_of(const life *l, walk kind_of_walk, uint32_t length) {
     return kinds;
 }
 
+static uint32_t clocks_of(const life *l) {
+    uint32_t clocks = 0;
+    for (int i = 0; i < l->sky.lines; i++) {
+        uint32_t quality = l->sky.line[i].quality;
+        clocks |= UINT32_C(1) << (quality > 4 ? quality - 3 : quality > 0);
+    }
+    return clocks;
+}
+
 void plan(life *l, uint64_t seed, uint64_t number) {
     chance luck = {seed * UINT64_C(0x2545f4914f6cdd1d) + number};
     draw(&luck);
@@ -351,12 +380,15 @@ void plan(life *l, uint64_t seed, uint64_t number) {
                                        : (int32_t)below(&luck, WALKS));
     begin_lines(l, plan_start(l, &luck), kind_of_walk, &luck);
     int32_t zone = between(&luck, -31, 31);
-    for (int i = 0; i < l->sky.lines; i++)
+    for (unsigned i = 0; i < l->sky.lines; i++) {
+        plan_clock(&l->sky.line[i], &l->world, i, &luck);
         plan_line(&l->sky.line[i], &l->world, zone, &luck);
+    }
     if (is_turn) plan_turn(l, &luck);
     else if (is_long) plan_long(l, &luck);
     else plan_short(l, &luck);
     for (uint8_t i = 0; i < l->sky.lines; i++) begin_line(&l->sky.line[i], &l->sky, i, draw(&luck));
     plan_device(l, &luck, is_turn || is_long);
     l->kinds = kinds_of(l, kind_of_walk, is_turn ? 2 : is_long);
+    l->clocks = clocks_of(l);
 }

@@ -11,7 +11,7 @@
 #include <string.h>
 
 enum { MOST_QUEUED = 4096, MOST_WANTED = 64 };
-enum { STILL_US = 8000000, ROUND_US = 60000, STAMPED_US = 5000 };
+enum { STILL_US = 8000000, ROUND_US = 60000, STAMPED_US = 6000 };
 
 static chance luck;
 static uint32_t timer_us;
@@ -21,7 +21,7 @@ static queued queue[MOST_QUEUED];
 static uint32_t queued_count, taken;
 static irig_second wanted_second[MOST_WANTED];
 static uint32_t wanted, told;
-static bool is_event_there, is_stamp_wanted; /* an event came; 5 ms behind it it has a stamp */
+static bool is_event_there, is_stamp_wanted; /* an event came; 6 ms behind it it has a stamp */
 static uint32_t event_at_us;
 static irig_stamp wanted_stamp;
 

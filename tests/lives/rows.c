@@ -141,6 +141,13 @@ static bool all_voted(life *l, const subject *s) {
     return goes_right(l, s) && have_votes(l, 1, end) && l->tolds == (int)end;
 }
 
+/* Whether an edge is told so much late, and within so much. */
+static bool is_told_as(const life *l, uint32_t edge, int32_t late_us, int32_t bound_us) {
+    const entry *e = entry_at(l, edge);
+    return e && e->edge_us == l->world.edge_us[edge] + (uint64_t)(int64_t)late_us &&
+           e->second.bound_us == (uint32_t)bound_us;
+}
+
 /* ---- the rows */
 
 /* Dark for so many seconds, the device's own edge comes to lie early by 20 ms, or by 0.3 or 0.9 s:
@@ -174,15 +181,22 @@ static bool early_liar(life *l, const subject *s, int32_t shift_us, int32_t by, 
 }
 
 static bool liar_ends_before_a_wide_marker(life *l, const subject *s) {
-    return early_liar(l, s, -1000, 1, WIDE);
+    return early_liar(l, s, -3000, 1, WIDE);
 }
 
 static bool liar_ends_an_element_early(life *l, const subject *s) {
     return early_liar(l, s, -10100, 0, NOMINAL) && l->judge.earliest >= -1;
 }
 
+/* As long before as it has a part in the vote, or 1 us longer. The true lines end as far apart as they
+ * may; their edge is told as that of the first one, or as the middle. */
 static bool liar_ends_at_the_bound(life *l, const subject *s) {
-    return early_liar(l, s, -1000, 0, WIDE);
+    for (int32_t more_us = 0; more_us <= 1; more_us++) {
+        if (!early_liar(l, s, -3000 - more_us, 0, WIDE)) return false;
+        if (more_us == 0 && !is_told_as(l, 29, -jitter, jitter)) return false;
+        if (more_us == 1 && !is_told_as(l, 29, 0, 2 * jitter)) return false;
+    }
+    return true;
 }
 
 /* It is the first with which the first of the two true lines agrees, or ends 1 us too early. */
@@ -267,6 +281,131 @@ static bool clocks_are_a_millisecond_off(life *l, const subject *s) {
     return given == 8 ? all_voted(l, s) : goes_right(l, s) && l->tolds == 0;
 }
 
+/* ---- clocks that say how far off they are */
+
+/* A line's clock says this quality; its seconds begin so much later than those of UTC. */
+static void say_quality(life *l, uint8_t line, uint32_t quality, int32_t behind_us) {
+    l->sky.line[line].quality = quality;
+    for (uint32_t n = 0; n <= l->world.seconds + 2; n++)
+        l->world.clock_us[line][n] = (int16_t)behind_us;
+}
+
+/* A clock: the quality that it says, or that its line is dark; how late it is; and whether its pulses are
+ * as late as they may be, 1, or as early, -1. */
+enum { DARK = 99 };
+typedef struct clock_said {
+    uint32_t quality;
+    int32_t clock_us, late;
+} clock_said;
+
+/* What is told of an edge by such clocks, by hand: how late, and within how much. The edge of a frame lies
+ * within so much of its end as lines are exact and its quality says; beside the clocks it stands from where
+ * to where. Of three the second first time counts and the second last, of two the first and the last. The
+ * middle is told, and half of what lies between, with 1 us for the drift in an element. */
+static const struct by_clocks {
+    uint32_t poor_from;
+    clock_said clocks[3];
+    int32_t late_at_450, bound_at_450, late_at_10, bound_at_10;
+} BY_CLOCKS[] = {
+    /* -898 to 0, and 0 to 898; at 10: -18 to 0, and 0 to 18. */
+    {1, {{0, 0, -1}, {0, 0, 1}, {DARK, 0, 0}}, 0, 899, 0, 19},
+    {0, {{0, 0, -1}, {0, 0, 1}, {DARK, 0, 0}}, 0, 899, 0, 19},
+    /* -449 to 469, and -469 to 449 twice; at 10: -9 to 29, and -29 to 9 twice. */
+    {0, {{5, 10, 0}, {5, -10, 0}, {5, -10, 0}}, -10, 460, -10, 20},
+    /* 0 to 918, and -918 to 0; at 10: 0 to 38, and -38 to 0. */
+    {0, {{5, 10, 1}, {5, -10, -1}, {DARK, 0, 0}}, 0, 919, 0, 39},
+    /* -449 to 649 twice, and -649 to 449; at 10: -9 to 209 twice, and -209 to 9. */
+    {0, {{6, 100, 0}, {6, 100, 0}, {6, -100, 0}}, 100, 550, 100, 110},
+    /* -1098 to 0, and 0 to 1098; at 10: -218 to 0, and 0 to 218. */
+    {0, {{6, -100, -1}, {DARK, 0, 0}, {6, 100, 1}}, 0, 1099, 0, 219},
+    /* -449 to 2449 each; at 10: -9 to 2009. */
+    {8, {{7, 1000, 0}, {7, 1000, 0}, {7, 1000, 0}}, 1000, 1450, 1000, 1010},
+    /* 0 to 2898, and -2898 to 0; at 10: 0 to 2018, and -2018 to 0. */
+    {8, {{7, 1000, 1}, {7, -1000, -1}, {DARK, 0, 0}}, 0, 2899, 0, 2019},
+    /* 0 to 898, 0 to 2898, -918 to 0; at 10: 0 to 18, 0 to 2018, -38 to 0. */
+    {8, {{0, 0, 1}, {7, 1000, 1}, {5, -10, -1}}, 449, 450, 9, 10},
+    /* -449 to 449, and -2898 to 0; at 10: -9 to 9, and -2018 to 0. The middle is rounded down. */
+    {8, {{0, 0, 0}, {7, -1000, -1}, {DARK, 0, 0}}, -1225, 1675, -1005, 1015},
+    /* -449 to 649 twice, and -2449 to 449; at 10: -9 to 209, and -2009 to 9. */
+    {8, {{6, 100, 0}, {6, 100, 0}, {7, -1000, 0}}, 100, 550, 100, 110},
+    /* -450 to 450, -451 to 449, -449 to 649; at 10: -10 to 10, -11 to 9, -9 to 209. */
+    {8, {{4, 0, 0}, {1, -1, 0}, {6, 100, 0}}, 0, 451, 0, 11},
+};
+
+/* Whether it is told so, and stamps are, and all lines that send agree. */
+static bool is_told_by(life *l, const subject *s, const struct by_clocks *by) {
+    int32_t late_us = jitter == 449 ? by->late_at_450 : by->late_at_10;
+    int32_t bound_us = jitter == 449 ? by->bound_at_450 : by->bound_at_10;
+    uint8_t agreed = 0, silent = 0;
+    irig_stamp at = {0};
+    begin_row(l, 12);
+    l->world.drift_us = 1;
+    l->setup.poor_from = (uint8_t)by->poor_from;
+    l->world.poor_from = by->poor_from > 0 ? by->poor_from : 7;
+    for (uint8_t i = 0; i < 3; i++) {
+        const clock_said *clock = &by->clocks[i];
+        bool is_dark = clock->quality == DARK;
+        if (is_dark) darken(l, 0, 12, 1u << i);
+        else say_quality(l, i, clock->quality, clock->clock_us);
+        send(l, i, clock->late * jitter, NOMINAL);
+        agreed = (uint8_t)(agreed | !is_dark << i);
+        silent = (uint8_t)(silent | is_dark << i);
+    }
+    if (!all_voted(l, s)) return false;
+    for (uint32_t edge = 1; edge <= 12; edge++)
+        if (!is_told_as(l, edge, late_us, bound_us)) return false;
+    const irig_masks *m = &l->told[11].second.lines;
+    if (m->agreed != agreed || m->silent != silent || m->apart != 0) return false;
+    return !s->stamp || (s->stamp((uint32_t)l->world.edge_us[12] + 5000, &at) == IRIG_DONE &&
+                         at.offset_us == (uint32_t)(5000 - late_us) && at.bound_us == (uint32_t)bound_us);
+}
+
+static bool clocks_are_as_far_off(life *l, const subject *s) {
+    if (jitter != 449 && jitter != 9) return true;
+    for (size_t i = 0; i < sizeof BY_CLOCKS / sizeof *BY_CLOCKS; i++)
+        if (!is_told_by(l, s, &BY_CLOCKS[i])) return false;
+    return true;
+}
+
+/* Two clocks are right, and so is the edge that they tell. The third one says 5, 6 or 7, and is so much
+ * later that its line just agrees with that edge, or is 1 us apart from it. */
+static bool clock_says_too_little(life *l, const subject *s) {
+    static const int32_t OFF_US[] = {10, 100, 1000};
+    for (uint32_t quality = 5; quality <= 7; quality++)
+        for (int32_t more_us = 0; more_us <= 1; more_us++) {
+            begin_row(l, 12);
+            l->setup.poor_from = 8;
+            l->world.poor_from = 8;
+            lie *told = add_lie(l, 2, 0, 12, 0);
+            told->quality = quality;
+            told->shift_us = 2 * jitter + OFF_US[quality - 5] + more_us;
+            told->to_us += 20000;
+            if (!goes_right(l, s) || !have_votes(l, 1, 12) || !is_told_as(l, 12, 0, jitter)) return false;
+            const irig_masks *m = &l->told[10].second.lines;
+            if (m->agreed != (more_us == 0 ? 7 : 3) || m->apart != (more_us == 0 ? 0 : 4)) return false;
+        }
+    return true;
+}
+
+/* The only clock says 7, and is 1 ms early up to edge 6. It is dark, and comes back 1 ms late, on a line
+ * that is 4 ms late, with the widest pulses: by the own edge they end less than 6 ms behind it. */
+static bool clock_comes_back_late(life *l, const subject *s) {
+    begin_alone(l, 40);
+    l->setup.poor_from = 8;
+    l->world.poor_from = 8;
+    l->world.drift_us = 100;
+    l->world.delay_us[0] = MOST_DELAY_US;
+    say_quality(l, 0, 7, -1000);
+    for (uint32_t n = 7; n <= 42; n++)
+        l->world.clock_us[0][n] = (int16_t)(n < 26 ? 100 * ((int32_t)n - 16) : 1000);
+    send(l, 0, jitter, WIDE);
+    darken(l, 6, 30, ALL);
+    if (!goes_right(l, s) || !have_votes(l, 1, 6) || !have_votes(l, 31, 40)) return false;
+    for (int i = 0; i < l->tolds; i++)
+        if (l->told[i].second.moved > 0) return false;
+    return announces(l, 30, IRIG_CAUSE_HELD) && is_told_as(l, 40, 1000 + jitter, 1000 + jitter + 1);
+}
+
 /* A call some microseconds behind one of a later time answers nothing; what follows is right. */
 static bool call_out_of_order(life *l, const subject *s) {
     begin_row(l, 8);
@@ -275,9 +414,11 @@ static bool call_out_of_order(life *l, const subject *s) {
     uint32_t edge_us = (uint32_t)l->judge.edge_us;
     for (uint32_t back_us = 1; back_us <= 10000; back_us += 37) {
         s->tick(edge_us - back_us, &told);
-        if (told.is_told || s->wait(edge_us - back_us) > 1005000 + back_us) return false;
+        if (told.is_told || s->wait(edge_us - back_us) != 1006000 + back_us) return false;
     }
-    s->tick(edge_us + 1005000, &told);
+    s->tick(edge_us + 1005999, &told);
+    if (told.is_told || s->wait(edge_us + 1005999) != 1) return false;
+    s->tick(edge_us + 1006000, &told);
     return went_right && told.is_told && told.missed == 0 && told.edge_us == edge_us + SECOND_US;
 }
 
@@ -405,12 +546,12 @@ static bool lines_apart(life *l, const subject *s) {
     return all_voted(l, s);
 }
 
-/* Dark from edge 6 to 139, in seconds of so much more or less than a million, and then two lines as
- * far apart as they may lie, with seconds of a million. */
-static void drift_in_the_dark(life *l, int32_t rate_us) {
+/* Dark from edge 6 to 139, in seconds that are together so much more or less than so many millions, and
+ * then two lines as far apart as they may lie, with seconds of a million. */
+static void drift_in_the_dark(life *l, int32_t more_us) {
     begin_drifting(l, 180, 100);
     for (uint32_t n = 0; n <= l->world.seconds + 2; n++)
-        set_edge(&l->world, n, rate_us * (n <= 6 ? 0 : n <= 139 ? (int32_t)n - 6 : 133));
+        set_edge(&l->world, n, more_us * (n <= 6 ? 0 : n <= 139 ? (int32_t)n - 6 : 133) / 133);
     send(l, 0, -jitter, NOMINAL);
     send(l, 1, jitter, NOMINAL);
     darken(l, 6, 139, ALL);
@@ -420,14 +561,14 @@ static void drift_in_the_dark(life *l, int32_t rate_us) {
 /* The own tick falls 2.05 ms before the edge, between the ends of the two lines' last pulses if they
  * are 50 us off or more, so that one alone is known: they do agree behind it. */
 static bool tick_between_two_ends(life *l, const subject *s) {
-    drift_in_the_dark(l, 53);
+    drift_in_the_dark(l, 8049);
     return goes_right(l, s) && have_votes(l, 141, 180);
 }
 
 /* The third ends a millisecond before the first, and tells something else: the clock is set all the
  * same. */
 static bool liar_beside_a_late_clock(life *l, const subject *s) {
-    drift_in_the_dark(l, -50);
+    drift_in_the_dark(l, -6650);
     lie *told = add_lie(l, 2, 139, 180, 1);
     told->aim = AT_BOUND;
     told->shift_us = -1000;
@@ -925,13 +1066,13 @@ typedef struct expected {
 /* How late the second line is. */
 static uint32_t second_late_us(void) { return jitter < 300 ? (uint32_t)jitter : 300; }
 
-/* How far off a vote is told to be: as far as a line, the drift in an element, and half of how late
- * the second line is. */
-static uint32_t voted_us(void) { return (uint32_t)jitter + 1 + (second_late_us() + 1) / 2; }
+/* How far off a vote is told to be: as far as a line, a clock that says 2, the drift in an element, and
+ * half of how late the second line is. */
+static uint32_t voted_us(void) { return (uint32_t)jitter + 1 + 1 + (second_late_us() + 1) / 2; }
 
 /* Votes end at edges 90 and 200. Behind the first darkness the lines' edge lies 6.1 ms behind the own
  * one, and their frames are known 4.1 to 4.3 ms behind that: they are voted. Behind the second it lies
- * 11.1 ms behind, and they are known 9.1 ms behind or more: edge 311 was told 5 ms behind the own one,
+ * 11.1 ms behind, and they are known 9.1 ms behind or more: edge 311 was told 6 ms behind the own one,
  * and is moved. */
 static expected expect(uint32_t edge) {
     uint32_t votes = edge < 3 ? edge : edge > 311 && edge < 314 ? edge - 311 : 0;
@@ -1031,6 +1172,9 @@ static const struct {
     {"a limit of quality is bounded", poor_from_is_bounded, 0, OF_ALL},
     {"clocks are a millisecond off", clocks_are_a_millisecond_off, 0, OF_ALL},
     {"clocks are a millisecond off, and may be", clocks_are_a_millisecond_off, 8, OF_ALL},
+    {"clocks are as far off as they say", clocks_are_as_far_off, 0, OF_ALL},
+    {"a clock says too little", clock_says_too_little, 0, OF_ALL},
+    {"a clock comes back late", clock_comes_back_late, 0, OF_ALL},
     {"a call out of order", call_out_of_order, 0, OF_ANY_TICKS},
     {"rotating liars", rotating_liars, 0, OF_ALL},
     {"a liar begins at the edge", liar_begins_at_the_edge, 0, OF_ALL},

@@ -32,7 +32,11 @@ enum { DIFFERS = 200 }; /* what a subject answers where two have to answer alike
     X(ONE_IS_ENOUGH)   /* one line sets the edge, and has a vote */                                \
     X(AGREES_WIDELY)   /* ends agree that lie 2 ms further apart */                                \
     X(AGREES_SHORTLY)  /* those that lie as far apart as they may do not */                        \
-    X(HAS_NO_PATIENCE) /* its own edge is counted before the lines' */                             \
+    X(IGNORES_QUALITY) /* what a frame says of its clock is not in how far off its edge may be, */ \
+    X(TAKES_WORST)     /* or all say the worst that has a vote */                                  \
+    X(LEAVES_OUT_MORE) /* what ends a millisecond before others has no part in a vote */           \
+    X(HAS_NO_PATIENCE) /* its own edge is counted before the lines', */                            \
+    X(HAS_LESS_PATIENCE) /* or before those of clocks that are a millisecond off */                \
     X(MOVES_NEVER)     /* an edge of the lines behind its own tick is another second */            \
     X(MISSES_NONE)     /* seconds that no tick came for are one */                                 \
     X(FORGETS_FAST)    /* a frame is kept for 8 ms */                                              \
@@ -65,6 +69,7 @@ enum { DIFFERS = 200 }; /* what a subject answers where two have to answer alike
     X(IGNORES_TABLE)   /* frames' word on a leap second goes before the table's */                 \
     X(KEEPS_DELAYS)    /* the delays of lines are not taken off */                                 \
     X(JUDGES_CLOSELY)  /* a line is apart from an edge by what the edge alone may be off, */       \
+    X(JUDGES_ALIKE)    /* or by how exact lines are, whatever they say of their clocks, */         \
     X(JUDGES_BY_THE_LAST) /* or differs if its frame is of the edge before, */                     \
     X(JUDGES_UNKNOWN)  /* or of one that was not told */
 

@@ -1,5 +1,7 @@
 #include "world.h"
 
+#include <string.h>
+
 /* The place of a day: its year, and the day of that year from 1. */
 typedef struct date {
     int32_t year, day;
@@ -88,6 +90,22 @@ void make_edges(world *w, uint64_t start_us, walk kind, chance *luck) {
         rate = rate_behind(rate, kind, n, most, luck);
         w->edge_us[n + 1] = w->edge_us[n] + (uint64_t)(SECOND_US + rate);
     }
+    for (int i = 0; i < MOST_LINES; i++)
+        memset(w->clock_us[i], 0, (w->seconds + 3) * sizeof *w->clock_us[i]);
+}
+
+void make_clock(world *w, unsigned line, int32_t most_us, bool walks, chance *luck) {
+    int32_t drift = (int32_t)w->drift_us, way = is_once_in(luck, 2) ? 1 : -1;
+    int32_t off_us = is_once_in(luck, 2) ? way * most_us : between(luck, -most_us, most_us);
+    for (uint32_t n = 0; n < w->seconds + 2; n++) {
+        int32_t rate = (int32_t)(w->edge_us[n + 1] - w->edge_us[n]) - SECOND_US;
+        w->clock_us[line][n] = (int16_t)off_us;
+        if (!walks) continue;
+        if (off_us == way * most_us || is_once_in(luck, 20)) way = -way;
+        off_us += way * (int32_t)below(luck, (uint32_t)(drift - way * rate) + 1);
+        off_us = off_us > most_us ? most_us : off_us < -most_us ? -most_us : off_us;
+    }
+    w->clock_us[line][w->seconds + 2] = (int16_t)off_us;
 }
 
 uint32_t edge_before(const world *w, uint64_t time_us) {

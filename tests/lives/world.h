@@ -1,5 +1,5 @@
-/* The world of one life: days and frames, chance, when seconds begin by the device's counter, and
- * which they are. */
+/* The world of one life: days and frames, chance, when seconds begin by the device's counter, and by
+ * the clocks that send on its lines, and which they are. */
 #ifndef WORLD_H
 #define WORLD_H
 
@@ -81,6 +81,8 @@ typedef struct world {
     uint32_t drift_us;
     uint32_t within_us; /* true pulses rise less than so many us from their time, */
     int32_t delay_us[MOST_LINES]; /* and reach the device so much later, on each line */
+    /* The seconds of each line's clock begin so many us behind those of UTC. */
+    int16_t clock_us[MOST_LINES][MOST_SECONDS + 3];
     utc first;                  /* T(0) */
     int64_t leap_day;           /* at whose end a leap comes, or none */
     int leap;                   /* 1 inserted, -1 deleted, 0 none */
@@ -89,16 +91,41 @@ typedef struct world {
     bool prefers_frames;        /* to its table, on leap seconds: what a device is told */
 } world;
 
+/* Makes edges, and clocks that are right. */
 void make_edges(world *w, uint64_t start_us, walk kind, chance *luck);
 
-/* When an element of a second's frame begins: so many hundredths of the way from edge to edge. */
-static inline uint64_t element_us(const world *w, uint32_t second, unsigned element) {
-    uint64_t edge_us = w->edge_us[second];
-    return edge_us + (w->edge_us[second + 1] - edge_us) * element / ELEMENTS;
+/* Makes a line's clock that is at most so far off, and often as far: always the same, or its seconds
+ * are longer and shorter than those of UTC, as far as they may be by the device's counter. Two that walk
+ * may have last elements that differ by 1 us. */
+void make_clock(world *w, unsigned line, int32_t most_us, bool walks, chance *luck);
+
+/* How far off a clock may be that says this quality. */
+static inline int32_t quality_us(uint32_t quality) {
+    static const int32_t OFF_US[] = {0, 1, 1, 1, 1, 10, 100, 1000};
+    return OFF_US[quality];
+}
+
+/* When a second begins by a line's clock. */
+static inline uint64_t clock_edge_us(const world *w, unsigned line, uint32_t second) {
+    return w->edge_us[second] + (uint64_t)(int64_t)w->clock_us[line][second];
+}
+
+/* When an element of that second's frame begins: so many hundredths of the way from edge to edge. */
+static inline uint64_t element_us(const world *w, unsigned line, uint32_t second, unsigned element) {
+    uint64_t edge_us = clock_edge_us(w, line, second);
+    return edge_us + (clock_edge_us(w, line, second + 1) - edge_us) * element / ELEMENTS;
 }
 
 /* How far from its time a true pulse rises at most. */
 static inline int32_t jitter_us(const world *w) { return (int32_t)w->within_us - 1; }
+
+/* How far a frame's end may lie from its edge, if it says this quality. */
+static inline int32_t half_of(const world *w, uint32_t quality) {
+    return jitter_us(w) + quality_us(quality);
+}
+
+/* That of the worst quality that has a vote. */
+static inline int32_t widest_us(const world *w) { return half_of(w, w->poor_from - 1); }
 
 /* A quality by which a frame has no vote. */
 static inline uint32_t poor_quality(const world *w, chance *luck) {

@@ -3,7 +3,7 @@
 from dataclasses import dataclass, field, replace
 
 from .faults import Fault
-from .frames import Poor, Rules, Told, symbol_of, told
+from .frames import Poor, Rules, Told, quality_of, symbol_of, told
 from .reader import IDLE, Cause, Lock, ReaderRules, Report, State, after_tick, stopped
 from .times import Claim, Mark, Second, Table, second_after, table_mark
 from .voting import majority
@@ -12,14 +12,16 @@ WRAP = 2**32  # where the device's counter wraps
 SECOND = 1_000_000
 ELEMENT = 10_000
 STUCK = 500_000  # what is as wide is no pulse
-BEFORE = 1_000  # what ends longer before the first of those that agree has no part in a vote
+BEFORE = 3_000  # what ends longer before the first of those that agree has no part in a vote
 KEPT = 100_000  # how long a line keeps a frame behind its end
-COUNTED = 5_000  # how long behind its edge the counter alone counts a second
+SERVED = 103_000  # how long behind an edge on which lines agree a tick has it
+COUNTED = 6_000  # how long behind its edge the counter alone counts a second
 LONGEST = 980_000  # what is known of an edge is forgotten if it is longer
 AHEAD = 14_000  # how far ahead of a tick a frame may end
 SEEN = 1_500_000  # how long behind its end a frame says what its line is
 BETWEEN = 990_000  # from the first pulse of a frame to its last one
 POOR_FROM = 7  # from this quality on a frame has no vote, unless the setup says otherwise
+OFF = (0, 1, 1, 1, 1, 10, 100, 1_000)  # how far off a clock may be, by the quality that it says
 MOST_DOUBT = 1_000  # as many seconds at most have to be voted behind a stray
 RENEWED = 1_000  # so many seconds behind one anchor the next is set
 OLDEST = 2_000  # so many seconds behind it an anchor is dropped
@@ -78,11 +80,26 @@ class Rate:
 
 @dataclass(frozen=True)
 class Frame:
-    """A whole frame: what it says, when it ends, and whether it lasts as long as a frame does."""
+    """A whole frame: what it says, when it ends, whether it lasts as long as a frame does, and how far from its end
+    its edge may lie, if the line is true, but for the drift."""
 
     word: Told
     end: int
     is_even: bool
+    half: int
+
+    @property
+    def first(self) -> int:
+        """The first time at which its edge may lie."""
+        return (self.end - self.half) % WRAP
+
+    @property
+    def last(self) -> int:
+        return (self.end + self.half) % WRAP
+
+    def agrees(self, other: "Frame") -> bool:
+        """Whether the edge of another one of its claim may lie at this one's last time."""
+        return other.word == self.word and off(other.first, self.last) <= 0 <= off(other.last, self.last)
 
 
 @dataclass(frozen=True)
@@ -117,8 +134,8 @@ class Line:
             return self.place % 100 + 1
         return 0
 
-    def hear(self, rules: Rules, rise: int, width: int, uneven: int) -> int:
-        """A frame is even whose first and last pulse are no more than so far from 990 ms apart."""
+    def hear(self, device: "Device", rise: int, width: int) -> int:
+        """The place of a pulse; a frame's last one ends the frame."""
         symbol = symbol_of(width)
         self.place = self.place_of(rise, symbol)
         self.rise, self.may_begin, self.is_heard = rise, symbol == "P", True
@@ -127,8 +144,9 @@ class Line:
         if self.place > 0:
             self.symbols += symbol
         if self.place == 100:
-            is_even = abs(since(self.begin, rise) - BETWEEN) <= uneven
-            self.frame = self.seen = Frame(told(rules, self.symbols, POOR_FROM), (rise + ELEMENT) % WRAP, is_even)
+            word, end = told(device.rules, self.symbols, device.poor_from), (rise + ELEMENT) % WRAP
+            half = device.half(quality_of(self.symbols) if isinstance(word, Claim) else 0)
+            self.frame = self.seen = Frame(word, end, device.is_even(self.begin, rise), half)
         return self.place
 
     def kept(self, now: int) -> Frame | None:
@@ -190,6 +208,7 @@ class Device:
     drift: int
     delays: tuple[int, ...]
     prefers_frames: bool = False
+    poor_from: int = POOR_FROM
     lines: list[Line] = field(init=False)
 
     def __post_init__(self) -> None:
@@ -210,29 +229,33 @@ class Device:
 
     def hear(self, line: int, rise: int, width: int) -> int:
         """The place of a pulse in its frame."""
-        uneven = 2 * (self.within - 1) + self.drift
-        return self.lines[line].hear(self.rules, self.corrected(line, rise), width, uneven) if width < STUCK else 0
+        return self.lines[line].hear(self, self.corrected(line, rise), width) if width < STUCK else 0
 
-    def ends(self, frame: Frame, now: int, before: int) -> list[int]:
-        """How far behind a frame's end those end that claim the same, in order, and no longer before it than so."""
-        kept = [one for line in self.lines if (one := line.kept(now)) and one.is_even and one.word == frame.word]
-        return sorted(behind for one in kept if (behind := off(one.end, frame.end)) >= -before)
+    def half(self, quality: int) -> int:
+        """How far from its end the edge of a frame of that quality may lie: as far as a pulse from its place, and as
+        far as the clock may be off by what it says."""
+        return self.within - 1 + OFF[quality]
+
+    def is_even(self, begin: int, rise: int) -> bool:
+        """Whether a frame's first and last pulses are 990 ms apart, but for what they may be off."""
+        return abs(since(begin, rise) - BETWEEN) <= 2 * (self.within - 1) + self.drift
 
     def agreed(self, now: int) -> Vote | None:
-        """The edge on which lines agree: f + 1 of one claim end as near one another as the ends of two true lines.
-        It is the middle between the end by which f + 1 of that claim end and the one from which on f + 1 do."""
-        enough, apart = majority(self.redundancy), 2 * (self.within - 1)
-        claims = [frame for line in self.lines
-                  if (frame := line.kept(now)) and frame.is_even and isinstance(frame.word, Claim)]  # fmt: skip
-        firsts = [one for one in claims if self.ends(one, now, 0)[enough - 1 : enough] and
-                  self.ends(one, now, 0)[enough - 1] <= apart]  # fmt: skip
-        if not firsts:
+        """The edge on which lines agree. Where the edge of one frame may lie at last, so may those of f others of its
+        claim; of such frames the one counts whose last time comes first. All of its claim have a part but those whose
+        last times come too long before that. The true edge lies no later than the (f + 1)-th earliest of their last
+        times, and no earlier than the (f + 1)-th latest of their first ones."""
+        enough, kept = majority(self.redundancy), [line.kept(now) for line in self.lines]
+        claims = [one for one in kept if one and one.is_even and isinstance(one.word, Claim)]
+        agreeing = [one for one in claims if sum(one.agrees(other) for other in claims) >= enough]
+        if not agreeing:
             return None
-        first = min(firsts, key=lambda one: off(one.end, firsts[0].end))
-        ends = self.ends(first, now, BEFORE)
-        by, since_ = (min(max(end, 0), apart) for end in (ends[enough - 1], ends[-enough]))
-        bound = self.within - 1 + (self.drift > 0) + (by - since_ + 1) // 2
-        return Vote(first.word, (first.end + (since_ + by) // 2) % WRAP, bound)
+        first = min(agreeing, key=lambda one: off(one.last, agreeing[0].last))
+        parts = [one for one in claims if one.word == first.word and off(one.last, first.last) >= -BEFORE]
+        most = sorted(off(one.last, first.last) for one in parts)[enough - 1]
+        least = sorted(off(one.first, first.last) for one in parts)[-enough]
+        bound = (most - least + 1) // 2 + (self.drift > 0)
+        return Vote(first.word, (first.last + (least + most) // 2) % WRAP, bound)
 
     def tick(self, now: int) -> Beat | None:
         """What is said of a second, if one has begun."""
@@ -240,7 +263,7 @@ class Device:
             line.settle(now)
         told = [line.frame and line.frame.word for line in self.lines]
         agreed = self.agreed(now)
-        if agreed is None or not 0 <= off(now, agreed.edge) <= KEPT:
+        if agreed is None or not 0 <= off(now, agreed.edge) <= SERVED:
             seconds = self.seconds_alone(now)
             uneven = sum(1 for line in self.lines if line.frame and not line.frame.is_even)
             if seconds and uneven >= majority(self.redundancy):
@@ -364,7 +387,7 @@ class Device:
             return "Unjudged"
         for told in (self.ended, self.ended_before):
             if told and told.second == frame.word.second:
-                most = self.within - 1 + (self.drift > 0) + told.bound
+                most = frame.half + (self.drift > 0) + told.bound
                 return "Agreed" if abs(off(frame.end, told.edge)) <= most else "Apart"
         is_earlier = off(frame.end, self.ended.edge) <= -SECOND // 2
         return "Unjudged" if is_earlier and self.ended_before is None else "Differed"

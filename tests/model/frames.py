@@ -195,6 +195,11 @@ def told(rules: Rules, symbols: str, poor_from: int = 10) -> Told:
     return Poor(quality) if isinstance(claim, Claim) and quality >= poor_from else claim
 
 
+def quality_of(symbols: str) -> int:
+    """The time quality that a frame says (docs/FRAME.md, the table of bits)."""
+    return control_of(value_of(symbols, CONTROL_WORD)).quality
+
+
 def word_of_port(word: Fault | Poor | None) -> str:
     """What a port told that was no claim (docs/OUTPUT.md, What each port told)."""
     match word:

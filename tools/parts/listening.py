@@ -20,7 +20,8 @@ from parts.pace import ELEMENT_US, SECOND_US, LinesTime, pace_of
 KEPT_US = 100_000  # how long behind its end a timekeeper keeps a frame
 AGREE_US = 1_000  # a frame that ends so near to an edge is of it, if lines are as inexact as they may be
 MOST_EXACT_US = 450
-BEHIND_US = 5_000  # how long behind a recording's end it is still ticked
+OFF_US = (0, 1, 1, 1, 1, 10, 100, 1_000)  # and its clock may be so far off, by the quality that it says
+BEHIND_US = 6_000  # how long behind a recording's end it is still ticked
 FIRST_US = 8_000_000  # for so long behind its first whole frame a recording is looked at beforehand
 LATELY_US = 1_500_000  # a line whose last frame ended within this says how fast the recorder's clock runs
 WORD = 1 << 32  # at which its counter wraps
@@ -159,6 +160,7 @@ class Line:
         self.views = [View(high) for high in highs]
         self.ports: List[Callable[[int, int], int]] = []
         self.told: Told = Silence()  # by the last whole frame
+        self.off_us = 0  # how far off its clock may be, as the last one says that has a vote
         self.changes = 0
         self.decoded = 0  # frames that are of a time
         self.bare = 0  # those of them whose year and control bits are all 0
@@ -215,6 +217,8 @@ class Line:
         except Fault:
             return
         self.decoded += 1
+        if isinstance(self.told, Claim):
+            self.off_us = OFF_US[Control.unpack(coded.control).quality]
         self.bare += coded.year == 0 and coded.control == 0
         if self.shifted is None and Control.unpack(coded.control).offset_half_hours:
             self.shifted = coded
@@ -318,7 +322,7 @@ class Device:
             self._ask(count)
 
     def _tick(self, now: float, edge: int, agreed: Tuple[int, ...]) -> Tick:
-        ends = [line.frame_end for line in self.lines if abs(line.frame_end - edge) <= self._near]
+        ends = [line.frame_end for line in self.lines if self._is_near(line, line.frame_end - edge)]
         self.apart = max(self.apart, max(ends, default=0) - min(ends, default=0))
         heard = [line.heard(now) for line in self.ports]
         most, count = Counter(told for _, told in heard).most_common(1)[0]
@@ -334,13 +338,17 @@ class Device:
                 self._compare(line, edge, claim)
         return self.last
 
+    def _is_near(self, line: Line, late: float) -> bool:
+        """Whether a line's frame ends no further from an edge than lines do that are as exact as these."""
+        return abs(late) <= self._near + line.off_us
+
     def _compare(self, line: Line, edge: int, claim: Claim) -> None:
         """Compares the last frame of a line with the claim of an edge, if it is of that second. One that is
         late by a part of a second is of the second before."""
         second = SECOND_US * self._counter.pace
         behind = round((line.frame_end - edge) / second) if line.frame_end > edge - 2 * second else -2
         late = line.frame_end - edge - behind * second
-        is_near = abs(late) <= self._near
+        is_near = self._is_near(line, late)
         if behind < -1 or (behind and is_near):
             return
         line.near += is_near

@@ -426,8 +426,8 @@ class Devices(InAFolder):
             )
 
     def played(self, lines: Wave, ports: Sequence[int], *setup: int) -> subprocess.CompletedProcess[str]:
-        """What the board of this setup prints until 5 ms behind the end."""
-        rows = [*lines.rows(), (lines.end + 5_000, list(lines.rows())[-1][1])]
+        """What the board of this setup prints until 6 ms behind the end."""
+        rows = [*lines.rows(), (lines.end + 6_000, list(lines.rows())[-1][1])]
         table = [f"{time / 1e6:.6f}," + ",".join(str(levels[line]) for line in ports)
                  for time, levels in rows]
         text = "\n".join(["Time [s]", *table, ""])
@@ -595,6 +595,24 @@ class Edges(InAFolder):
         words = "--exact=10", "--delay=0,19,100"
         self.assertEqual(self.ticks(lines, *words), self.each(1_050_000, 6))
         self.near(scaled(lines, 995_000), [1_044_750 + 995_000 * n for n in range(6)], *words)
+
+    def test_clocks_that_say_how_far_off_they_are(self) -> None:
+        """By quality 7, which is 1 ms, two of three lines agree that end 2.8 ms apart, and not 2.9 ms. A line that
+        ends 1.2 ms before two others is too early, unless its clock says that it may be 1 ms off."""
+        early, text = "G0 is 1.2 ms early of most lines", ONE_CLOCK_AHEAD.split("\n")[0]
+        says_7 = "".join(f'\n{{"do":"fault","g":{of},"kind":"quality","q":7}}' for of in range(3))
+        for says, is_early in ("", True), (says_7, False):
+            lines = wave_of_text(text + says + '\n{"do":"seconds","n":6}\n')
+            late = lines.of(lambda change: [(change[0] + (0, 1200, 1300)[change[1]], *change[1:])])
+            self.assertEqual(self.ticks(late), self.each(1_051_200, 6))
+            self.assertEqual(early in captured_wave(late)[1], is_early)
+        for late_us, says in (2_898, "6 ticks: "), (2_899, "most ports never claim one second within 2.9 ms"):
+            apart = lines.of(lambda change: [(change[0] + late_us * (change[1] == 1), *change[1:])] * (change[1] < 2))
+            try:
+                said = captured_wave(apart)[1]
+            except ValueError as fault:
+                said = str(fault)
+            self.assertIn(says, said)
 
     def test_a_frame_that_is_not_kept(self) -> None:
         """G1 ends each half a second late, and is lost behind the second one."""

@@ -1,7 +1,7 @@
 -- Lines that a timekeeper has not add nothing to what its lines brought.
 use Rattle.std.specs.Prelude.{if◌then◌else◌, nat_lt, count_by}
 use Rattle.std.specs.List.{range_with_len}
-use Rattle.std.proofs.Common.{◌≡◌, ℕ, zero, suc, ◌+◌, ◌<◌, ◌≤◌, Bool, true, false, cond, List, [], Option, None, refl, sym, subst, arith, inl, inr}
+use Rattle.std.proofs.Common.{◌≡◌, ℕ, zero, suc, ◌+◌, ◌<◌, ◌≤◌, Bool, true, false, cond, List, [], Option, Some, None, refl, sym, subst, arith, inl, inr}
 use Rattle.std.proofs.lemmas.Bool.{cases_Bool, ltb-true, ltb-false}
 use Rattle.irig_sync.specs.Lines.{Pulse}
 use Rattle.irig_time.specs.declared.rules.Rules.{Rules}
@@ -10,10 +10,11 @@ use Rattle.irig_vote.specs.declared.redundancy.Redundancy.{Redundancy}
 use Rattle.irig_vote.specs.declared.redundancy.Redundancy.TheVariants.{One, Three, Five}
 use Rattle.irig_vote.specs.Vote.{f_of, ports_in}
 use Rattle.irig_lines.specs.declared.lines.KeptClaim.{KeptClaim}
+use Rattle.irig_lines.specs.declared.setup.ClockRules.{ClockRules}
 use Rattle.irig_lines.specs.Lines.{IfKept, IsInTurnOf}
 use Rattle.irig_lines.specs.Steps.{claim_kept, line_at}
 use Rattle.irig_timekeeper.specs.Truth.{AreHeardTruly}
-use Rattle.c_numbers.specs.Setups.{keeper_limits_in, redundancy_in, rules_in}
+use Rattle.c_numbers.specs.Setups.{redundancy_in, rules_in}
 use Rattle.c_lines.specs.declared.line.IrigLine.{IrigLine}
 use Rattle.c_lines.specs.declared.line.IrigLines.{IrigLines}
 use Rattle.c_keeper.specs.declared.timekeeper.IrigTimekeeper.{IrigTimekeeper}
@@ -21,16 +22,16 @@ use Rattle.c_lines.specs.Lines.{line_in, lines_in, KeepNoMore}
 use Rattle.c_keeper.specs.Timekeepers.{clock_in, HeardTruly}
 
 -- what keeps no frame claims nothing
-none_in : (within : ℕ) (limits : Option Limits) (rules : Rules) (l : IrigLine) → l.has_frame ≡ 0 → claim_kept within (line_in limits rules l).frame ≡ None
-none_in within limits rules l empty = rw empty refl
+none_in : (c : ClockRules) (limits : Option Limits) (rules : Rules) (l : IrigLine) → l.has_frame ≡ 0 → claim_kept c (line_in limits rules l).frame ≡ None
+none_in c limits rules l empty = rw empty refl
 
-none_at : (within : ℕ) (limits : Option Limits) (rules : Rules) (ls : IrigLines) (ports i : ℕ) → 1 ≤ ports → KeepNoMore ports ls → ports ≤ i → i < 5 → claim_kept within (line_at (lines_in limits rules ls) i).frame ≡ None
-none_at within limits rules ls ports zero some absent past low = absurd (omega (arith, some, past))
-none_at within limits rules ls ports (suc zero) some absent past low = none_in within limits rules ls.b (absent.b past).frame
-none_at within limits rules ls ports (suc (suc zero)) some absent past low = none_in within limits rules ls.c (absent.c past).frame
-none_at within limits rules ls ports (suc (suc (suc zero))) some absent past low = none_in within limits rules ls.d (absent.d past).frame
-none_at within limits rules ls ports (suc (suc (suc (suc zero)))) some absent past low = none_in within limits rules ls.e (absent.e past).frame
-none_at within limits rules ls ports (suc (suc (suc (suc (suc i))))) some absent past low = absurd (omega (arith, low))
+none_at : (c : ClockRules) (limits : Option Limits) (rules : Rules) (ls : IrigLines) (ports i : ℕ) → 1 ≤ ports → KeepNoMore ports ls → ports ≤ i → i < 5 → claim_kept c (line_at (lines_in limits rules ls) i).frame ≡ None
+none_at c limits rules ls ports zero some absent past low = absurd (omega (arith, some, past))
+none_at c limits rules ls ports (suc zero) some absent past low = none_in c limits rules ls.b (absent.b past).frame
+none_at c limits rules ls ports (suc (suc zero)) some absent past low = none_in c limits rules ls.c (absent.c past).frame
+none_at c limits rules ls ports (suc (suc (suc zero))) some absent past low = none_in c limits rules ls.d (absent.d past).frame
+none_at c limits rules ls ports (suc (suc (suc (suc zero)))) some absent past low = none_in c limits rules ls.e (absent.e past).frame
+none_at c limits rules ls ports (suc (suc (suc (suc (suc i))))) some absent past low = absurd (omega (arith, low))
 
 some_port : (r : Redundancy) → 1 ≤ ports_in r
 some_port One = omega arith
@@ -74,11 +75,11 @@ one_true Five untrue less few = absurd (omega (arith, less))
 abbrev pub pulses_there : Redundancy → (ℕ → List Pulse) → ℕ → List Pulse
 pulses_there r pulses i = if nat_lt i (ports_in r) then pulses i else []
 
-kept_nothing : (EndsSo : ℕ → Type 0) (within d : ℕ) (rules : Rules) (kept : Option KeptClaim) (pulses : List Pulse) → kept ≡ None → IfKept EndsSo within d rules kept pulses
-kept_nothing EndsSo within d rules kept pulses none = subst (λ (o : Option KeptClaim). IfKept EndsSo within d rules o pulses) (sym none) tt
+kept_nothing : (EndsSo : ℕ → Type 0) (c : ClockRules) (rules : Rules) (kept : Option KeptClaim) (pulses : List Pulse) → kept ≡ None → IfKept EndsSo c rules kept pulses
+kept_nothing EndsSo c rules kept pulses none = subst (λ (o : Option KeptClaim). IfKept EndsSo c rules o pulses) (sym none) tt
 
 pub all_heard : (IsTrue : List Pulse → Type 0) (t : IrigTimekeeper) (now : ℕ) (pulses : ℕ → List Pulse) → ((ps : List Pulse) → IsTrue ps → IsTrue []) → KeepNoMore (ports_in (redundancy_in t.setup)) t.lines → HeardTruly IsTrue t now pulses
-    → AreHeardTruly IsTrue (clock_in t).within.us (clock_in t).drift_us (rules_in t.setup) (f_of (redundancy_in t.setup)) now (lines_in (keeper_limits_in t.setup) (rules_in t.setup) t.lines) (pulses_there (redundancy_in t.setup) pulses)
+    → AreHeardTruly IsTrue (clock_in t) (rules_in t.setup) (f_of (redundancy_in t.setup)) now (lines_in (Some (clock_in t).limits.limits) (rules_in t.setup) t.lines) (pulses_there (redundancy_in t.setup) pulses)
 all_heard IsTrue t now pulses silent absent h = record {
   untrue = there r h.untrue;
   few = few_there r h.untrue (f_of r) h.few;
@@ -91,7 +92,7 @@ all_heard IsTrue t now pulses silent absent h = record {
   ];
   kept = λ i low. elim (cases_Bool (nat_lt i (ports_in r))) [
     | inl here ↦ rw here (h.kept i (ltb-true i (ports_in r) here))
-    | inr gone ↦ kept_nothing (IsInTurnOf now) (clock_in t).within.us (clock_in t).drift_us (rules_in t.setup) _ _ (none_at (clock_in t).within.us (keeper_limits_in t.setup) (rules_in t.setup) t.lines (ports_in r) i (some_port r) absent (ltb-false i (ports_in r) gone) low)
+    | inr gone ↦ kept_nothing (IsInTurnOf now) (clock_in t) (rules_in t.setup) _ _ (none_at (clock_in t) (Some (clock_in t).limits.limits) (rules_in t.setup) t.lines (ports_in r) i (some_port r) absent (ltb-false i (ports_in r) gone) low)
   ];
 }
   where

@@ -91,7 +91,7 @@ module _ (new : Keeping) (late : ℕ) (before : List Moment) where
   goes (Ticked time second ∷ past) next asked by told = (soon time past None tt asked.1 by.0 told.1, goes past None asked.1 by.1 told.1)
 
 pub has_announced_by_wait : (q : IrigTimekeeper) (t : TimelineValue) (edges : ℕ → ℕ) (made : MadeOf) (start m late now : ℕ) (s : IrigSecond) (moments before : List Moment) (u : UtcSecond) → HasLived q made (Ticked now s ∷ (moments ++ before))
-    → ComeInARow t edges made start m (Ticked now s ∷ moments) before → FollowsTruth t made.clock.prefers_frames made.table → late ≤ 95000 → AreAsked None moments → GoesByWait late (Ticked now s ∷ moments)
+    → ComeInARow t edges made start m (Ticked now s ∷ moments) before → FollowsTruth t made.clock.prefers_frames made.table → late ≤ 94000 → AreAsked None moments → GoesByWait late (Ticked now s ∷ moments)
     → AreMadeInTurn start (Tick now ∷ calls_of moments) (calls_of before) → IsSecond t (m + 1 + made.clock.reader_rules.lock_after) u
     → HasAnnounced edges (m + 1 + made.clock.reader_rules.lock_after) u (Ticked now s ∷ (moments ++ before))
 has_announced_by_wait q t edges made start m late now s moments before u h come follows few asked by turn second =

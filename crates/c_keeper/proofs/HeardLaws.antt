@@ -1,12 +1,12 @@
 -- A line behind a pulse, and the timekeeper that has it.
-use Rattle.std.proofs.Common.{Option, ◌≡◌, ◌↔◌, ◌∙◌, ◌<◌, ◌==◌, Bool, true, false, if◌then◌else◌, ℕ, zero, suc, List, refl, sym, ap, subst, arith, inl, inr}
+use Rattle.std.proofs.Common.{Option, Some, ◌≡◌, ◌↔◌, ◌∙◌, ◌<◌, ◌==◌, Bool, true, false, if◌then◌else◌, ℕ, zero, suc, List, refl, sym, ap, subst, arith, inl, inr}
 use Rattle.std.proofs.lemmas.Bool.{cases_eq}
 use Rattle.irig_frame.specs.declared.symbol.Symbol.{Symbol}
 use Rattle.irig_time.specs.declared.rules.Rules.{Rules}
 use Rattle.irig_port.specs.Hearing.{heard_at}
 use Rattle.irig_port.specs.Tallies.{IsTallyOf}
 use Rattle.irig_port.specs.declared.limits.Limits.{Limits}
-use Rattle.irig_port.specs.Limits.{told_within}
+use Rattle.irig_port.specs.Limits.{quality_in, told_within}
 use Rattle.irig_sync.specs.Sync.{place_of}
 use Rattle.irig_lines.specs.declared.setup.ClockRules.{ClockRules}
 use Rattle.irig_timekeeper.specs.declared.clock.ClockState.{ClockState}
@@ -16,7 +16,7 @@ use Rattle.irig_timekeeper.specs.Keeping.{Heard, Keeping, heard_by, heard_then, 
 use Rattle.irig_lines.specs.Steps.{line_at, line_heard, with_line}
 use Rattle.irig_vote.specs.Vote.{ports_in}
 use Rattle.irig_reader.proofs.FedLaws.{at_most_five}
-use Rattle.c_numbers.specs.Setups.{keeper_limits_in, redundancy_in, rules_in}
+use Rattle.c_numbers.specs.Setups.{redundancy_in, rules_in}
 use Rattle.c_lines.specs.declared.line.IrigLine.{IrigLine}
 use Rattle.c_lines.specs.declared.line.IrigLines.{IrigLines}
 use Rattle.c_keeper.specs.declared.timekeeper.IrigTimekeeper.{IrigTimekeeper}
@@ -75,7 +75,7 @@ heard_put ls heard l s h now =
 pub place_as : (t : IrigTimekeeper) (k : Keeping) (port rise width : ℕ) → port < 5 → IsTimekeeperOf t k
     → place_of (numbers_at t.lines port).sync rise width ≡ place_of (line_at k.state.lines port).sync rise width
 place_as t k port rise width here h =
-    ap (λ (x : Line). place_of x.sync rise width) (sym (line_there (keeper_limits_in t.setup) (rules_in t.setup) t.lines port))
+    ap (λ (x : Line). place_of x.sync rise width) (sym (line_there (Some (clock_in t).limits.limits) (rules_in t.setup) t.lines port))
     ∙ ap (λ (s : ClockState). place_of (line_at s.lines port).sync rise width) h.state
 
 -- ---- a pulse
@@ -84,7 +84,7 @@ place_as t k port rise width here h =
 pub record IsBehindPulse (clock : ClockRules) (rise width place : ℕ) (before after : IrigLine) : Type 0 where
   pub at : place ≡ place_of before.sync rise width
   pub line : (limits : Option Limits) (rules : Rules) (s : List Symbol) → IsTallyOf before.port s
-      → line_in limits rules after ≡ line_heard clock (line_in limits rules before) rise width (told_within limits rules (heard_at place s width))
+      → line_in limits rules after ≡ line_heard clock (line_in limits rules before) rise width (told_within limits rules (heard_at place s width)) (quality_in (heard_at place s width))
   pub heard : (s : List Symbol) → IsTallyOf before.port s → IsTallyOf after.port (heard_at place s width)
 
 -- a line that is there may keep a frame
@@ -103,7 +103,6 @@ pub one_more : (t q : IrigTimekeeper) (k : Keeping) (port rise width place : ℕ
 one_more t q k port rise width place l there behind is seal h =
     subst (λ (x : IrigTimekeeper). IsTimekeeperOf x (one_pulse_more k port rise width)) (sym is) (record {
       rules = h.rules;
-      limits = h.limits;
       clock = h.clock;
       table = h.table;
       heard = subst (λ (s : List Symbol). HaveHeard (with_numbers t.lines port l) (with_heard k.heard port s)) heard
@@ -132,7 +131,7 @@ one_more t q k port rise width place l there behind is seal h =
     rules = rules_in t.setup
 
     limits : Option Limits
-    limits = keeper_limits_in t.setup
+    limits = Some (clock_in t).limits.limits
 
     was : IsTallyOf (numbers_at t.lines port).port (heard_by k.heard port)
     was = heard_there t.lines k.heard h.heard port here
@@ -147,16 +146,15 @@ one_more t q k port rise width place l there behind is seal h =
     heard : heard_at place (heard_by k.heard port) width ≡ heard_then k port rise width
     heard = ap (λ (n : ℕ). heard_at n (heard_by k.heard port) width) (sym place_is)
 
-    new_line : line_in limits rules l ≡ line_heard k.clock (line_at k.state.lines port) rise width (told_within k.limits k.rules (heard_then k port rise width))
+    new_line : line_in limits rules l ≡ line_heard k.clock (line_at k.state.lines port) rise width (told_within (Some k.clock.limits.limits) k.rules (heard_then k port rise width)) (quality_in (heard_then k port rise width))
     new_line = behind.line limits rules (heard_by k.heard port) was
-        ∙ (ap (λ (c : ClockRules). line_heard c (line_in limits rules (numbers_at t.lines port)) rise width (told_within limits rules (heard_at place (heard_by k.heard port) width))) h.clock
-        ∙ (ap (λ (x : Line). line_heard k.clock x rise width (told_within limits rules (heard_at place (heard_by k.heard port) width))) (sym line)
-        ∙ (ap (λ (r : Rules). line_heard k.clock (line_at k.state.lines port) rise width (told_within limits r (heard_at place (heard_by k.heard port) width))) h.rules
-        ∙ (ap (λ (l : Option Limits). line_heard k.clock (line_at k.state.lines port) rise width (told_within l k.rules (heard_at place (heard_by k.heard port) width))) h.limits
-        ∙ ap (λ (s : List Symbol). line_heard k.clock (line_at k.state.lines port) rise width (told_within k.limits k.rules s)) heard))))
+        ∙ (ap (λ (c : ClockRules). line_heard c (line_in limits rules (numbers_at t.lines port)) rise width (told_within (Some c.limits.limits) rules (heard_at place (heard_by k.heard port) width)) (quality_in (heard_at place (heard_by k.heard port) width))) h.clock
+        ∙ (ap (λ (x : Line). line_heard k.clock x rise width (told_within (Some k.clock.limits.limits) rules (heard_at place (heard_by k.heard port) width)) (quality_in (heard_at place (heard_by k.heard port) width))) (sym line)
+        ∙ (ap (λ (r : Rules). line_heard k.clock (line_at k.state.lines port) rise width (told_within (Some k.clock.limits.limits) r (heard_at place (heard_by k.heard port) width)) (quality_in (heard_at place (heard_by k.heard port) width))) h.rules
+        ∙ ap (λ (s : List Symbol). line_heard k.clock (line_at k.state.lines port) rise width (told_within (Some k.clock.limits.limits) k.rules s) (quality_in s)) heard)))
 
     whole : clock_state_in (record t { lines = with_numbers t.lines port l; check = q.check })
-        ≡ with_lines k.state (with_line k.state.lines port (line_heard k.clock (line_at k.state.lines port) rise width (told_within k.limits k.rules (heard_then k port rise width))))
+        ≡ with_lines k.state (with_line k.state.lines port (line_heard k.clock (line_at k.state.lines port) rise width (told_within (Some k.clock.limits.limits) k.rules (heard_then k port rise width)) (quality_in (heard_then k port rise width))))
     whole = ap (λ (ls : Lines). with_lines (clock_state_in t) ls) (line_put limits rules t.lines l port here)
         ∙ (ap (λ (s : ClockState). with_lines s (with_line s.lines port (line_in limits rules l))) h.state
         ∙ ap (λ (x : Line). with_lines k.state (with_line k.state.lines port x)) new_line)

@@ -28,11 +28,11 @@ use Rattle.c_keeper.specs.Seconds.{IsSecondOf}
 use Rattle.c_keeper.specs.Timekeepers.{answer_in, clock_in, clock_state_in, vote_in, IsTimekeeperOf}
 
 pub lived_new : (q : IrigTimekeeper) (made : MadeOf) (clock : ClockRules) → ((limits : Option Limits) (rules : Rules) → AreNewLines (lines_in limits rules q.lines))
-    → clock ≡ made.clock → IsTimekeeperOf q (new_keeping made.limits made.rules clock made.table (lines_in made.limits made.rules q.lines)) → HasLived q made []
+    → clock ≡ made.clock → IsTimekeeperOf q (new_keeping made.rules clock made.table (lines_in (Some made.clock.limits.limits) made.rules q.lines)) → HasLived q made []
 lived_new q made clock fresh same is = record {
-  lines = lines_in made.limits made.rules q.lines;
-  fresh = fresh made.limits made.rules;
-  is = subst (λ (c : ClockRules). IsTimekeeperOf q (new_keeping made.limits made.rules c made.table (lines_in made.limits made.rules q.lines))) same is;
+  lines = lines_in (Some made.clock.limits.limits) made.rules q.lines;
+  fresh = fresh (Some made.clock.limits.limits) made.rules;
+  is = subst (λ (c : ClockRules). IsTimekeeperOf q (new_keeping made.rules c made.table (lines_in (Some made.clock.limits.limits) made.rules q.lines))) same is;
   told = tt;
 }
 
@@ -47,21 +47,20 @@ lived_pulse t q made past line time rise width place goes answers h clock =
     }
 
 pub lived_again : (t q : IrigTimekeeper) (made : MadeOf) (past : List Moment) → ((limits : Option Limits) (rules : Rules) → AreNewLines (lines_in limits rules q.lines))
-    → ((k : Keeping) → IsTimekeeperOf t k → IsTimekeeperOf q (restarted k (lines_in k.limits k.rules q.lines))) → HasLived t made past → HasLived q made []
+    → ((k : Keeping) → IsTimekeeperOf t k → IsTimekeeperOf q (restarted k (lines_in (Some k.clock.limits.limits) k.rules q.lines))) → HasLived t made past → HasLived q made []
 lived_again t q made past fresh goes h =
     let made_new = device_of (made_with made h.lines h.fresh) in
     let k = life_of (made_with made h.lines h.fresh) (calls_of past) in
     let same = as_made made_new (calls_of past) in
     let is = goes k h.is in record {
-      lines = lines_in made.limits made.rules q.lines;
-      fresh = fresh made.limits made.rules;
+      lines = lines_in (Some made.clock.limits.limits) made.rules q.lines;
+      fresh = fresh (Some made.clock.limits.limits) made.rules;
       is = record {
         rules = is.rules ∙ same.rules;
-        limits = is.limits ∙ same.limits;
         clock = is.clock ∙ same.clock;
         table = is.table ∙ same.table;
         heard = is.heard;
-        state = is.state ∙ (ap (λ (l : Option Limits). new_state (lines_in l k.rules q.lines)) same.limits ∙ ap (λ (r : Rules). new_state (lines_in made.limits r q.lines)) same.rules);
+        state = is.state ∙ (ap (λ (c : ClockRules). new_state (lines_in (Some c.limits.limits) k.rules q.lines)) same.clock ∙ ap (λ (r : Rules). new_state (lines_in (Some made.clock.limits.limits) r q.lines)) same.rules);
         accepted = is.accepted;
       };
       told = tt;

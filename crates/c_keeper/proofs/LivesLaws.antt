@@ -9,9 +9,10 @@ use Rattle.irig_reader.specs.declared.report.Cause.TheVariants as cause
 use Rattle.irig_reader.specs.declared.report.Report.{Report}
 use Rattle.irig_timekeeper.specs.declared.clock.Beat.{Beat}
 use Rattle.irig_lines.specs.declared.lines.Lines.{Lines}
-use Rattle.irig_lines.specs.declared.within.Within.{Within}
+use Rattle.irig_lines.specs.declared.setup.ClockRules.{ClockRules}
 use Rattle.irig_timekeeper.specs.Clock.{lasted}
-use Rattle.irig_lines.specs.Exactness.{most_drift_us, vote_us, fault_early_us, fault_late_us}
+use Rattle.irig_lines.specs.Exactness.{most_drift_us, fault_early_us, fault_late_us}
+use Rattle.irig_lines.specs.Widths.{vote_us}
 use Rattle.irig_lines.specs.Edges.{IsQuartz}
 use Rattle.irig_timekeeper.specs.Keeping.{Keeping, answer_at}
 use Rattle.irig_timekeeper.specs.Life.{Call, AreInOrder, AreTrueLately, AreTrueAtTicks, AreTrueOver, after_calls, device_of}
@@ -24,11 +25,11 @@ use Rattle.irig_timekeeper.specs.Healing as device
 use Rattle.irig_timekeeper.proofs.FaultLines.{either_tells_truly, fault_small}
 use Rattle.irig_timekeeper.proofs.HealLaws.{healed, in_order, calm_since}
 use Rattle.irig_timekeeper.proofs.LifeLaws.{TellAlwaysTruly, begins, device_calm, device_in_order, device_true}
-use Rattle.irig_lines.proofs.LineLaws.{true_lately}
+use Rattle.irig_lines.proofs.LineLaws.{true_by_any}
 use Rattle.irig_timekeeper.proofs.OrderLaws.{edges_apart}
 use Rattle.c_numbers.specs.Reports.{report_in}
-use Rattle.irig_lines.specs.Clocks.{IsTrueByItsClock}
-use Rattle.irig_timekeeper.proofs.ClockLines.{clocks_tell_truly}
+use Rattle.irig_lines.specs.Clocks.{IsTrueByItsClock, IsTrueByItsQuality}
+use Rattle.irig_timekeeper.proofs.ClockLines.{clocks_tell_truly, qualities_tell_truly}
 use Rattle.c_keeper.specs.declared.second.IrigSecond.{IrigSecond}
 use Rattle.c_keeper.specs.declared.timekeeper.IrigTimekeeper.{IrigTimekeeper}
 use Rattle.c_keeper.specs.Lives.{Moment, HasLived, HaveTold, HasHealed, GoesOnTruly, beat_in, calls_of}
@@ -70,11 +71,11 @@ jump_beat s None nothing jump =
     absurd cc
 jump_beat s (Some beat) is jump = (beat, record { is = refl; told = is })
 
-as_told : (s : IrigSecond) (beat : Beat) (t : TimelineValue) (edges : ℕ → ℕ) (early late within d holdover now : ℕ) (u : UtcSecond) → IsToldOf s beat
-    → IsToldInHoldover t edges early late within d holdover now beat u → IsToldInHoldover t edges early late within d holdover now (beat_in s) u
-as_told s beat t edges early late within d holdover now u same h = record {
-  bound = subst (λ (r : Report). s.bound_us ≤ vote_us within d + lasted r.lock * d) (sym same.report) (omega (arith, h.bound, same.bound_us));
-  few = subst (λ (r : Report). lasted r.lock ≤ holdover) (sym same.report) h.few;
+as_told : (s : IrigSecond) (beat : Beat) (t : TimelineValue) (edges : ℕ → ℕ) (early late : ℕ) (c : ClockRules) (now : ℕ) (u : UtcSecond) → IsToldOf s beat
+    → IsToldInHoldover t edges early late c now beat u → IsToldInHoldover t edges early late c now (beat_in s) u
+as_told s beat t edges early late c now u same h = record {
+  bound = subst (λ (r : Report). s.bound_us ≤ vote_us c c.drift_us + lasted r.lock * c.drift_us) (sym same.report) (omega (arith, h.bound, same.bound_us));
+  few = subst (λ (r : Report). lasted r.lock ≤ c.reader_rules.holdover) (sym same.report) h.few;
   told = record {
     m = h.told.m;
     edge = h.told.edge;
@@ -88,30 +89,37 @@ as_told s beat t edges early late within d holdover now u same h = record {
 
 -- ---- lines that are true so
 
--- what such lines keep is true, and ends as near its edge as that of a line that is so exact, and at
--- most so much earlier or later
-pub record AreLinesSo (within : Within) (d : ℕ) (IsTrue : Rules → TimelineValue → (ℕ → ℕ) → ℕ → List Pulse → Type 0) (early late : ℕ) : Type 0 where
-  pub room : d ≤ most_drift_us → early + late ≤ 3002
-  pub truly : (rules : Rules) (t : TimelineValue) (edges : ℕ → ℕ) → IsQuartz d edges → TellAlwaysTruly (IsTrue rules t edges) within.us d rules t edges early late
+-- what such lines keep is true, and ends as near its edge as that of a line that is so exact by a clock of
+-- its quality, and at most so much earlier or later
+pub record AreLinesSo (c : ClockRules) (IsTrue : Rules → TimelineValue → (ℕ → ℕ) → ℕ → List Pulse → Type 0) (early late : ℕ) : Type 0 where
+  pub room : c.drift_us ≤ most_drift_us → early + late ≤ 3002
+  pub truly : (rules : Rules) (t : TimelineValue) (edges : ℕ → ℕ) → IsQuartz c.drift_us edges → TellAlwaysTruly (IsTrue rules t edges) c rules t edges early late
 
-pub whole_lines : (within : Within) (d : ℕ) → AreLinesSo within d (IsTrueLately within.us) 0 0
-whole_lines within d = record {
+pub whole_lines : (c : ClockRules) → AreLinesSo c (IsTrueLately c.within.us) 0 0
+whole_lines c = record {
   room = λ few. omega arith;
-  truly = λ rules t edges steady now end pulses claim is frame soon. true_lately within rules t d edges now end pulses claim steady is frame soon;
+  truly = λ rules t edges steady now half end pulses claim is frame soon. true_by_any c rules t c.drift_us edges half now end pulses claim steady is frame soon;
 }
 
 -- they may have faults
-pub faulty_lines : (within : Within) (d : ℕ) → AreLinesSo within d (IsTrueOrFaulty within.us) (fault_early_us within.us d) (fault_late_us within.us d)
-faulty_lines within d = record {
-  room = λ few. (let most = fault_small within d few in omega (arith, most.0, most.1));
-  truly = λ rules t edges steady. either_tells_truly within rules t d edges steady;
+pub faulty_lines : (c : ClockRules) → AreLinesSo c (IsTrueOrFaulty c.within.us) (fault_early_us c.within.us c.drift_us) (fault_late_us c.within.us c.drift_us)
+faulty_lines c = record {
+  room = λ few. (let most = fault_small c.within c.drift_us few in omega (arith, most.0, most.1));
+  truly = λ rules t edges steady. either_tells_truly c rules t edges steady;
 }
 
 -- they may be so by clocks that are off
-pub clock_lines : (off : ℕ) (within : Within) (d : ℕ) → off ≤ 1000 → AreLinesSo within d (IsTrueByItsClock off within.us d) off off
-clock_lines off within d few = record {
+pub clock_lines : (off : ℕ) (c : ClockRules) → off ≤ 1000 → AreLinesSo c (IsTrueByItsClock off c.within.us c.drift_us) off off
+clock_lines off c few = record {
   room = λ low. omega (arith, few);
-  truly = λ rules t edges steady. clocks_tell_truly off within rules t d edges;
+  truly = λ rules t edges steady. clocks_tell_truly off c rules t edges;
+}
+
+-- or by clocks that are no further off than they say
+pub quality_lines : (c : ClockRules) → AreLinesSo c (IsTrueByItsQuality c) 0 0
+quality_lines c = record {
+  room = λ few. omega arith;
+  truly = λ rules t edges steady. qualities_tell_truly c rules t edges;
 }
 
 module _ (IsTrue : Rules → TimelineValue → (ℕ → ℕ) → ℕ → List Pulse → Type 0) (t : TimelineValue) (edges : ℕ → ℕ) (made : MadeOf) (start : ℕ) (lines : Lines) (fresh : AreNewLines lines) where
@@ -139,32 +147,32 @@ module _ (IsTrue : Rules → TimelineValue → (ℕ → ℕ) → ℕ → List Pu
         since = h.since;
       }
 
-  healed_tells : (early late : ℕ) → AreLinesSo made.clock.within made.clock.drift_us IsTrue early late → (now : ℕ) (calls : List Call) (beat : Beat) (u : UtcSecond) → device.HasHealed IsTrue t edges (made_with made lines fresh) start calls
+  healed_tells : (early late : ℕ) → AreLinesSo made.clock IsTrue early late → (now : ℕ) (calls : List Call) (beat : Beat) (u : UtcSecond) → device.HasHealed IsTrue t edges (made_with made lines fresh) start calls
       → AreInOrder start made.clock.redundancy (Tick now ∷ calls) → AreTrueLately (IsTrue made.rules t edges) (f_of made.clock.redundancy) now calls
       → answer_at (after_calls new calls) (now % 2 ^ 32) ≡ Some beat → beat.report.announce ≡ Some u
-      → IsToldInHoldover t edges early late made.clock.within.us made.clock.drift_us made.clock.reader_rules.holdover now beat u
+      → IsToldInHoldover t edges early late made.clock now beat u
   healed_tells early late so now calls beat u h =
       subst Tells (sym h.are) (λ order here answer says.
-      healed (IsTrue made.rules t edges) t edges early late new start (begins made.limits made.rules made.clock made.table lines start fresh) tt h.is (so.room h.is.steady.few)
+      healed (IsTrue made.rules t edges) t edges early late new start (begins made.rules made.clock made.table lines start fresh) tt h.is (so.room h.is.steady.few)
       (so.truly made.rules t edges h.is.steady) (omega arith)
       h.earlier h.later h.mend now h.vote h.beat beat u order h.truth (here, h.since) h.voted h.answer answer says)
     where
       Tells : List Call → Type 0
       Tells calls = AreInOrder start made.clock.redundancy (Tick now ∷ calls) → AreTrueLately (IsTrue made.rules t edges) (f_of made.clock.redundancy) now calls
           → answer_at (after_calls new calls) (now % 2 ^ 32) ≡ Some beat → beat.report.announce ≡ Some u
-          → IsToldInHoldover t edges early late made.clock.within.us made.clock.drift_us made.clock.reader_rules.holdover now beat u
+          → IsToldInHoldover t edges early late made.clock now beat u
 
-module _ (IsTrue : Rules → TimelineValue → (ℕ → ℕ) → ℕ → List Pulse → Type 0) (early late : ℕ) (q : IrigTimekeeper) (t : TimelineValue) (edges : ℕ → ℕ) (made : MadeOf) (so : AreLinesSo made.clock.within made.clock.drift_us IsTrue early late) where
+module _ (IsTrue : Rules → TimelineValue → (ℕ → ℕ) → ℕ → List Pulse → Type 0) (early late : ℕ) (q : IrigTimekeeper) (t : TimelineValue) (edges : ℕ → ℕ) (made : MadeOf) (so : AreLinesSo made.clock IsTrue early late) where
   -- what is announced in a life is true
   pub tells_truly : (start now : ℕ) (past : List Moment) (s : IrigSecond) (u : UtcSecond) → HasLived q made (Ticked now s ∷ past)
       → GoesOnTruly IsTrue t edges made start now [] past → (report_in s.report).announce ≡ Some u
-      → IsToldInHoldover t edges early late made.clock.within.us made.clock.drift_us made.clock.reader_rules.holdover now (beat_in s) u
+      → IsToldInHoldover t edges early late made.clock now (beat_in s) u
   tells_truly start now past s u h g says =
       let beat = announced_beat s _ u h.told.0.is says in
       let announces = ap (λ (r : Report). r.announce) (sym beat.1.told.report) ∙ says in
-      as_told s beat.0 t edges early late made.clock.within.us made.clock.drift_us made.clock.reader_rules.holdover now u beat.1.told
+      as_told s beat.0 t edges early late made.clock now u beat.1.told
       (elim g.sound [
-        | inl well ↦ device_true made.limits made.rules made.clock made.table h.lines start h.fresh (IsTrue made.rules t edges) t edges early late well.is (so.room well.is.steady.few)
+        | inl well ↦ device_true made.rules made.clock made.table h.lines start h.fresh (IsTrue made.rules t edges) t edges early late well.is (so.room well.is.steady.few)
             (so.truly made.rules t edges well.is.steady) (calls_of past) now beat.0 u g.order (g.truth.0, well.truth) beat.1.is announces
         | inr mended ↦ healed_tells IsTrue t edges made start h.lines h.fresh early late so now (calls_of past) beat.0 u (as_device IsTrue t edges made start h.lines h.fresh past h.told.1 mended) g.order g.truth.0 beat.1.is announces
       ])
@@ -176,11 +184,11 @@ module _ (IsTrue : Rules → TimelineValue → (ℕ → ℕ) → ℕ → List Pu
       let beat = jump_beat s _ h.told.0.is jump in
       let jumps = ap (λ (r : Report). r.cause) (sym beat.1.told.report) ∙ jump in
       elim g.sound [
-        | inl well ↦ device_calm made.limits made.rules made.clock made.table h.lines start h.fresh (IsTrue made.rules t edges) t edges early late well.is (so.room well.is.steady.few)
+        | inl well ↦ device_calm made.rules made.clock made.table h.lines start h.fresh (IsTrue made.rules t edges) t edges early late well.is (so.room well.is.steady.few)
             (so.truly made.rules t edges well.is.steady) (calls_of past) now beat.0 g.order (g.truth.0, well.truth) beat.1.is jumps
         | inr mended ↦
             let d = as_device IsTrue t edges made start h.lines h.fresh past h.told.1 mended in
-            calm_since (IsTrue made.rules t edges) t edges early late (new IsTrue t edges made start h.lines h.fresh) start (begins made.limits made.rules made.clock made.table h.lines start h.fresh) tt d.is (so.room d.is.steady.few)
+            calm_since (IsTrue made.rules t edges) t edges early late (new IsTrue t edges made start h.lines h.fresh) start (begins made.rules made.clock made.table h.lines start h.fresh) tt d.is (so.room d.is.steady.few)
             (so.truly made.rules t edges d.is.steady)
             d.earlier d.mend d.vote d.beat d.truth d.voted d.answer d.later (calls_of past) now d.are d.since g.order g.truth.0 beat.0 beat.1.is jumps
       ]
@@ -200,13 +208,13 @@ module _ (IsTrue : Rules → TimelineValue → (ℕ → ℕ) → ℕ → List Pu
       let says_one = ap (λ (r : Report). r.announce) (sym one.1.told.report) ∙ says in
       let says_two = ap (λ (r : Report). r.announce) (sym two.1.told.report) ∙ then in
       elim g.sound [
-        | inl well ↦ device_in_order made.limits made.rules made.clock made.table h.lines start h.fresh (IsTrue made.rules t edges) t edges early late well.is (so.room well.is.steady.few)
+        | inl well ↦ device_in_order made.rules made.clock made.table h.lines start h.fresh (IsTrue made.rules t edges) t edges early late well.is (so.room well.is.steady.few)
             (so.truly made.rules t edges well.is.steady) (calls_of earlier) (calls_of later) before now one.0 two.0 u v order
             (true_at_all (IsTrue made.rules t edges) (f_of made.clock.redundancy) (Tick now ∷ calls_of later) (Tick before ∷ calls_of earlier) g.truth well.truth)
             one.1.is says_one answers says_two
         | inr mended ↦
             let d = as_device IsTrue t edges made start h.lines h.fresh (Ticked before first ∷ earlier) told mended in
-            in_order (IsTrue made.rules t edges) t edges early late made_new start (begins made.limits made.rules made.clock made.table h.lines start h.fresh) tt d.is (so.room d.is.steady.few)
+            in_order (IsTrue made.rules t edges) t edges early late made_new start (begins made.rules made.clock made.table h.lines start h.fresh) tt d.is (so.room d.is.steady.few)
             (so.truly made.rules t edges d.is.steady)
             d.earlier d.mend d.vote d.beat d.truth d.voted d.answer d.later before (calls_of earlier) (calls_of later) now one.0 two.0 u v d.are d.since order g.truth one.1.is says_one answers says_two
       ]
@@ -221,7 +229,7 @@ tells_apart q made start before now earlier later first s h order is then =
     let told = told_before made_new later (Ticked before first ∷ earlier) h.told.1 in
     let one = beat_of first _ told.0.is is in
     let two = beat_of s _ h.told.0.is then in
-    let apart = edges_apart made_new start (begins made.limits made.rules made.clock made.table h.lines start h.fresh) refl (calls_of earlier) (calls_of later) before now one.0 two.0
+    let apart = edges_apart made_new start (begins made.rules made.clock made.table h.lines start h.fresh) refl (calls_of earlier) (calls_of later) before now one.0 two.0
     (subst (λ (calls : List Call). AreInOrder start made.clock.redundancy (Tick now ∷ calls)) joined order) one.1.is
     (subst (λ (calls : List Call). answer_at (after_calls made_new calls) (now % 2 ^ 32) ≡ Some two.0) joined two.1.is) in
     record {

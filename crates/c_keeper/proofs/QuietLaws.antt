@@ -22,7 +22,7 @@ use Rattle.irig_lines.proofs.PartLaws.{split}
 use Rattle.irig_timekeeper.specs.declared.clock.ClockState.{ClockState}
 use Rattle.irig_timekeeper.specs.Clock.{after_own, anchors_unless, answer_by, clock_after, clock_answer, clock_by, doubted_s, is_unsteady, knowing, settled_at, vote_of_lines}
 use Rattle.c_numbers.specs.LeapTables.{table_in}
-use Rattle.c_numbers.specs.Setups.{keeper_limits_in, rules_in}
+use Rattle.c_numbers.specs.Setups.{rules_in}
 use Rattle.c_lines.specs.declared.line.IrigLine.{IrigLine}
 use Rattle.c_lines.specs.declared.line.IrigLines.{IrigLines}
 use Rattle.c_keeper.specs.declared.timekeeper.IrigTimekeeper.{IrigTimekeeper}
@@ -216,7 +216,7 @@ anchors_still t is = by (t.has_interval == 0) is
 -- it says nothing, and nothing changes
 pub at_rest : (t : IrigTimekeeper) (now : ℕ) → edges_own (edge_in t) now ≡ 0 → are_young t.has_interval t.anchors ≡ true → are_quiet now t.lines ≡ true → HasShortInterval t → t.begin_us < 4294967296 → IsAtRest t now
 at_rest t now none young is short fits =
-    let lines = quiet_lines now (keeper_limits_in t.setup) (rules_in t.setup) t.lines is in
+    let lines = quiet_lines now (Some (clock_in t).limits.limits) (rules_in t.setup) t.lines is in
     record {
       answer = quiet_answer (clock_in t) (table_in t.table) now (clock_state_in t) lines none;
       state = quiet_after (clock_in t) (table_in t.table) now (clock_state_in t) lines none (known_still t (clock_in t).drift_us short fits) (anchors_still t young);

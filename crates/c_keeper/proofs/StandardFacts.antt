@@ -45,9 +45,9 @@ known_seconds = (refl, refl, refl, refl)
 abbrev asked_from : ℕ → List Moment
 asked_from time = Waited time 5000 ∷ (Pulsed 0 10000 8000 100 ∷ [])
 
--- the tick comes 95 ms behind the time that was named, and a microsecond later it is too late
+-- the tick comes 94 ms behind the time that was named, and a microsecond later it is too late
 pub known_waits : AreAsked None (asked_from 18000) × (AreAsked None (asked_from 18001) → ⊥) × (AreAsked None (Pulsed 0 10000 8000 100 ∷ []) → ⊥) × AreAsked None (Pulsed 0 10000 2000 99 ∷ [])
-    × GoesByWait 95000 (Ticked 118000 nothing_told ∷ asked_from 18000) × (GoesByWait 95000 (Ticked 118001 nothing_told ∷ asked_from 18000) → ⊥)
+    × GoesByWait 94000 (Ticked 117000 nothing_told ∷ asked_from 18000) × (GoesByWait 94000 (Ticked 117001 nothing_told ∷ asked_from 18000) → ⊥)
 known_waits = (
   (λ e. refl, tt),
   λ h. (let other : ◌≡◌ {A = ℕ} 18001 18000 = (let both = h.0 refl in cc) in absurd (omega (arith, other))),

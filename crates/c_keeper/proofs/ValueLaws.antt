@@ -1,6 +1,6 @@
 -- What calls make of the numbers of a timekeeper is what they make of the value that it is.
-use Rattle.std.specs.Prelude.{IfSome}
-use Rattle.std.proofs.Common.{◌≡◌, ◌∙◌, ◌==◌, not, ℕ, Option, Some, None, refl, sym, ap, subst, arith}
+use Rattle.std.specs.Prelude.{min, IfSome}
+use Rattle.std.proofs.Common.{◌≡◌, ◌∙◌, ◌==◌, ◌≤◌, if◌then◌else◌, not, ℕ, Bool, true, false, Option, Some, None, refl, sym, ap, subst, arith}
 use Rattle.irig_time.specs.Tables.{TableValue}
 use Rattle.irig_timekeeper.specs.declared.clock.Beat.{Beat}
 use Rattle.irig_lines.specs.declared.setup.ClockRules.{ClockRules}
@@ -11,7 +11,7 @@ use Rattle.irig_timekeeper.specs.Clock.{clock_after, clock_answer, clock_wait, S
 use Rattle.irig_lines.specs.Refusals.{clock_fault, within_of}
 use Rattle.c_numbers.specs.declared.setup.IrigSetup.{IrigSetup}
 use Rattle.c_numbers.specs.Reports.{report_in}
-use Rattle.c_numbers.specs.Setups.{reader_rules_in, redundancy_in}
+use Rattle.c_numbers.specs.Setups.{keeper_limits_in, reader_rules_in, redundancy_in, IsKeeperSetup}
 use Rattle.c_lines.specs.declared.announced.IrigAnnounced.{IrigAnnounced}
 use Rattle.irig_timekeeper.specs.Keeping.{Keeping, after_tick, answer_at, wait_at}
 use Rattle.c_numbers.specs.LeapTables.{table_in}
@@ -20,7 +20,7 @@ use Rattle.c_keeper.specs.declared.timekeeper.IrigTimekeeper.{IrigTimekeeper}
 use Rattle.c_keeper.specs.declared.timekeeper.IrigWires.{IrigWires}
 use Rattle.c_keeper.specs.Seconds.{IsSecondOf, IsToldOf}
 use Rattle.c_lines.specs.Announced.{IsAnnounced, IsSmall}
-use Rattle.c_keeper.specs.Timekeepers.{answer_in, clock_in, clock_state_in, delays_in, state_behind, wait_in, IsTimekeeperOf}
+use Rattle.c_keeper.specs.Timekeepers.{answer_in, clock_in, clock_state_in, delays_in, state_behind, vote_limits_in, wait_in, IsTimekeeperOf}
 
 pub answers_as : (t : IrigTimekeeper) (k : Keeping) (now : ℕ) → IsTimekeeperOf t k → answer_in t now ≡ answer_at k now
 answers_as t k now h =
@@ -61,12 +61,28 @@ clock_as t q setup wires =
     ap (λ (s : IrigSetup). clock_of s q.wires) setup ∙ ap (λ (w : IrigWires). clock_of t.setup w) wires
   where
     clock_of : IrigSetup → IrigWires → ClockRules
-    clock_of s w = record { reader_rules = reader_rules_in s; redundancy = redundancy_in s; within = within_of w.within_us; drift_us = w.drift_us; delays = delays_in w.delays; prefers_frames = not (w.prefers_frames == 0) }
+    clock_of s w = record { reader_rules = reader_rules_in s; redundancy = redundancy_in s; within = within_of w.within_us; limits = vote_limits_in s; drift_us = w.drift_us; delays = delays_in w.delays; prefers_frames = not (w.prefers_frames == 0) }
 
 pub steady_as : (t q : IrigTimekeeper) → q.setup ≡ t.setup → q.wires ≡ t.wires → clock_fault (reader_rules_in t.setup) t.wires.drift_us ≡ None
     → clock_fault (reader_rules_in q.setup) q.wires.drift_us ≡ None
 steady_as t q setup wires steady =
     ap (λ (s : IrigSetup). clock_fault (reader_rules_in s) q.wires.drift_us) setup ∙ (ap (λ (w : IrigWires). clock_fault (reader_rules_in t.setup) w.drift_us) wires ∙ steady)
+
+-- ---- the limits of a setup that a timekeeper may have are as it says
+
+few_limits : (s : IrigSetup) → IsKeeperSetup s → (keeper_limits_in s).poor_from ≤ 8
+unfolding keeper_limits_in
+few_limits s is = by (s.poor_from == 0) s.poor_from is.poor_from
+  where
+    by : (none : Bool) (n : ℕ) → n ≤ 8 → (if none then 7 else n) ≤ 8
+    by true n few = omega arith
+    by false n few = few
+
+pub same_limits : (s : IrigSetup) → IsKeeperSetup s → (vote_limits_in s).limits ≡ keeper_limits_in s
+same_limits s is =
+    let few = few_limits s is in
+    let same : min (keeper_limits_in s).poor_from 8 ≡ (keeper_limits_in s).poor_from = omega (arith, few) in
+    λ i. record (keeper_limits_in s) { poor_from = same i }
 
 -- nothing was announced
 pub none_announced : (a : IrigAnnounced) → a.is_told ≡ 0 → IsAnnounced a

@@ -35,13 +35,13 @@ module _ (t : IrigTimekeeper) (made : MadeOf) (start time now : ℕ) (past : Lis
   abbrev k : Keeping
   k = life_of whole (calls_of past)
 
-  pub waited_at_most : wait_in t time ≤ 1005000
-  waited_at_most = subst (λ (n : ℕ). n ≤ 1005000) (sym (waits_as t k time now h.is clock)) (waits_at_most whole start now (calls_of past) order)
+  pub waited_at_most : wait_in t time ≤ 1006000
+  waited_at_most = subst (λ (n : ℕ). n ≤ 1006000) (sym (waits_as t k time now h.is clock)) (waits_at_most whole start now (calls_of past) order)
 
   pub waited_votes : (then edge : ℕ) (vote : Vote) → AreInOrder start made.clock.redundancy (Tick then ∷ calls_of past) → agreed_in t time ≡ Some vote → vote.edge_us ≡ edge % 2 ^ 32
-      → edge ≤ now + 15000 → now ≤ edge + 98000 → now + wait_in t time ≤ then → then ≤ edge + 98000 → vote_in t (then % 2 ^ 32) ≡ Some vote.claim
+      → edge ≤ now + 17000 → now ≤ edge + 94000 → now + wait_in t time ≤ then → then ≤ edge + 94000 → vote_in t (then % 2 ^ 32) ≡ Some vote.claim
   waited_votes then edge vote order' agree at ahead behind waited soon =
-      let begun = begins made.limits made.rules made.clock made.table h.lines start h.fresh in
+      let begun = begins made.rules made.clock made.table h.lines start h.fresh in
       let agreed_then = sym (agreed_as t k time now h.is clock) ∙ agree in
       let wait : wait_in t time ≡ wait_by (now % 2 ^ 32) k.state.edge_us (Some vote) = waits_as t k time now h.is clock ∙ ap (wait_by (now % 2 ^ 32) k.state.edge_us) agreed_then in
       let long = waits_for (device_of whole) start begun now edge k.state.edge_us vote at ahead (omega (arith, behind)) in

@@ -13,7 +13,7 @@ use Rattle.irig_lines.specs.declared.lines.Vote.{Vote}
 use Rattle.irig_lines.specs.declared.lines.Lines.{Lines}
 use Rattle.irig_timekeeper.specs.declared.stamp.Stamp.{Stamp}
 use Rattle.irig_timekeeper.specs.Keeping.{Keeping, answer_at, place_told, vote_at, wait_at}
-use Rattle.irig_lines.specs.Exactness.{vote_us}
+use Rattle.irig_lines.specs.Widths.{vote_us}
 use Rattle.irig_timekeeper.specs.Life.{Call, AreInOrder, AreTrueLately, AreTrueOver, after_calls, device_of, life_of}
 use Rattle.irig_timekeeper.specs.Life.Call.{Hear, Tick}
 use Rattle.irig_timekeeper.specs.Lived.{MadeOf, LivesWell, made_with}
@@ -24,13 +24,13 @@ use Rattle.c_numbers.specs.declared.setup.IrigSetup.{IrigSetup}
 use Rattle.c_numbers.specs.declared.table.IrigTable.{IrigTable}
 use Rattle.c_numbers.specs.LeapTables.{table_in}
 use Rattle.c_numbers.specs.Reports.{report_in}
-use Rattle.c_numbers.specs.Setups.{keeper_limits_in, reader_rules_in, redundancy_in, rules_in}
+use Rattle.c_numbers.specs.Setups.{reader_rules_in, redundancy_in, rules_in}
 use Rattle.c_keeper.specs.declared.second.IrigSecond.{IrigSecond}
 use Rattle.c_keeper.specs.declared.timekeeper.IrigTimekeeper.{IrigTimekeeper}
 use Rattle.c_keeper.specs.declared.timekeeper.IrigWires.{IrigWires}
 use Rattle.irig_lines.specs.Refusals.{within_of}
 use Rattle.c_keeper.specs.Seconds.{IsSecondOf}
-use Rattle.c_keeper.specs.Timekeepers.{clock_in, clock_state_in, delays_in, IsTimekeeperOf}
+use Rattle.c_keeper.specs.Timekeepers.{clock_in, clock_state_in, delays_in, vote_limits_in, IsTimekeeperOf}
 
 -- a pulse on a line: it rose then, is so wide, and was answered this place; a tick, and the second
 -- that it gave; or a question how long to wait from then on, and the answer
@@ -49,12 +49,12 @@ calls_of (Waited now wait ∷ past) = calls_of past
 -- what a timekeeper is made of by such a setup, table and wires
 abbrev pub made_in : IrigSetup → IrigTable → IrigWires → MadeOf
 made_in setup table wires = record {
-  limits = keeper_limits_in setup;
   rules = rules_in setup;
   clock = record {
     reader_rules = reader_rules_in setup;
     redundancy = redundancy_in setup;
     within = within_of wires.within_us;
+    limits = vote_limits_in setup;
     drift_us = wires.drift_us;
     delays = delays_in wires.delays;
     prefers_frames = not (wires.prefers_frames == 0);
@@ -196,7 +196,7 @@ pub record HasItsBound (made : MadeOf) (past : List Moment) (stamp : Stamp) : Ty
   pub are : past ≡ later ++ (Ticked now second ∷ earlier)
   pub says : (report_in second.report).announce ≡ Some stamp.second
   pub bound : stamp.bound_us
-      ≤ vote_us made.clock.within.us made.clock.drift_us
+      ≤ vote_us made.clock made.clock.drift_us
       + since_vote (Ticked now second ∷ earlier) * made.clock.drift_us
 
 -- ---- how long to wait

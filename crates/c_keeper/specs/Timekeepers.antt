@@ -6,17 +6,19 @@ use Rattle.irig_sync.specs.Lines.{Pulse}
 use Rattle.irig_time.specs.declared.claim.Claim.{Claim}
 use Rattle.irig_vote.specs.Vote.{f_of, ports_in}
 use Rattle.irig_timekeeper.specs.declared.clock.Beat.{Beat}
+use Rattle.irig_lines.specs.declared.limits.VoteLimits.{VoteLimits}
 use Rattle.irig_lines.specs.declared.setup.ClockRules.{ClockRules}
 use Rattle.irig_timekeeper.specs.declared.clock.ClockState.{ClockState}
 use Rattle.irig_lines.specs.declared.interval.Interval.{Interval}
 use Rattle.irig_timekeeper.specs.declared.stamp.Stamp.{Stamp}
 use Rattle.irig_timekeeper.specs.Clock.{clock_after, clock_answer, clock_vote, clock_wait}
 use Rattle.irig_timekeeper.specs.Keeping.{Keeping}
-use Rattle.irig_lines.specs.Refusals.{clock_fault, within_of}
+use Rattle.irig_lines.specs.Refusals.{clock_fault, limits_of, within_of}
 use Rattle.irig_lines.specs.Exactness.{most_within_us, most_drift_us, most_vote_us, most_held_us}
 use Rattle.irig_timekeeper.specs.Stamps.{stamp_of}
 use Rattle.irig_lines.specs.Lines.{IfKept, IsInTurnOf}
 use Rattle.irig_lines.specs.Steps.{claim_kept, line_at}
+use Rattle.c_numbers.specs.declared.setup.IrigSetup.{IrigSetup}
 use Rattle.c_numbers.specs.Setups.{rules_in, keeper_limits_in, reader_rules_in, redundancy_in, IsKeeperSetup}
 use Rattle.c_numbers.specs.LeapTables.{table_in}
 use Rattle.c_numbers.specs.States.{state_in, IsState}
@@ -32,12 +34,17 @@ use Rattle.c_lines.specs.Announced.{announced_in, IsAnnounced, IsSmall}
 abbrev pub delays_in : IrigDelays → Delays
 delays_in x = record { a = x.a; b = x.b; c = x.c; d = x.d; e = x.e }
 
+-- which frames have a vote
+abbrev pub vote_limits_in : IrigSetup → VoteLimits
+vote_limits_in s = limits_of (keeper_limits_in s)
+
 -- the rules of its clock
 abbrev pub clock_in : IrigTimekeeper → ClockRules
 clock_in t = record {
   reader_rules = reader_rules_in t.setup;
   redundancy = redundancy_in t.setup;
   within = within_of t.wires.within_us;
+  limits = vote_limits_in t.setup;
   drift_us = t.wires.drift_us;
   delays = delays_in t.wires.delays;
   prefers_frames = not (t.wires.prefers_frames == 0);
@@ -56,7 +63,7 @@ interval_in t =
 -- where its clock stands
 abbrev pub clock_state_in : IrigTimekeeper → ClockState
 clock_state_in t = record {
-  lines = lines_in (keeper_limits_in t.setup) (rules_in t.setup) t.lines;
+  lines = lines_in (Some (clock_in t).limits.limits) (rules_in t.setup) t.lines;
   reader = state_in t.state;
   edge_us = edge_in t;
   bound_us = t.bound_us;
@@ -139,9 +146,9 @@ pub record HeardTruly (IsTrue : List Pulse → Type 0) (t : IrigTimekeeper) (now
   pub true_lines : (i : ℕ) → i < ports_in (redundancy_in t.setup) → untrue i ≡ false
       → IsTrue (pulses i)
   pub kept : (i : ℕ) → i < ports_in (redundancy_in t.setup)
-      → IfKept (IsInTurnOf now) (clock_in t).within.us (clock_in t).drift_us (rules_in t.setup)
-      (claim_kept (clock_in t).within.us
-      (line_at (lines_in (keeper_limits_in t.setup) (rules_in t.setup) t.lines) i).frame)
+      → IfKept (IsInTurnOf now) (clock_in t) (rules_in t.setup)
+      (claim_kept (clock_in t)
+      (line_at (lines_in (Some (clock_in t).limits.limits) (rules_in t.setup) t.lines) i).frame)
       (pulses i)
 
 -- ---- which value they are
@@ -149,7 +156,6 @@ pub record HeardTruly (IsTrue : List Pulse → Type 0) (t : IrigTimekeeper) (now
 -- the numbers are those of a timekeeper that is this value
 pub record IsTimekeeperOf (t : IrigTimekeeper) (k : Keeping) : Type 0 where
   pub rules : rules_in t.setup ≡ k.rules
-  pub limits : keeper_limits_in t.setup ≡ k.limits
   pub clock : clock_in t ≡ k.clock
   pub table : table_in t.table ≡ k.table
   pub heard : HaveHeard t.lines k.heard

@@ -8,7 +8,7 @@ ghost use Rattle.irig_time.specs.declared.rules.Rules.{Rules};
 ghost use Rattle.irig_port.specs.declared.limits.Limits.{Limits};
 ghost use Rattle.irig_port.specs.Hearing.{heard_at};
 ghost use Rattle.irig_port.specs.Heard.{with_symbol};
-ghost use Rattle.irig_port.specs.Limits.{told_within};
+ghost use Rattle.irig_port.specs.Limits.{quality_in, told_within};
 ghost use Rattle.irig_port.specs.Tallies.{IsTallyOf};
 ghost use Rattle.irig_lines.specs.Steps.{line_heard};
 ghost use Rattle.c_lines.specs.Lines.{line_in};
@@ -26,7 +26,8 @@ pub fn hear(timekeeper: &IrigTimekeeper, line: &mut IrigLine, rise_us: u32, widt
     ensures line { (limits : Option Limits) (rules : Rules) (s : List Symbol)
         → AreWires timekeeper.now.wires → IsTallyOf line.old.port s → line_in limits rules line.new
         ≡ line_heard (clock_in timekeeper.now) (line_in limits rules line.old) rise_us width_us
-        (told_within limits rules (heard_at result s width_us)) }
+        (told_within limits rules (heard_at result s width_us))
+        (quality_in (heard_at result s width_us)) }
     ensures heard { (s : List Symbol) → IsTallyOf line.old.port s
         → IsTallyOf line.new.port (heard_at result s width_us) }
 {

@@ -1,6 +1,6 @@
 //! A timekeeper in numbers.
 
-ghost use Rattle.std.specs.Prelude.{◌≡◌, ◌↔◌, ◌+◌, ◌*◌, ◌%◌, ◌^◌, ◌<◌, ◌≤◌, IfSome, IsTrue, ℕ, Option, None, is_some};
+ghost use Rattle.std.specs.Prelude.{◌≡◌, ◌↔◌, ◌+◌, ◌*◌, ◌%◌, ◌^◌, ◌<◌, ◌≤◌, IfSome, IsTrue, ℕ, Option, Some, None, is_some};
 ghost use Rattle.irig_time.specs.declared.rules.Rules.{Rules};
 ghost use Rattle.irig_port.specs.declared.limits.Limits.{Limits};
 ghost use Rattle.irig_time.specs.Seconds.{IsValid};
@@ -12,7 +12,7 @@ ghost use Rattle.irig_timekeeper.specs.Stamps.{stamp_of};
 ghost use Rattle.irig_lines.specs.declared.lines.Lines.{Lines};
 ghost use Rattle.irig_lines.specs.Steps.{line_at, AreKeptOfUtc, AreNewLines};
 ghost use Rattle.c_numbers.specs.CheckWord.{setup_numbers, table_numbers, weighted};
-ghost use Rattle.c_numbers.specs.Setups.{rules_in, keeper_limits_in, reader_rules_in, redundancy_in, IsKeeperSetup};
+ghost use Rattle.c_numbers.specs.Setups.{rules_in, reader_rules_in, redundancy_in, IsKeeperSetup};
 ghost use Rattle.c_numbers.specs.States.{state_in, IsState};
 ghost use Rattle.c_lines.specs.Lines.{frames_in, lines_in, unread_lines, AreKeptFrom, HaveHeard, KeepNoMore};
 ghost use Rattle.c_numbers.specs.declared.state.TheConstants.{IDLE};
@@ -22,7 +22,7 @@ ghost use Rattle.irig_lines.specs.Exactness.{most_drift_us, most_vote_us};
 ghost use Rattle.irig_lines.specs.Intervals.{IsShort};
 ghost use Rattle.irig_lines.specs.Refusals.{clock_fault};
 ghost use Rattle.c_lines.specs.Announced.{announced_in, IsAnnounced, IsSmall};
-ghost use Rattle.c_keeper.specs.Timekeepers.{clock_in, clock_state_in, delays_in, edge_in, interval_in, unread, AreDelays, AreWires, HasShortInterval, IsAccepted, IsDelay};
+ghost use Rattle.c_keeper.specs.Timekeepers.{clock_in, clock_state_in, delays_in, edge_in, interval_in, unread, vote_limits_in, AreDelays, AreWires, HasShortInterval, IsAccepted, IsDelay};
 
 use crate::anchors::{IrigAnchors, NOTHING_MEASURED, anchors_for_c, anchors_of};
 use crate::check_word::{changing_sum, check_of};
@@ -34,7 +34,10 @@ use c_numbers::{
     IDLE, IrigSetup, IrigState, IrigTable, is_keeper_setup, keeper_limits_of, reader_rules_of,
     redundancy_of, rules_of, state_for_c, state_of,
 };
-use irig_lines::{ClockRules, Delays, Interval, KeptFrame, clock_fault, nearest_within};
+use irig_lines::{
+    ClockRules, Delays, Interval, KeptFrame, VoteLimits, clock_fault, nearest_limits,
+    nearest_within,
+};
 use irig_reader::State;
 use irig_timekeeper::{ClockState, Stamp, stamp_of};
 
@@ -86,7 +89,7 @@ pub struct IrigTimekeeper {
     pub has_edge: u8,
     /// 0 if there is no interval in which the true edge lies by all votes; any other, if there is.
     pub has_interval: u8,
-    /// How far from its true edge that of the last vote may lie, at most 899 us.
+    /// How far from its true edge that of the last vote may lie, at most 2,899 us.
     pub bound_us: u16,
     /// The last second that was counted, if it was announced.
     pub last: IrigAnnounced,
@@ -120,6 +123,7 @@ pub fn clock_rules_of(timekeeper: &IrigTimekeeper) -> ClockRules
         reader_rules: reader_rules_of(&timekeeper.setup),
         redundancy: redundancy_of(&timekeeper.setup),
         within: nearest_within(u32::from(timekeeper.wires.within_us)),
+        limits: limits_of(timekeeper),
         drift_us: u32::from(timekeeper.wires.drift_us),
         delays: delays_of(&timekeeper.wires.delays),
         prefers_frames: timekeeper.wires.prefers_frames != 0,
@@ -136,6 +140,13 @@ pub(crate) fn steady_rules_of(timekeeper: &IrigTimekeeper) -> ClockRules
         rules.drift_us = 100;
     }
     rules
+}
+
+// Which frames have a vote.
+fn limits_of(timekeeper: &IrigTimekeeper) -> VoteLimits
+    ensures { result ≡ vote_limits_in timekeeper.now.setup }
+{
+    nearest_limits(keeper_limits_of(&timekeeper.setup))
 }
 
 fn delays_of(delays: &IrigDelays) -> Delays
@@ -210,7 +221,7 @@ fn is_sound(fixed: u64, timekeeper: &IrigTimekeeper) -> bool
             u32::from(timekeeper.wires.drift_us),
         )
         .is_none()
-        && timekeeper.bound_us <= 899
+        && timekeeper.bound_us <= 2_899
         && is_short(timekeeper)
         && is_announced(&timekeeper.last)
         && is_announced(&timekeeper.before)
@@ -244,7 +255,7 @@ pub fn unread_state_of(timekeeper: &IrigTimekeeper) -> ClockState
 {
     ClockState {
         lines: unread_lines_of(
-            keeper_limits_of(&timekeeper.setup),
+            Some(limits_of(timekeeper).limits()),
             &rules_of(&timekeeper.setup),
             &timekeeper.lines,
         ),
@@ -268,7 +279,7 @@ pub(crate) fn seen_at(timekeeper: &IrigTimekeeper, port: u8) -> Option<KeptFrame
     ensures { result ≡ (line_at (clock_state_in timekeeper.now).lines port).seen }
 {
     seen_of(
-        keeper_limits_of(&timekeeper.setup),
+        Some(limits_of(timekeeper).limits()),
         &rules_of(&timekeeper.setup),
         line_at(&timekeeper.lines, port),
     )
@@ -406,7 +417,7 @@ pub fn keep(timekeeper: &mut IrigTimekeeper, state: &ClockState)
 /// Forgets all that happened to it. The check word stays.
 pub fn forget(timekeeper: &mut IrigTimekeeper)
     ensures state { clock_state_in timekeeper.new
-        ≡ new_state (lines_in (keeper_limits_in timekeeper.new.setup)
+        ≡ new_state (lines_in (Some (clock_in timekeeper.new).limits.limits)
         (rules_in timekeeper.new.setup) timekeeper.new.lines) }
     ensures lines { (limits : Option Limits) (rules : Rules)
         → AreNewLines (lines_in limits rules timekeeper.new.lines) }
@@ -442,7 +453,7 @@ pub fn forget(timekeeper: &mut IrigTimekeeper)
 /// Forgets all that happened to it. A check word that is wrong stays so.
 pub fn restart(timekeeper: &mut IrigTimekeeper)
     ensures state { clock_state_in timekeeper.new
-        ≡ new_state (lines_in (keeper_limits_in timekeeper.new.setup)
+        ≡ new_state (lines_in (Some (clock_in timekeeper.new).limits.limits)
         (rules_in timekeeper.new.setup) timekeeper.new.lines) }
     ensures lines { (limits : Option Limits) (rules : Rules)
         → AreNewLines (lines_in limits rules timekeeper.new.lines) }

@@ -1,23 +1,27 @@
 -- Where the lines of a timekeeper stand, by their numbers.
 use Rattle.std.specs.Prelude.{◌≡◌, ℕ, ◌≤◌, ◌⊎◌, ◌==◌, not, if◌then◌else◌, List, [], ◌∷◌, Option, Some, None}
+use Rattle.irig_control.specs.Control.{control_of}
 use Rattle.irig_time.specs.declared.rules.Rules.{Rules}
 use Rattle.irig_port.specs.declared.tally.Tally.{Tally}
 use Rattle.irig_port.specs.declared.limits.Limits.{Limits}
 use Rattle.irig_port.specs.declared.told.Told.TheVariants.{Silence}
 use Rattle.irig_port.specs.Limits.{tally_told_within}
-use Rattle.irig_port.specs.Tallies.{IsTallyOf}
+use Rattle.irig_port.specs.Tallies.{control_word_in, IsTallyOf}
 use Rattle.irig_lines.specs.declared.lines.KeptFrame.{KeptFrame}
 use Rattle.irig_lines.specs.declared.lines.Line.{Line}
 use Rattle.irig_lines.specs.declared.lines.Lines.{Lines}
+use Rattle.irig_lines.specs.Steps.{quality_told}
 use Rattle.irig_timekeeper.specs.Keeping.{Heard}
 use Rattle.c_lines.specs.declared.line.IrigLine.{IrigLine}
 use Rattle.c_lines.specs.declared.line.IrigLines.{IrigLines}
 
--- its last whole frame, whatever became of it: what its numbers tell, where it ends, and whether it is
--- even
+-- its last whole frame, whatever became of it: what its numbers tell, by what quality, where it ends,
+-- and whether it is even
 abbrev pub frame_in : Option Limits → Rules → IrigLine → KeptFrame
 frame_in limits rules l = record {
   told = tally_told_within limits rules l.frame;
+  quality = quality_told (tally_told_within limits rules l.frame)
+      (control_of (control_word_in l.frame)).quality;
   end_us = l.end_us;
   is_even = l.is_uneven == 0;
 }
@@ -45,7 +49,7 @@ lines_in limits rules ls = record {
 -- a frame of which is not read what it tells
 abbrev pub unread_frame : Option KeptFrame → Option KeptFrame
 unread_frame None = None
-unread_frame (Some f) = Some (record f { told = Silence })
+unread_frame (Some f) = Some (record f { told = Silence; quality = 0 })
 
 -- a line of whose last frame, if it has no vote any more, only is read when it ended
 abbrev pub unread_line : Line → Line

@@ -81,5 +81,5 @@ pub fn announced_for_c(announced: &Option<Announced>) -> IrigAnnounced
 pub fn is_small(announced: &IrigAnnounced) -> bool
     ensures { IsTrue result ↔ IsSmall announced.now }
 {
-    announced.is_told == 0 || announced.bound_us <= 490_899
+    announced.is_told == 0 || announced.bound_us <= 492_899
 }

@@ -8,7 +8,8 @@ ghost use Rattle.irig_timekeeper.specs.Keeping.{Heard, nothing_heard};
 ghost use Rattle.irig_lines.specs.Steps.{IsKeptOfUtc, IsNewLine, AreKeptOfUtc, AreNewLines};
 ghost use Rattle.c_lines.specs.Lines.{frame_in, frames_in, line_in, lines_in, numbers_at, unread_line, unread_lines, with_numbers, HaveHeard, AreKeptFrom, IsEmptyLine, IsLineFrom, KeepNoMore};
 
-use irig_lines::{KeptFrame, Line, Lines};
+use irig_control::unpack;
+use irig_lines::{KeptFrame, Line, Lines, quality_told};
 use irig_port::{Limits, Tally, Told};
 use irig_sync::Sync;
 use irig_time::Rules;
@@ -114,8 +115,10 @@ fn frame_of(limits: Option<Limits>, rules: &Rules, line: &IrigLine) -> KeptFrame
     ensures value { result ≡ frame_in limits rules.now line.now }
     ensures valid { IsKeptOfUtc (Some result) }
 {
+    let told = line.frame.tell_within(rules, limits);
     KeptFrame {
-        told: line.frame.tell_within(rules, limits),
+        told,
+        quality: quality_told(told, unpack(line.frame.control_word()).quality),
         end_us: line.end_us,
         is_even: line.is_uneven == 0,
     }
@@ -140,6 +143,7 @@ fn unread_line_of(limits: Option<Limits>, rules: &Rules, line: &IrigLine) -> Lin
         } else {
             Some(KeptFrame {
                 told: Told::Silence,
+                quality: 0,
                 end_us: line.end_us,
                 is_even: line.is_uneven == 0,
             })

@@ -70,8 +70,8 @@ abbrev limiting : ℕ → ℕ → IrigSetup
 limiting not_before poor_from = record { parity = 0; sense = 0; sbs = 0; redundancy = 0; lock_after = 1; holdover = 0; not_before = not_before; poor_from = poor_from }
 
 -- 0 is 7 of a timekeeper, which always has limits; of a reader it is 10, and a setup that names none has none
-pub known_limits : (keeper_limits_in (limiting 0 0) ≡ Some (record { not_before = 0; poor_from = 7 }))
-    × (keeper_limits_in (limiting 6209 8) ≡ Some (record { not_before = 6209; poor_from = 8 }))
+pub known_limits : (keeper_limits_in (limiting 0 0) ≡ record { not_before = 0; poor_from = 7 })
+    × (keeper_limits_in (limiting 6209 8) ≡ record { not_before = 6209; poor_from = 8 })
     × (limits_in (limiting 6209 0) ≡ Some (record { not_before = 6209; poor_from = 10 }))
     × (limits_in (limiting 0 0) ≡ None)
 unfolding keeper_limits_in

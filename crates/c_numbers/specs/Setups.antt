@@ -35,11 +35,11 @@ limits_in s =
 
 -- those of a timekeeper, which has some in any case: unless the setup names another quality, a frame has
 -- no vote from quality 7 on, whose clock says of itself that it may be 1 ms off
-unfoldable pub keeper_limits_in : IrigSetup → Option Limits
-keeper_limits_in s = Some (record {
+unfoldable pub keeper_limits_in : IrigSetup → Limits
+keeper_limits_in s = record {
   not_before = s.not_before;
   poor_from = if s.poor_from == 0 then 7 else s.poor_from;
-})
+}
 
 -- how many ports it has
 abbrev pub redundancy_in : IrigSetup → Redundancy

@@ -1,6 +1,6 @@
 //! How a reader is set up.
 
-ghost use Rattle.std.specs.Prelude.{◌≡◌, ◌↔◌, ◌<◌, ◌≤◌, IfSome, IsTrue};
+ghost use Rattle.std.specs.Prelude.{◌≡◌, ◌↔◌, ◌<◌, ◌≤◌, IsTrue};
 ghost use Rattle.c_numbers.specs.Numbers.{parity_in, sense_in};
 ghost use Rattle.c_numbers.specs.Setups.{rules_in, reader_rules_in, redundancy_in, limits_in, keeper_limits_in, IsPort, IsSetup, IsKeeperSetup};
 
@@ -98,18 +98,18 @@ pub fn limits_of(setup: &IrigSetup) -> Option<Limits>
 
 /// The limits of what has a vote in a timekeeper, which has some in any case.
 #[tactic(auto, unfolding(crate::specs::Setups::keeper_limits_in))]
-pub fn keeper_limits_of(setup: &IrigSetup) -> Option<Limits>
+pub fn keeper_limits_of(setup: &IrigSetup) -> Limits
     ensures value { result ≡ keeper_limits_in setup.now }
-    ensures few { IsKeeperSetup setup.now → IfSome result (λ limits. limits.poor_from ≤ 8) }
+    ensures few { IsKeeperSetup setup.now → result.poor_from ≤ 8 }
 {
-    Some(Limits {
+    Limits {
         not_before: u32::from(setup.not_before),
         poor_from: if setup.poor_from == 0 {
             7
         } else {
             setup.poor_from
         },
-    })
+    }
 }
 
 /// How many ports it has. A number without a meaning is one port.

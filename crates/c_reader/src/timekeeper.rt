@@ -11,7 +11,8 @@ ghost use Rattle.irig_time.specs.Seconds.{IsValid};
 ghost use Rattle.irig_time.specs.Timelines.{TimelineValue, IsSecond};
 ghost use Rattle.irig_time.specs.TimelineFaults.{IsTimeline};
 ghost use Rattle.irig_reader.specs.declared.report.Cause.TheVariants as Cause;
-ghost use Rattle.irig_lines.specs.Exactness.{fault_early_us, fault_late_us, vote_us};
+ghost use Rattle.irig_lines.specs.Exactness.{fault_early_us, fault_late_us};
+ghost use Rattle.irig_lines.specs.Widths.{vote_us};
 ghost use Rattle.irig_timekeeper.specs.declared.clock.Beat.{Beat};
 ghost use Rattle.irig_timekeeper.specs.declared.stamp.Stamp.{Stamp};
 ghost use Rattle.irig_lines.specs.declared.lines.Vote.{Vote};
@@ -19,7 +20,7 @@ ghost use Rattle.irig_lines.specs.declared.rate.Rate.{Rate};
 ghost use Rattle.irig_timekeeper.specs.Measures.{IsMeasured};
 ghost use Rattle.irig_timekeeper.specs.Clock.{lasted};
 ghost use Rattle.irig_lines.specs.Counting.{edges_own};
-ghost use Rattle.irig_lines.specs.Clocks.{IsTrueByItsClock};
+ghost use Rattle.irig_lines.specs.Clocks.{IsTrueByItsClock, IsTrueByItsQuality};
 ghost use Rattle.irig_lines.specs.Edges.{IsQuartz};
 ghost use Rattle.irig_timekeeper.specs.Life.{AreInOrder, last_tick, pulses_on};
 ghost use Rattle.irig_timekeeper.specs.Life.Call.{Tick};
@@ -47,7 +48,7 @@ ghost use Rattle.c_keeper.specs.Rates.{rate_in, rate_told};
 ghost use Rattle.c_keeper.specs.Rows.{AreGivenLast};
 ghost use Rattle.c_keeper.specs.Seconds.{against_at, stamp_in, IsSecondOf, IsToldOf};
 ghost use Rattle.c_keeper.specs.Ticks.{IsGivenAtTick, IsLeftAtTick};
-ghost use Rattle.c_keeper.specs.Timekeepers.{answer_in, clock_in, clock_state_in, edge_in, delays_in, stamp_for, state_behind, vote_in, wait_in, AreWires, HeardTruly, IsAccepted, IsTimekeeperOf};
+ghost use Rattle.c_keeper.specs.Timekeepers.{answer_in, clock_in, clock_state_in, edge_in, delays_in, stamp_for, state_behind, vote_in, vote_limits_in, wait_in, AreWires, HeardTruly, IsAccepted, IsTimekeeperOf};
 ghost use Rattle.c_lines.specs.States.{bit_at, is_untrue_number};
 ghost use Rattle.c_keeper.specs.States.{masks_of};
 ghost use Rattle.c_keeper.specs.Said.{said_of};
@@ -91,20 +92,22 @@ pub extern "C" fn irig_c_timekeeper_init(
     ensures range { (IsKeeperSetup setup.now → HasKinds table.now → AreWires wires.now → ⊥)
         → result ≡ 26 }
     ensures refused { (result ≡ 0 → ⊥) → timekeeper.new ≡ timekeeper.old }
-    ensures fresh { result ≡ 0 → IsTimekeeperOf timekeeper.new (new_keeping
-        (keeper_limits_in setup.now) (rules_in setup.now) (clock_in timekeeper.new)
-        (table_in table.now)
-        (lines_in (keeper_limits_in setup.now) (rules_in setup.now) timekeeper.new.lines)) }
+    ensures fresh { result ≡ 0 → IsTimekeeperOf timekeeper.new (new_keeping (rules_in setup.now)
+        (clock_in timekeeper.new) (table_in table.now)
+        (lines_in (Some (vote_limits_in setup.now).limits) (rules_in setup.now)
+        timekeeper.new.lines)) }
     ensures clock { result ≡ 0 → clock_in timekeeper.new ≡ record {
       reader_rules = reader_rules_in setup.now;
       redundancy = redundancy_in setup.now;
       within = within_of wires.now.within_us;
+      limits = vote_limits_in setup.now;
       drift_us = wires.now.drift_us;
       delays = delays_in wires.now.delays;
       prefers_frames = not (wires.now.prefers_frames == 0);
     } }
     ensures exact { result ≡ 0
-        → (clock_in timekeeper.new).within.us ≡ wires.now.within_us }
+        → ((clock_in timekeeper.new).within.us ≡ wires.now.within_us)
+        × ((clock_in timekeeper.new).limits.limits ≡ keeper_limits_in setup.now) }
     ensures lines { (limits : Option Limits) (rules : Rules) → result ≡ 0
         → AreNewLines (lines_in limits rules timekeeper.new.lines) }
     // a life begins, of which nothing has passed
@@ -242,8 +245,8 @@ pub extern "C" fn irig_c_timekeeper_tick(
         → second.new.is_told ≡ 1 → (report_in second.new.report).cause ≡ Cause.Voted
         → (report_in second.new.report).announce ≡ Some u
         → (beat : Beat) × IsToldOf second.new beat
-        × IsToldTruly t edges (vote_us timekeeper.old.wires.within_us d)
-        (vote_us timekeeper.old.wires.within_us d) now beat u }
+        × IsToldTruly t edges (vote_us (clock_in timekeeper.old) d)
+        (vote_us (clock_in timekeeper.old) d) now beat u }
     // By a vote for the true second T(n) it announces T(n + 1), if any, whatever frames say of a leap, if
     // the table knows how the day of T(n) ends and frames are not preferred (the law
     // `a_right_table_guards_its_leaps`).
@@ -263,8 +266,7 @@ pub extern "C" fn irig_c_timekeeper_tick(
         (past : List Moment) (u : UtcSecond) → HasLived timekeeper.old made past
         → now_us ≡ now % 2 ^ 32 → GoesOnTruly (IsTrueLately made.clock.within.us) t edges made start now [] past
         → (report_in second.new.report).announce ≡ Some u
-        → IsToldInHoldover t edges 0 0 made.clock.within.us made.clock.drift_us
-        made.clock.reader_rules.holdover now (beat_in second.new) u }
+        → IsToldInHoldover t edges 0 0 made.clock now (beat_in second.new) u }
     // It is a later second than any that was announced before.
     ensures order { (t : TimelineValue) (edges : ℕ → ℕ) (made : MadeOf) (start before now : ℕ)
         (earlier later : List Moment) (first : IrigSecond) (u v : UtcSecond)
@@ -306,6 +308,11 @@ pub extern "C" fn irig_c_timekeeper_tick(
         (past : List Moment) → HasLived timekeeper.old made past → now_us ≡ now % 2 ^ 32
         → LivesWell (IsTrueLately made.clock.within.us) t edges made start
         (Tick now ∷ calls_of past) → second.new.strays ≡ 0 }
+    // Nor do votes by clocks that are no further off than they say.
+    ensures quality_strays { (t : TimelineValue) (edges : ℕ → ℕ) (made : MadeOf) (start now : ℕ)
+        (past : List Moment) → HasLived timekeeper.old made past → now_us ≡ now % 2 ^ 32
+        → LivesWell (IsTrueByItsQuality made.clock) t edges made start
+        (Tick now ∷ calls_of past) → second.new.strays ≡ 0 }
     // The cause is never `Jump`.
     ensures calm { (t : TimelineValue) (edges : ℕ → ℕ) (made : MadeOf) (start now : ℕ)
         (past : List Moment) → HasLived timekeeper.old made past → now_us ≡ now % 2 ^ 32
@@ -319,8 +326,8 @@ pub extern "C" fn irig_c_timekeeper_tick(
         → now_us ≡ now % 2 ^ 32 → GoesOnTruly (IsTrueOrFaulty made.clock.within.us) t edges made start now [] past
         → (report_in second.new.report).announce ≡ Some u
         → IsToldInHoldover t edges (fault_early_us made.clock.within.us made.clock.drift_us)
-        (fault_late_us made.clock.within.us made.clock.drift_us) made.clock.within.us
-        made.clock.drift_us made.clock.reader_rules.holdover now (beat_in second.new) u }
+        (fault_late_us made.clock.within.us made.clock.drift_us) made.clock now
+        (beat_in second.new) u }
     ensures faulty_order { (t : TimelineValue) (edges : ℕ → ℕ) (made : MadeOf)
         (start before now : ℕ) (earlier later : List Moment) (first : IrigSecond)
         (u v : UtcSecond)
@@ -341,8 +348,7 @@ pub extern "C" fn irig_c_timekeeper_tick(
         → GoesOnTruly (IsTrueByItsClock off made.clock.within.us made.clock.drift_us) t edges made
         start now [] past
         → (report_in second.new.report).announce ≡ Some u
-        → IsToldInHoldover t edges off off made.clock.within.us made.clock.drift_us
-        made.clock.reader_rules.holdover now (beat_in second.new) u }
+        → IsToldInHoldover t edges off off made.clock now (beat_in second.new) u }
     ensures clocks_off_order { (t : TimelineValue) (edges : ℕ → ℕ) (made : MadeOf)
         (off start before now : ℕ) (earlier later : List Moment) (first : IrigSecond)
         (u v : UtcSecond) → off ≤ 1000
@@ -358,6 +364,27 @@ pub extern "C" fn irig_c_timekeeper_tick(
         → GoesOnTruly (IsTrueByItsClock off made.clock.within.us made.clock.drift_us) t edges made
         start now [] past
         → ¬ ((report_in second.new.report).cause ≡ Cause.Jump) }
+    // So it is, to within the bound alone, by clocks whose seconds begin no further off UTC's than the time
+    // quality of their frames says (the law `quality_is_in_the_bound`).
+    ensures quality { (t : TimelineValue) (edges : ℕ → ℕ) (made : MadeOf) (start now : ℕ)
+        (past : List Moment) (u : UtcSecond) → HasLived timekeeper.old made past
+        → now_us ≡ now % 2 ^ 32
+        → GoesOnTruly (IsTrueByItsQuality made.clock) t edges made start now [] past
+        → (report_in second.new.report).announce ≡ Some u
+        → IsToldInHoldover t edges 0 0 made.clock now (beat_in second.new) u }
+    ensures quality_order { (t : TimelineValue) (edges : ℕ → ℕ) (made : MadeOf)
+        (start before now : ℕ) (earlier later : List Moment) (first : IrigSecond)
+        (u v : UtcSecond)
+        → HasLived timekeeper.old made (later ++ (Ticked before first ∷ earlier))
+        → now_us ≡ now % 2 ^ 32
+        → GoesOnTruly (IsTrueByItsQuality made.clock) t edges made start now later
+        (Ticked before first ∷ earlier)
+        → (report_in first.report).announce ≡ Some u
+        → (report_in second.new.report).announce ≡ Some v → IsLaterSecond t u v }
+    ensures quality_calm { (t : TimelineValue) (edges : ℕ → ℕ) (made : MadeOf) (start now : ℕ)
+        (past : List Moment) → HasLived timekeeper.old made past → now_us ≡ now % 2 ^ 32
+        → GoesOnTruly (IsTrueByItsQuality made.clock) t edges made start now [] past
+        → ¬ ((report_in second.new.report).cause ≡ Cause.Jump) }
     // Ticked at least each 95 ms it has announced by a vote, once as many seconds as it locks after, and
     // two more, came whole on more than f lines, and the table is true or frames are preferred (the law
     // `a_polling_device_announces`).
@@ -372,14 +399,14 @@ pub extern "C" fn irig_c_timekeeper_tick(
         → HasAnnounced edges (m + 1 + made.clock.reader_rules.lock_after) u
         (Ticked now second.new ∷ (moments ++ before)) }
     // So it has if `irig_c_timekeeper_wait` was asked behind each tick, from its time, and behind each
-    // pulse of place 100, from its end, and each tick came 95 ms at most behind each time that was
+    // pulse of place 100, from its end, and each tick came 94 ms at most behind each time that was
     // named since the tick before (the law `a_waiting_device_announces`).
     ensures announces_by_wait { (t : TimelineValue) (edges : ℕ → ℕ) (made : MadeOf)
         (start m late now : ℕ) (moments before : List Moment) (u : UtcSecond)
         → HasLived timekeeper.old made (moments ++ before) → now_us ≡ now % 2 ^ 32
         → ComeInARow t edges made start m (Ticked now second.new ∷ moments) before
         → FollowsTruth t made.clock.prefers_frames made.table
-        → late ≤ 95000 → AreAsked None moments → GoesByWait late (Ticked now second.new ∷ moments)
+        → late ≤ 94000 → AreAsked None moments → GoesByWait late (Ticked now second.new ∷ moments)
         → AreMadeInTurn start (Tick now ∷ calls_of moments) (calls_of before)
         → IsSecond t (m + 1 + made.clock.reader_rules.lock_after) u
         → HasAnnounced edges (m + 1 + made.clock.reader_rules.lock_after) u
@@ -443,24 +470,24 @@ pub extern "C" fn irig_c_timekeeper_wait(timekeeper: &IrigTimekeeper, now_us: u3
     ensures lived { (made : MadeOf) (past : List Moment) (now : ℕ)
         → HasLived timekeeper.now made past → now_us ≡ now % 2 ^ 32
         → HasLived timekeeper.now made (Waited now result ∷ past) }
-    // in a life, at a time at which a tick may come: at most 1.005 s
+    // in a life, at a time at which a tick may come: at most 1.006 s
     ensures most { (made : MadeOf) (start now : ℕ) (past : List Moment)
         → HasLived timekeeper.now made past → now_us ≡ now % 2 ^ 32
-        → AreInOrder start made.clock.redundancy (Tick now ∷ calls_of past) → result ≤ 1005000 }
+        → AreInOrder start made.clock.redundancy (Tick now ∷ calls_of past) → result ≤ 1006000 }
     // above 0, if lines agree on no edge and no second is due
     ensures above { (made : MadeOf) (start now : ℕ) (past : List Moment)
         → HasLived timekeeper.now made past → now_us ≡ now % 2 ^ 32
         → AreInOrder start made.clock.redundancy (Tick now ∷ calls_of past)
         → agreed_in timekeeper.now now_us ≡ None → edges_own (edge_in timekeeper.now) now_us ≡ 0
         → 1 ≤ result }
-    // a tick after so long, or later, has the vote, if lines agree on an edge and it comes by 98 ms
+    // a tick after so long, or later, has the vote, if lines agree on an edge and it comes by 94 ms
     // behind that (irig_lives, the law `waiting_is_right`)
     ensures votes { (made : MadeOf) (start now tick edge : ℕ) (past : List Moment)
         (vote : Vote) → HasLived timekeeper.now made past → now_us ≡ now % 2 ^ 32
         → AreInOrder start made.clock.redundancy (Tick now ∷ calls_of past)
         → AreInOrder start made.clock.redundancy (Tick tick ∷ calls_of past)
         → agreed_in timekeeper.now now_us ≡ Some vote → vote.edge_us ≡ edge % 2 ^ 32
-        → edge ≤ now + 15000 → now ≤ edge + 98000 → now + result ≤ tick → tick ≤ edge + 98000
+        → edge ≤ now + 17000 → now ≤ edge + 94000 → now + result ≤ tick → tick ≤ edge + 94000
         → vote_in timekeeper.now (tick % 2 ^ 32) ≡ Some vote.claim }
     // else the own counter then counts a second
     ensures counts { (made : MadeOf) (start now tick e : ℕ) (past : List Moment)
@@ -531,6 +558,13 @@ pub extern "C" fn irig_c_timekeeper_stamp(
         → StampsTruly (IsTrueByItsClock off made.clock.within.us made.clock.drift_us) t edges made
         start time now past
         → stamp_in result stamp.new ≡ Some found → IsStampedTruly t edges off time found }
+    // Of either life, by clocks that are no further off than the quality of their frames says: to within
+    // the bound alone (the law `quality_is_in_the_bound`).
+    ensures quality { (t : TimelineValue) (edges : ℕ → ℕ) (made : MadeOf)
+        (start time now : ℕ) (past : List Moment) (found : Stamp)
+        → HasLived timekeeper.now made past → time_us ≡ time % 2 ^ 32
+        → StampsTruly (IsTrueByItsQuality made.clock) t edges made start time now past
+        → stamp_in result stamp.new ≡ Some found → IsStampedTruly t edges 0 time found }
     // Of either life: another device's stamp of the same instant, of which its own clause `truth` or
     // `healed` holds, names one no further off than the sum of both bounds and the drift of two seconds
     // of each device (the law `stamps_are_true`, clause `together`).
@@ -659,7 +693,7 @@ pub extern "C" fn irig_c_timekeeper_line(
 pub extern "C" fn irig_c_timekeeper_restart(timekeeper: &mut IrigTimekeeper)
     ensures restarted { (k : Keeping) → IsTimekeeperOf timekeeper.old k
         → IsTimekeeperOf timekeeper.new (restarted k
-        (lines_in k.limits k.rules timekeeper.new.lines)) }
+        (lines_in (Some k.clock.limits.limits) k.rules timekeeper.new.lines)) }
     ensures lines { (limits : Option Limits) (rules : Rules)
         → AreNewLines (lines_in limits rules timekeeper.new.lines) }
     // a new life begins

@@ -7,6 +7,7 @@ use Rattle.std.proofs.lemmas.List.Sums.{sum_by-cons}
 use Rattle.irig_sync.specs.Sync.{clock_gap}
 use Rattle.irig_lines.specs.declared.lines.KeptClaim.{KeptClaim}
 use Rattle.irig_lines.specs.declared.lines.Lines.{Lines}
+use Rattle.irig_lines.specs.declared.setup.ClockRules.{ClockRules}
 use Rattle.irig_lines.specs.Steps.{line_at, claim_kept, all_kept, last_us, is_candidate, earlier, first_candidate}
 
 -- ---- among five lines one is true, and such
@@ -63,13 +64,13 @@ module _ (untrue : ℕ → Bool) (is_such : Option KeptClaim → Bool) (none : i
       ]
 
 -- the i-th of the five
-pub kept_at : (within : ℕ) (lines : Lines) (i : ℕ) (y : KeptClaim) → slice_get (all_kept within lines) i ≡ Some (Some y) → claim_kept within (line_at lines i).frame ≡ Some y
-kept_at within lines zero y e = cc
-kept_at within lines (suc zero) y e = cc
-kept_at within lines (suc (suc zero)) y e = cc
-kept_at within lines (suc (suc (suc zero))) y e = cc
-kept_at within lines (suc (suc (suc (suc zero)))) y e = cc
-kept_at within lines (suc (suc (suc (suc (suc i))))) y e = absurd cc
+pub kept_at : (c : ClockRules) (lines : Lines) (i : ℕ) (y : KeptClaim) → slice_get (all_kept c lines) i ≡ Some (Some y) → claim_kept c (line_at lines i).frame ≡ Some y
+kept_at c lines zero y e = cc
+kept_at c lines (suc zero) y e = cc
+kept_at c lines (suc (suc zero)) y e = cc
+kept_at c lines (suc (suc (suc zero))) y e = cc
+kept_at c lines (suc (suc (suc (suc zero)))) y e = cc
+kept_at c lines (suc (suc (suc (suc (suc i))))) y e = absurd cc
 
 -- ---- what is agreed is a candidate, and one of them
 
@@ -96,7 +97,7 @@ module _ (Such : KeptClaim → Type 0) where
         | inr not ↦ omega (arith, left, right, rest, none_of (one (Some y)) not)
       ]
 
-  module _ (window f : ℕ) (all : List (Option KeptClaim)) where
+  module _ (reach f : ℕ) (all : List (Option KeptClaim)) where
     IsOne : Option KeptClaim → Type 0
     IsOne so_far = (x : KeptClaim) → so_far ≡ Some x → (is_candidate f x all ≡ true) × Such x
 
@@ -110,19 +111,19 @@ module _ (Such : KeptClaim → Type 0) where
         let same : x ≡ z = cc in
         (subst (λ (v : KeptClaim). is_candidate f v all ≡ true) same is, subst Such same such)
 
-    earlier_one : (so_far : Option KeptClaim) (x : KeptClaim) → IsOne so_far → is_candidate f x all ≡ true → Such x → IsOne (earlier window so_far x)
+    earlier_one : (so_far : Option KeptClaim) (x : KeptClaim) → IsOne so_far → is_candidate f x all ≡ true → Such x → IsOne (earlier reach so_far x)
     earlier_one None x v is such = just x is such
-    earlier_one (Some y) x v is such = either_one (nat_le (clock_gap (last_us y) (last_us x)) window) (Some y) (Some x) (λ _. v) (λ _. just x is such)
+    earlier_one (Some y) x v is such = either_one (nat_le (clock_gap (last_us y) (last_us x)) reach) (Some y) (Some x) (λ _. v) (λ _. just x is such)
 
-    first_one : (xs : List (Option KeptClaim)) (so_far : Option KeptClaim) → EachKept xs → IsOne so_far → IsOne (first_candidate window f all xs so_far)
+    first_one : (xs : List (Option KeptClaim)) (so_far : Option KeptClaim) → EachKept xs → IsOne so_far → IsOne (first_candidate reach f all xs so_far)
     first_one [] so_far each v = v
     first_one (None ∷ xs) so_far each v = first_one xs so_far each v
-    first_one (Some x ∷ xs) so_far each v = first_one xs _ each.1 (either_one (is_candidate f x all) (earlier window so_far x) so_far (λ is. earlier_one so_far x v is each.0) (λ _. v))
+    first_one (Some x ∷ xs) so_far each v = first_one xs _ each.1 (either_one (is_candidate f x all) (earlier reach so_far x) so_far (λ is. earlier_one so_far x v is each.0) (λ _. v))
 
     nothing_yet : IsOne None
     unfolding IsOne
     nothing_yet x e = absurd cc
 
-    pub is_one : (xs : List (Option KeptClaim)) (x : KeptClaim) → EachKept xs → first_candidate window f all xs None ≡ Some x → (is_candidate f x all ≡ true) × Such x
+    pub is_one : (xs : List (Option KeptClaim)) (x : KeptClaim) → EachKept xs → first_candidate reach f all xs None ≡ Some x → (is_candidate f x all ≡ true) × Such x
     unfolding IsOne
     is_one xs x each e = first_one xs None each nothing_yet x e

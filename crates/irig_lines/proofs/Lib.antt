@@ -1,5 +1,6 @@
 pub mod CountingLaws
 pub mod ValidLines
+pub mod WidthLaws
 pub mod LineLaws
 pub mod AgreeLaws
 pub mod WholeLaws

@@ -10,25 +10,28 @@ use Rattle.irig_sync.specs.Edges.{IsSteady, second_long, element_at, IsClock}
 use Rattle.irig_sync.specs.FaultyLines.{IsPulseOf}
 use Rattle.irig_sync.proofs.LineLaws.{on_time_is, only_whole}
 use Rattle.irig_sync.proofs.EdgeLaws.{is_next}
-use Rattle.irig_port.specs.declared.limits.Limits.{Limits}
 use Rattle.irig_time.specs.declared.rules.Rules.{Rules}
 use Rattle.irig_time.specs.declared.claim.Claim.{Claim}
 use Rattle.irig_time.specs.Carries.{Carries}
 use Rattle.irig_time.specs.Timelines.{TimelineValue}
 use Rattle.irig_port.specs.declared.told.Told.{Told}
 use Rattle.irig_port.specs.declared.told.Told.TheVariants as tells
-use Rattle.irig_port.specs.Limits.{told_within}
+use Rattle.irig_port.specs.declared.limits.Limits.{Limits}
+use Rattle.irig_port.specs.Limits.{told_within, quality_in}
 use Rattle.irig_port.specs.Hearing.{IsRun}
 use Rattle.irig_port.proofs.CarriesLaws.{carries_is_told}
 use Rattle.irig_port.proofs.LimitLaws.{claim_within}
 use Rattle.irig_lines.specs.declared.within.Within.{Within}
-use Rattle.irig_lines.specs.Exactness.{half_us, end_off_us}
+use Rattle.irig_lines.specs.Exactness.{end_off_us}
+use Rattle.irig_lines.specs.Widths.{half_us, worst_of}
+use Rattle.irig_lines.proofs.WidthLaws.{half_least}
+use Rattle.irig_sync.specs.Edges.{element_drift}
 use Rattle.irig_lines.specs.Edges.{IsQuartz, IsTrueNear}
 use Rattle.irig_lines.specs.declared.setup.ClockRules.{ClockRules}
 use Rattle.irig_lines.specs.declared.lines.KeptFrame.{KeptFrame}
 use Rattle.irig_lines.specs.declared.lines.KeptClaim.{KeptClaim}
 use Rattle.irig_lines.specs.Lines.{rise_before, AreEven, ArePulsesLately, IsLineOf, IsTrueLately, IsLastBefore, IsFrameOf, IfKept}
-use Rattle.irig_lines.specs.Steps.{is_even, claim_told, claim_kept, frame_behind}
+use Rattle.irig_lines.specs.Steps.{is_even, quality_told, claim_told, claim_kept, frame_behind}
 
 -- ---- one symbol more
 
@@ -174,9 +177,14 @@ module _ (within : Within) (d : ℕ) (edges : ℕ → ℕ) (steady : IsQuartz d 
 -- ---- a frame that was heard whole
 
 module _ (within : Within) (rules : Rules) (t : TimelineValue) (d : ℕ) (edges : ℕ → ℕ) (steady : IsQuartz d edges) where
+  -- it ends near an edge, and its symbols are those of the line's frame that ends there
+  pub record IsFramed (line : ℕ → Symbol) (end : ℕ) (run : List Pulse) (claim : Claim) : Type 0 where
+    pub near : IsTrueNear t edges (end_off_us within.us d) (end_off_us within.us d) end claim
+    pub stand : StandAt line (100 * near.second) (symbols_of_last 100 run)
+
   -- by its hundred pulses
   framed : (now end : ℕ) (line : ℕ → Symbol) (k : ℕ) (p : Pulse) (ps : List Pulse) (claim : Claim) → IsLineOf rules t line → ArePulsesLately within.us line edges now k (p ∷ ps) → AreOnTime 100 (p ∷ ps)
-      → Carries rules (symbols_of_last 100 (p ∷ ps)) claim → end ≡ p.rise + 10000 → now ≤ end + 100000 → IsTrueNear t edges (end_off_us within.us d) (end_off_us within.us d) end claim
+      → Carries rules (symbols_of_last 100 (p ∷ ps)) claim → end ≡ p.rise + 10000 → now ≤ end + 100000 → IsFramed line end (p ∷ ps) claim
   unfolding StandFrom
   framed now end line k p ps claim is are on carries at soon =
       let row = in_a_row within d edges steady line now 99 k p ps are on (omega (arith, at, soon)) in
@@ -186,17 +194,21 @@ module _ (within : Within) (rules : Rules) (t : TimelineValue) (d : ℕ) (edges 
       let frame : (row.first + 99) / 100 ≡ f = omega (arith, whole) in
       let place : (row.first + 99) % 100 ≡ 99 = omega (arith, whole) in
       let last : element_at edges (row.first + 99) ≡ edges f + second_long edges f * 99 / 100 = rw (frame, place) refl in
+      let stand = subst (λ (j : ℕ). StandAt line j (symbols_of_last 100 (p ∷ ps))) first row.stand.1 in
       record {
-        second = f;
         near = record {
-          least = omega (arith, at, last, row.here.0.0, steady.steady.most f);
-          most = omega (arith, at, last, row.here.0.1, steady.steady.least f);
+          second = f;
+          near = record {
+            least = omega (arith, at, last, row.here.0.0, steady.steady.most f);
+            most = omega (arith, at, last, row.here.0.1, steady.steady.least f);
+          };
+          truth = is.truth f (symbols_of_last 100 (p ∷ ps)) claim stand carries;
         };
-        truth = is.truth f (symbols_of_last 100 (p ∷ ps)) claim (subst (λ (j : ℕ). StandAt line j (symbols_of_last 100 (p ∷ ps))) first row.stand.1) carries;
+        stand = stand;
       }
 
   ended : (now end : ℕ) (line : ℕ → Symbol) (k : ℕ) (run : List Pulse) (claim : Claim) → IsLineOf rules t line → ArePulsesLately within.us line edges now k run
-      → AreOnTime 100 run → IsLastBefore end run → Carries rules (symbols_of_last 100 run) claim → now ≤ end + 100000 → IsTrueNear t edges (end_off_us within.us d) (end_off_us within.us d) end claim
+      → AreOnTime 100 run → IsLastBefore end run → Carries rules (symbols_of_last 100 run) claim → now ≤ end + 100000 → IsFramed line end run claim
   ended now end line k [] claim is are on at carries soon = absurd at
   ended now end line k (p ∷ ps) claim is are on at carries soon = framed now end line k p ps claim is are on carries at soon
 
@@ -206,50 +218,62 @@ module _ (within : Within) (rules : Rules) (t : TimelineValue) (d : ℕ) (edges 
       let left = dropped within d edges steady is.line now late is.next pulses is.are in
       even_row within d edges steady is.line now left.0 (drop late pulses) end left.1 on last soon
 
-  -- its claim is true and its end near, whatever drift it is even by
-  pub frame_by_any : (e now end : ℕ) (pulses : List Pulse) (claim : Claim) → IsTrueLately within.us rules t edges now pulses → IsFrameOf within.us e rules claim end pulses → now ≤ end + 100000 → IsTrueNear t edges (end_off_us within.us d) (end_off_us within.us d) end claim
-  frame_by_any e now end pulses claim is frame soon =
-      let left = dropped within d edges steady is.line now frame.late is.next pulses is.are in
-      ended now end is.line left.0 (drop frame.late pulses) claim is.is_line left.1 frame.on_time frame.last frame.carries soon
+  -- its claim is true and its end near
+  pub frame_is_framed : (now end : ℕ) (pulses : List Pulse) (claim : Claim) → (is : IsTrueLately within.us rules t edges now pulses) → (late : ℕ) → AreOnTime 100 (drop late pulses) → IsLastBefore end (drop late pulses) → Carries rules (symbols_of_last 100 (drop late pulses)) claim → now ≤ end + 100000 → IsFramed is.line end (drop late pulses) claim
+  frame_is_framed now end pulses claim is late on last carries soon =
+      let left = dropped within d edges steady is.line now late is.next pulses is.are in
+      ended now end is.line left.0 (drop late pulses) claim is.is_line left.1 on last carries soon
 
-  pub frame_is_true : (now end : ℕ) (pulses : List Pulse) (claim : Claim) → IsTrueLately within.us rules t edges now pulses → IsFrameOf within.us d rules claim end pulses → now ≤ end + 100000 → IsTrueNear t edges (end_off_us within.us d) (end_off_us within.us d) end claim
-  frame_is_true now end pulses claim is frame soon = frame_by_any d now end pulses claim is frame soon
+  -- whatever drift it is even by
+  pub frame_is_true : (c : ClockRules) (half now end : ℕ) (pulses : List Pulse) (claim : Claim) → IsTrueLately within.us rules t edges now pulses → IsFrameOf c rules claim half end pulses → now ≤ end + 100000 → IsTrueNear t edges (end_off_us within.us d) (end_off_us within.us d) end claim
+  frame_is_true c half now end pulses claim is frame soon = (frame_is_framed now end pulses claim is frame.late frame.on_time frame.last frame.carries soon).near
 
--- the same, with nothing more
-pub true_by_any : (within : Within) (rules : Rules) (t : TimelineValue) (d e : ℕ) (edges : ℕ → ℕ) (now end : ℕ) (pulses : List Pulse) (claim : Claim) → IsQuartz d edges → IsTrueLately within.us rules t edges now pulses → IsFrameOf within.us e rules claim end pulses → now ≤ end + 100000
-    → IsTrueNear t edges (0 + end_off_us within.us d) (0 + end_off_us within.us d) end claim
-true_by_any within rules t d e edges now end pulses claim steady is frame soon =
-    let near = frame_by_any within rules t d edges steady e now end pulses claim is frame soon in
+-- the same, as far off as frames of its quality may be
+pub true_by_any : (c : ClockRules) (rules : Rules) (t : TimelineValue) (d : ℕ) (edges : ℕ → ℕ) (half now end : ℕ) (pulses : List Pulse) (claim : Claim) → IsQuartz d edges → IsTrueLately c.within.us rules t edges now pulses → IsFrameOf c rules claim half end pulses → now ≤ end + 100000
+    → IsTrueNear t edges (0 + (half + element_drift d)) (0 + (half + element_drift d)) end claim
+true_by_any c rules t d edges half now end pulses claim steady is frame soon =
+    let near = frame_is_true c.within rules t d edges steady c half now end pulses claim is frame soon in
+    let least = half_least c half _ frame.says in
     record {
       second = near.second;
-      near = record { least = omega (arith, near.near.least); most = omega (arith, near.near.most) };
+      near = record { least = omega (arith, near.near.least, least); most = omega (arith, near.near.most, least) };
       truth = near.truth;
     }
 
-pub true_lately : (within : Within) (rules : Rules) (t : TimelineValue) (d : ℕ) (edges : ℕ → ℕ) (now end : ℕ) (pulses : List Pulse) (claim : Claim) → IsQuartz d edges → IsTrueLately within.us rules t edges now pulses → IsFrameOf within.us d rules claim end pulses → now ≤ end + 100000
-    → IsTrueNear t edges (0 + end_off_us within.us d) (0 + end_off_us within.us d) end claim
-true_lately within rules t d edges now end pulses claim steady is frame soon = true_by_any within rules t d d edges now end pulses claim steady is frame soon
+-- ---- the quality of what is told
+
+-- of what claims no second it does not matter
+pub told_quality : (told : Told) (q p : ℕ) → ((x : Claim) → told ≡ tells.Claim x → q ≡ p) → quality_told told q ≡ quality_told told p
+told_quality (tells.Claim x) q p is = is x refl
+told_quality tells.Silence q p is = refl
+told_quality (tells.Fault f) q p is = refl
+told_quality (tells.Poor n) q p is = refl
+
+-- what claims a second is read
+pub claim_carries : (limits : Option Limits) (rules : Rules) (s : List Symbol) (x : Claim) → told_within limits rules s ≡ tells.Claim x → Carries rules s x
+claim_carries limits rules s x e = (carries_is_told rules s x).0 ((claim_within limits rules s x).0 e).0
 
 -- ---- a pulse more
 
-one_late : (EndsSo Ends : ℕ → Type 0) → ((end : ℕ) → EndsSo end → Ends end) → (within d : ℕ) (rules : Rules) (kept : Option KeptClaim) (p : Pulse) (pulses : List Pulse) → IfKept EndsSo within d rules kept pulses → IfKept Ends within d rules kept (p ∷ pulses)
-one_late EndsSo Ends more within d rules None p pulses before = tt
-one_late EndsSo Ends more within d rules (Some kept) p pulses before =
+one_late : (EndsSo Ends : ℕ → Type 0) → ((end : ℕ) → EndsSo end → Ends end) → (c : ClockRules) (rules : Rules) (kept : Option KeptClaim) (p : Pulse) (pulses : List Pulse) → IfKept EndsSo c rules kept pulses → IfKept Ends c rules kept (p ∷ pulses)
+one_late EndsSo Ends more c rules None p pulses before = tt
+one_late EndsSo Ends more c rules (Some kept) p pulses before =
     let frame = before.2 in
-    (before.0, before.1, record { late = suc frame.late; on_time = frame.on_time; carries = frame.carries; last = frame.last; even = frame.even }, more before.0 before.3)
+    (before.0, before.1, record { late = suc frame.late; on_time = frame.on_time; carries = frame.carries; last = frame.last; even = frame.even; says = frame.says; votes = frame.votes }, more before.0 before.3)
 
 -- a frame's last pulse: what the port then tells
-told_here : (Ends : ℕ → Type 0) (within d : ℕ) (limits : Option Limits) (rules : Rules) (told : Told) (heard : List Symbol) (place time width : ℕ) (pulses : List Pulse) → told_within limits rules heard ≡ told → 1 ≤ place → IsRun heard place (pulse_at time width ∷ pulses) → AreEven within d (pulse_at time width ∷ pulses) → Ends (time + 10000)
-    → IfKept Ends within d rules (claim_told told ((time % 2 ^ 32 + 10000) % 2 ^ 32) (half_us within)) (pulse_at time width ∷ pulses)
-told_here Ends within d limits rules tells.Silence heard place time width pulses e some run even ends = tt
-told_here Ends within d limits rules (tells.Fault f) heard place time width pulses e some run even ends = tt
-told_here Ends within d limits rules (tells.Poor q) heard place time width pulses e some run even ends = tt
-told_here Ends within d limits rules (tells.Claim c) heard place time width pulses e some run even ends = elim run.step [
+told_here : (Ends : ℕ → Type 0) (c : ClockRules) (rules : Rules) (told : Told) (heard : List Symbol) (place time width : ℕ) (pulses : List Pulse) → told_within (Some c.limits.limits) rules heard ≡ told → 1 ≤ place → IsRun heard place (pulse_at time width ∷ pulses) → AreEven c.within.us c.drift_us (pulse_at time width ∷ pulses) → Ends (time + 10000)
+    → IfKept Ends c rules (claim_told told ((time % 2 ^ 32 + 10000) % 2 ^ 32) (half_us c (quality_told told (quality_in heard)))) (pulse_at time width ∷ pulses)
+told_here Ends c rules tells.Silence heard place time width pulses e some run even ends = tt
+told_here Ends c rules (tells.Fault f) heard place time width pulses e some run even ends = tt
+told_here Ends c rules (tells.Poor q) heard place time width pulses e some run even ends = tt
+told_here Ends c rules (tells.Claim x) heard place time width pulses e some run even ends = elim run.step [
   | inl out ↦ absurd (omega (arith, out, some))
   | inr inside ↦
       let all : List Pulse = pulse_at time width ∷ pulses in
       let none : drop run.late all ≡ all = ap (λ (n : ℕ). drop n all) inside.0 in
-      let carries = (carries_is_told rules heard c).0 ((claim_within limits rules heard c).0 e).0 in
+      let within = (claim_within (Some c.limits.limits) rules heard x).0 e in
+      let carries = (carries_is_told rules heard x).0 within.0 in
       let whole : run.count ≡ 100 = sym run.all ∙ carries.reads.len in
       let symbols : heard ≡ symbols_of_last 100 all = run.symbols ∙ ap (symbols_of_last run.count) none ∙ ap (λ (n : ℕ). symbols_of_last n all) whole in (
         time + 10000,
@@ -257,22 +281,24 @@ told_here Ends within d limits rules (tells.Claim c) heard place time width puls
         record {
           late = 0;
           on_time = subst (λ (n : ℕ). AreOnTime n all) whole (subst (AreOnTime run.count) none run.on_time);
-          carries = subst (λ (s : List Symbol). Carries rules s c) symbols carries;
+          carries = subst (λ (s : List Symbol). Carries rules s x) symbols carries;
           last = refl;
           even = even;
+          says = ap (λ (s : List Symbol). half_us c (quality_in s)) symbols;
+          votes = subst (λ (s : List Symbol). quality_in s ≤ worst_of c) symbols (omega (arith, within.1.0));
         },
         ends,
       )
 ]
 
-pub kept_more : (EndsSo Ends : ℕ → Type 0) → (c : ClockRules) (begin place : ℕ) → (¬ (place ≡ 100) → (end : ℕ) → EndsSo end → Ends end) → (limits : Option Limits) (rules : Rules) (frame : Option KeptFrame) (heard : List Symbol) (time width : ℕ) (pulses : List Pulse) → IsRun heard place (pulse_at time width ∷ pulses) → IfKept EndsSo c.within.us c.drift_us rules (claim_kept c.within.us frame) pulses → (place ≡ 100 → is_even c begin (time % 2 ^ 32) ≡ true → AreEven c.within.us c.drift_us (pulse_at time width ∷ pulses)) → (place ≡ 100 → Ends (time + 10000))
-    → IfKept Ends c.within.us c.drift_us rules (claim_kept c.within.us (frame_behind c place begin (time % 2 ^ 32) (told_within limits rules heard) frame)) (pulse_at time width ∷ pulses)
-kept_more EndsSo Ends c begin place more limits rules frame heard time width pulses run before evens ends = elim (cases_Bool (place == 100)) [
+pub kept_more : (EndsSo Ends : ℕ → Type 0) → (c : ClockRules) (begin place : ℕ) → (¬ (place ≡ 100) → (end : ℕ) → EndsSo end → Ends end) → (rules : Rules) (frame : Option KeptFrame) (heard : List Symbol) (time width : ℕ) (pulses : List Pulse) → IsRun heard place (pulse_at time width ∷ pulses) → IfKept EndsSo c rules (claim_kept c frame) pulses → (place ≡ 100 → is_even c begin (time % 2 ^ 32) ≡ true → AreEven c.within.us c.drift_us (pulse_at time width ∷ pulses)) → (place ≡ 100 → Ends (time + 10000))
+    → IfKept Ends c rules (claim_kept c (frame_behind c place begin (time % 2 ^ 32) (told_within (Some c.limits.limits) rules heard) (quality_in heard) frame)) (pulse_at time width ∷ pulses)
+kept_more EndsSo Ends c begin place more rules frame heard time width pulses run before evens ends = elim (cases_Bool (place == 100)) [
   | inl whole ↦
       let at : place ≡ 100 = eqb-true place 100 whole in
       rw whole (elim (cases_Bool (is_even c begin (time % 2 ^ 32))) [
-        | inl even ↦ rw even (told_here Ends c.within.us c.drift_us limits rules (told_within limits rules heard) heard place time width pulses refl (omega (arith, at)) run (evens at even) (ends at))
+        | inl even ↦ rw even (told_here Ends c rules (told_within (Some c.limits.limits) rules heard) heard place time width pulses refl (omega (arith, at)) run (evens at even) (ends at))
         | inr odd ↦ rw odd tt
       ])
-  | inr inside ↦ rw inside (one_late EndsSo Ends (more (eqb-false place 100 inside)) c.within.us c.drift_us rules (claim_kept c.within.us frame) (pulse_at time width) pulses before)
+  | inr inside ↦ rw inside (one_late EndsSo Ends (more (eqb-false place 100 inside)) c rules (claim_kept c frame) (pulse_at time width) pulses before)
 ]

@@ -8,7 +8,7 @@ use Rattle.irig_lines.proofs.CountingLaws.{rises}
 
 -- an edge stands at x that was told at A: lines have set it right since, if at all
 abbrev pub StoodBy : (ℕ → Type 0) → ℕ → ℕ → Type 0
-StoodBy Put A x = (x ≡ A) ⊎ ((A ≤ x + 100000) × (x < A + 500000) × Put x)
+StoodBy Put A x = (x ≡ A) ⊎ ((A ≤ x + 103000) × (x < A + 500000) × Put x)
 
 -- then one is told at B, behind so many that were missed: by the own counter, or by a vote
 abbrev pub ComesBy : (ℕ → Type 0) → (missed x B : ℕ) → Type 0
@@ -56,7 +56,7 @@ module _ (d : ℕ) (edges : ℕ → ℕ) (quartz : IsQuartz d edges) where
     -- if it lies less than a second and a half behind, no second lies between
     pub reach : (missed x B : ℕ) → StoodBy (IsPut edges early late) A x → ComesBy (IsPut edges early late) missed x B → B < A + 1500000 → B ≤ A + 1000000 + bound + most_vote_us + most_drift_us + early + late
     reach missed x B stood (inl own) close =
-        let back : A ≤ x + 100000 = elim stood [ inl same ↦ omega (arith, same) | inr set ↦ set.0 ] in
+        let back : A ≤ x + 103000 = elim stood [ inl same ↦ omega (arith, same) | inr set ↦ set.0 ] in
         omega (arith, own, stands x stood, back, close)
     reach missed x B stood (inr voted) close =
         let put = voted.1 in

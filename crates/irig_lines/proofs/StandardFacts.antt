@@ -1,5 +1,5 @@
 -- The definitions at known values.
-use Rattle.std.proofs.Common.{◌≡◌, ℕ, true, false, List, [], ◌∷◌, Option, Some, None, refl}
+use Rattle.std.proofs.Common.{◌≡◌, ℕ, ◌-◌, ◌*◌, true, false, List, [], ◌∷◌, Option, Some, None, refl}
 use Rattle.irig_time.specs.declared.mark.Mark.TheVariants.{Unspoken}
 use Rattle.irig_time.specs.declared.claim.Claim.{Claim}
 use Rattle.irig_reader.specs.declared.rules.ReaderRules.{ReaderRules}
@@ -10,23 +10,25 @@ use Rattle.irig_lines.specs.declared.rate.Anchor.{Anchor}
 use Rattle.irig_lines.specs.declared.rate.Rate.{Rate}
 use Rattle.irig_lines.specs.Rates.{mean_since}
 use Rattle.irig_lines.specs.Intervals.{by_vote, carried, cut, contradicts}
-use Rattle.irig_lines.specs.Exactness.{half_us, window_us}
+use Rattle.irig_lines.specs.Exactness.{most_vote_us}
+use Rattle.irig_lines.specs.Widths.{quality_us}
 use Rattle.irig_lines.specs.Counting.{edges_to, edges_to_vote, edges_own, edge_behind, is_late, has_come}
 use Rattle.irig_lines.specs.Refusals.{clock_fault}
 use Rattle.irig_lines.specs.declared.setup.ClockFault.TheVariants.{Drift, Holdover}
 use Rattle.irig_lines.specs.Steps.{first_candidate, vote_with, until, wait_by}
 
--- by the own counter a second is counted 5 ms after it should have come, over the wrap too; an edge
+-- by the own counter a second is counted 6 ms after it should have come, over the wrap too; an edge
 -- that lies ahead is none
-pub known_own : (edges_own (Some 4294000000) 37703 ≡ 0) × (edges_own (Some 4294000000) 37704 ≡ 1) × (edges_own (Some 5) 4 ≡ 0) × (edges_own None 37704 ≡ 0) × (edge_behind 4294000000 1 ≡ 32704)
+pub known_own : (edges_own (Some 4294000000) 38703 ≡ 0) × (edges_own (Some 4294000000) 38704 ≡ 1) × (edges_own (Some 5) 4 ≡ 0) × (edges_own None 38704 ≡ 0) × (edge_behind 4294000000 1 ≡ 32704)
 known_own = (refl, refl, refl, refl, refl)
 
 -- to an edge that lines agree on they are counted to the nearest
 pub known_to : (edges_to 4294000000 4294499999 ≡ 0) × (edges_to 4294000000 4294500000 ≡ 1) × (edges_to 4294000000 532703 ≡ 1) × (edges_to 4294000000 532704 ≡ 2) × (edges_to_vote None 7 ≡ 1)
 known_to = (refl, refl, refl, refl, refl)
 
--- a frame may be taken from its end on, for 100 ms; it is kept from 14 ms before
-pub known_come : (has_come 4294967000 99704 ≡ true) × (has_come 4294967000 99705 ≡ false) × (has_come 10 9 ≡ false) × (has_come 10 10 ≡ true)
+-- an edge that lines agree on has come for 103 ms; a frame is kept from 14 ms before its end on, until
+-- 100 ms behind it
+pub known_come : (has_come 4294967000 102704 ≡ true) × (has_come 4294967000 102705 ≡ false) × (has_come 10 9 ≡ false) × (has_come 10 10 ≡ true)
 known_come = (refl, refl, refl, refl)
 
 pub known_late : (is_late 4294967000 99704 ≡ false) × (is_late 4294967000 99705 ≡ true) × (is_late 24000 10000 ≡ false) × (is_late 24001 10000 ≡ true)
@@ -48,14 +50,14 @@ frame_of sod half end = Some (record { claim = claim_of sod; end_us = end; half_
 
 abbrev three : (within a b c : ℕ) → List (Option KeptClaim)
 three within a b c =
-    frame_of 7 (half_us within) a ∷ frame_of 7 (half_us within) b ∷ frame_of 7 (half_us within) c ∷ None ∷ None ∷ []
+    frame_of 7 (within - 1) a ∷ frame_of 7 (within - 1) b ∷ frame_of 7 (within - 1) c ∷ None ∷ None ∷ []
 
 abbrev two : (within a b : ℕ) → List (Option KeptClaim)
 two within a b =
-    frame_of 7 (half_us within) a ∷ frame_of 7 (half_us within) b ∷ frame_of 8 (half_us within) b ∷ None ∷ None ∷ []
+    frame_of 7 (within - 1) a ∷ frame_of 7 (within - 1) b ∷ frame_of 8 (within - 1) b ∷ None ∷ None ∷ []
 
 abbrev vote_in : (within d f : ℕ) → List (Option KeptClaim) → Option Vote
-vote_in within d f all = vote_with within d f all (first_candidate (window_us within) f all all None)
+vote_in within d f all = vote_with (2 * (within - 1)) d f all (first_candidate (2 * (within - 1)) f all all None)
 
 abbrev edge_of : (edge bound : ℕ) → Option Vote
 edge_of edge bound = Some (record { claim = claim_of 7; edge_us = edge; bound_us = bound })
@@ -104,6 +106,10 @@ measured seconds least most = record { seconds = seconds; least_ns = least; most
 pub known_rate : (mean_since (anchor_of 4294966396 898 1000) (interval_of 1000036100 898) ≡ measured 1000 1000036102 1000037898) × (mean_since (anchor_of 0 0 3) (interval_of 3000001 0) ≡ measured 3 1000000333 1000000334)
 known_rate = (refl, refl)
 
+-- how far off clocks say that they may be
+pub known_qualities : (quality_us 0 ≡ 0) × (quality_us 1 ≡ 1) × (quality_us 4 ≡ 1) × (quality_us 5 ≡ 10) × (quality_us 6 ≡ 100) × (quality_us 7 ≡ 1000) × (most_vote_us ≡ 2899)
+known_qualities = (refl, refl, refl, refl, refl, refl, refl)
+
 -- to wait
-pub known_wait : (until 4294967000 704 ≡ 1000) × (until 704 4294967000 ≡ 0) × (wait_by 4294000000 (Some 4294000000) None ≡ 1005000) × (wait_by 37704 (Some 4294000000) None ≡ 0) × (wait_by 5 None None ≡ 1000000)
+pub known_wait : (until 4294967000 704 ≡ 1000) × (until 704 4294967000 ≡ 0) × (wait_by 4294000000 (Some 4294000000) None ≡ 1006000) × (wait_by 38704 (Some 4294000000) None ≡ 0) × (wait_by 5 None None ≡ 1000000)
 known_wait = (refl, refl, refl, refl, refl)

@@ -15,7 +15,7 @@ use Rattle.irig_lines.specs.declared.lines.Line.{Line}
 use Rattle.irig_lines.specs.declared.lines.Lines.{Lines}
 use Rattle.irig_lines.specs.declared.lines.Vote.{Vote}
 use Rattle.irig_lines.specs.declared.setup.ClockRules.{ClockRules}
-use Rattle.irig_lines.specs.Exactness.{half_us, window_us}
+use Rattle.irig_lines.specs.Widths.{half_us, reach_us}
 use Rattle.irig_vote.specs.Vote.{f_of}
 use Rattle.irig_lines.specs.Counting.{is_late, has_come}
 use Rattle.irig_lines.specs.Steps.{IsKeptOfUtc, AreKeptOfUtc, line_at, with_line, still_kept, settled, taken, claim_told, claim_kept, all_kept, last_us, is_candidate, earlier, first_candidate, vote_with, agreed, if_come}
@@ -80,12 +80,12 @@ taken_valid lines = record { a = tt; b = tt; c = tt; d = tt; e = tt }
 IsClaimOfUtc : Option KeptClaim → Type 0
 IsClaimOfUtc kept = IfSome kept (λ k. IsValid k.claim.at)
 
-claim_valid : (within : ℕ) (frame : Option KeptFrame) → IsKeptOfUtc frame → IsClaimOfUtc (claim_kept within frame)
+claim_valid : (c : ClockRules) (frame : Option KeptFrame) → IsKeptOfUtc frame → IsClaimOfUtc (claim_kept c frame)
 unfolding IsClaimOfUtc
-claim_valid within None v = tt
-claim_valid within (Some x) v = either IsClaimOfUtc x.is_even (claim_told x.told x.end_us (half_us within)) None (of x.told v) tt
+claim_valid c None v = tt
+claim_valid c (Some x) v = either IsClaimOfUtc x.is_even (claim_told x.told x.end_us (half_us c x.quality)) None (of x.told v) tt
   where
-    of : (told : Told) → IfClaim told (λ c. IsValid c.at) → IsClaimOfUtc (claim_told told x.end_us (half_us within))
+    of : (told : Told) → IfClaim told (λ c. IsValid c.at) → IsClaimOfUtc (claim_told told x.end_us (half_us c x.quality))
     of (tells.Claim c) v = v
     of tells.Silence v = tt
     of (tells.Fault f) v = tt
@@ -95,16 +95,16 @@ AllKept : List (Option KeptClaim) → Type 0
 AllKept [] = Unit {0}
 AllKept (x ∷ xs) = IsClaimOfUtc x × AllKept xs
 
-earlier_valid : (window : ℕ) (so_far : Option KeptClaim) (x : KeptClaim) → IsClaimOfUtc so_far → IsClaimOfUtc (Some x) → IsClaimOfUtc (earlier window so_far x)
-earlier_valid window None x v w = w
-earlier_valid window (Some y) x v w = either IsClaimOfUtc (nat_le (clock_gap (last_us y) (last_us x)) window) (Some y) (Some x) v w
+earlier_valid : (reach : ℕ) (so_far : Option KeptClaim) (x : KeptClaim) → IsClaimOfUtc so_far → IsClaimOfUtc (Some x) → IsClaimOfUtc (earlier reach so_far x)
+earlier_valid reach None x v w = w
+earlier_valid reach (Some y) x v w = either IsClaimOfUtc (nat_le (clock_gap (last_us y) (last_us x)) reach) (Some y) (Some x) v w
 
-first_valid : (window f : ℕ) (all xs : List (Option KeptClaim)) (so_far : Option KeptClaim) → AllKept xs → IsClaimOfUtc so_far → IsClaimOfUtc (first_candidate window f all xs so_far)
+first_valid : (reach f : ℕ) (all xs : List (Option KeptClaim)) (so_far : Option KeptClaim) → AllKept xs → IsClaimOfUtc so_far → IsClaimOfUtc (first_candidate reach f all xs so_far)
 unfolding AllKept
-first_valid window f all [] so_far v w = w
-first_valid window f all (None ∷ xs) so_far v w = first_valid window f all xs so_far v.1 w
-first_valid window f all (Some x ∷ xs) so_far v w =
-    first_valid window f all xs _ v.1 (either IsClaimOfUtc (is_candidate f x all) (earlier window so_far x) so_far (earlier_valid window so_far x w v.0) w)
+first_valid reach f all [] so_far v w = w
+first_valid reach f all (None ∷ xs) so_far v w = first_valid reach f all xs so_far v.1 w
+first_valid reach f all (Some x ∷ xs) so_far v w =
+    first_valid reach f all xs _ v.1 (either IsClaimOfUtc (is_candidate f x all) (earlier reach so_far x) so_far (earlier_valid reach so_far x w v.0) w)
 
 IsVoteOfUtc : Option Vote → Type 0
 IsVoteOfUtc vote = IfSome vote (λ v. IsValid v.claim.at)
@@ -113,10 +113,10 @@ no_vote : IsVoteOfUtc None
 unfolding IsVoteOfUtc
 no_vote = tt
 
-vote_valid : (within d f : ℕ) (all : List (Option KeptClaim)) (first : Option KeptClaim) → IsClaimOfUtc first → IsVoteOfUtc (vote_with within d f all first)
+vote_valid : (reach d f : ℕ) (all : List (Option KeptClaim)) (first : Option KeptClaim) → IsClaimOfUtc first → IsVoteOfUtc (vote_with reach d f all first)
 unfolding IsClaimOfUtc IsVoteOfUtc
-vote_valid within d f all None w = tt
-vote_valid within d f all (Some x) w = w
+vote_valid reach d f all None w = tt
+vote_valid reach d f all (Some x) w = w
 
 come_valid : (now : ℕ) (vote : Option Vote) → IsVoteOfUtc vote → IsVoteOfUtc (if_come now vote)
 come_valid now None w = w
@@ -129,6 +129,6 @@ nothing_valid = tt
 pub agreed_valid : (c : ClockRules) (now : ℕ) (lines : Lines) → AreKeptOfUtc lines → IfSome (if_come now (agreed c lines)) (λ v. IsValid v.claim.at)
 unfolding AllKept IsVoteOfUtc
 agreed_valid c now lines v =
-    come_valid now (agreed c lines) (vote_valid c.within.us c.drift_us (f_of c.redundancy) (all_kept c.within.us lines) (first_candidate (window_us c.within.us) (f_of c.redundancy) (all_kept c.within.us lines) (all_kept c.within.us lines) None)
-    (first_valid (window_us c.within.us) (f_of c.redundancy) (all_kept c.within.us lines) (all_kept c.within.us lines) None
-    (claim_valid c.within.us lines.a.frame v.a, (claim_valid c.within.us lines.b.frame v.b, (claim_valid c.within.us lines.c.frame v.c, (claim_valid c.within.us lines.d.frame v.d, (claim_valid c.within.us lines.e.frame v.e, tt))))) nothing_valid))
+    come_valid now (agreed c lines) (vote_valid (reach_us c) c.drift_us (f_of c.redundancy) (all_kept c lines) (first_candidate (reach_us c) (f_of c.redundancy) (all_kept c lines) (all_kept c lines) None)
+    (first_valid (reach_us c) (f_of c.redundancy) (all_kept c lines) (all_kept c lines) None
+    (claim_valid c lines.a.frame v.a, (claim_valid c lines.b.frame v.b, (claim_valid c lines.c.frame v.c, (claim_valid c lines.d.frame v.d, (claim_valid c lines.e.frame v.e, tt))))) nothing_valid))

@@ -12,12 +12,12 @@ most_within_us = 450
 abbrev pub most_drift_us : ℕ
 most_drift_us = 100
 
--- the edge of a true line lies at most this far from where its frame ends, but for the drift of an
--- element, by lines that are so exact: less than `within` us
-abbrev pub half_us : ℕ → ℕ
-half_us within = within - 1
+-- a frame votes only if its clock says of itself that it is no further off than this
+abbrev pub most_quality_us : ℕ
+most_quality_us = 1000
 
--- the frames of two true lines end no further apart than this, by lines that are so exact
+-- the frames of two lines whose clocks are right end no further apart than this, by lines that are so
+-- exact
 abbrev pub window_us : ℕ → ℕ
 window_us within = 2 * (within - 1)
 
@@ -42,14 +42,9 @@ abbrev pub fault_late_us : ℕ → ℕ → ℕ
 fault_late_us within d =
     min (fault_early_us within d) (999 + element_drift (2 * d) - element_drift d)
 
--- the edge on which lines agree lies at most this far from the true one: lines that agree leave
--- an interval twice as long as a true line's, of which it is the middle
-abbrev pub vote_us : ℕ → ℕ → ℕ
-vote_us within d = window_us within + element_drift d
-
--- so far at most, whatever the setup
+-- the edge on which lines agree lies at most this far from the true one, whatever the setup
 abbrev pub most_vote_us : ℕ
-most_vote_us = vote_us most_within_us most_drift_us
+most_vote_us = 2 * (most_within_us - 1 + most_quality_us) + element_drift most_drift_us
 
 -- the drift of a holdover and of two seconds more comes to no more than this
 abbrev pub most_held_us : ℕ

@@ -1,4 +1,6 @@
 pub mod Exactness
+pub mod VoteLimits
+pub mod Widths
 pub mod Edges
 pub mod Lines
 pub mod Clocks

@@ -11,9 +11,12 @@ use Rattle.irig_sync.specs.Lines.{Pulse, place_after, AreOnTime, IsTrueLine, Sta
 use Rattle.irig_time.specs.declared.rules.Rules.{Rules}
 use Rattle.irig_time.specs.declared.claim.Claim.{Claim}
 use Rattle.irig_time.specs.Carries.{Carries}
+use Rattle.irig_port.specs.Limits.{quality_in}
 use Rattle.irig_time.specs.Timelines.{TimelineValue, IsTrueClaim}
 use Rattle.irig_lines.specs.declared.lines.KeptClaim.{KeptClaim}
+use Rattle.irig_lines.specs.declared.setup.ClockRules.{ClockRules}
 use Rattle.irig_lines.specs.Exactness.{uneven_us}
+use Rattle.irig_lines.specs.Widths.{worst_of, half_us, reach_us}
 
 -- of these pulses, the newest first, those that rose within 1.2 s before now, or later, are those of
 -- some elements before the k-th, each less than `within` us off, in order: any others were lost
@@ -65,22 +68,25 @@ IsLastBefore end [] = ⊥
 IsLastBefore end (p ∷ ps) = end ≡ p.rise + 10000
 
 -- a hundred pulses in a row, each but the first on time behind the one before, and so even, carry the
--- claim; the last of them rose an element before that time, and so many pulses came behind it
-pub record IsFrameOf (within d : ℕ) (rules : Rules) (claim : Claim) (end : ℕ) (pulses : List Pulse)
-    : Type 0 where
+-- claim; the last of them rose an element before that time, and so many pulses came behind it. The edge
+-- lies at most so far from there by the quality that they say, which has a vote
+pub record IsFrameOf (c : ClockRules) (rules : Rules) (claim : Claim) (half end : ℕ)
+    (pulses : List Pulse) : Type 0 where
   pub late : ℕ
   pub on_time : AreOnTime 100 (drop late pulses)
   pub carries : Carries rules (symbols_of_last 100 (drop late pulses)) claim
   pub last : IsLastBefore end (drop late pulses)
-  pub even : AreEven within d (drop late pulses)
+  pub even : AreEven c.within.us c.drift_us (drop late pulses)
+  pub says : half ≡ half_us c (quality_in (symbols_of_last 100 (drop late pulses)))
+  pub votes : quality_in (symbols_of_last 100 (drop late pulses)) ≤ worst_of c
 
 -- a line keeps a frame of these pulses, if it keeps one; it ends at such a time, which the line has
 -- by a clock of 32 bits
-abbrev pub IfKept : (ℕ → Type 0) → (within d : ℕ) → Rules → Option KeptClaim → List Pulse → Type 0
-IfKept EndsSo within d rules None pulses = ⊤
-IfKept EndsSo within d rules (Some kept) pulses =
-    (end : ℕ) × (kept.end_us ≡ end % 2 ^ 32) × IsFrameOf within d rules kept.claim end pulses
-    × EndsSo end
+abbrev pub IfKept : (ℕ → Type 0) → ClockRules → Rules → Option KeptClaim → List Pulse → Type 0
+IfKept EndsSo c rules None pulses = ⊤
+IfKept EndsSo c rules (Some kept) pulses =
+    (end : ℕ) × (kept.end_us ≡ end % 2 ^ 32)
+    × IsFrameOf c rules kept.claim kept.half_us end pulses × EndsSo end
 
 -- the end lies less than a turn of that clock back, and at most 14 ms ahead
 abbrev pub IsInTurnOf : ℕ → ℕ → Type 0
@@ -90,10 +96,10 @@ IsInTurnOf now end = (end ≤ now + 14000) × (now + 14000 < end + 2 ^ 32)
 abbrev pub IsAnyEnd : ℕ → Type 0
 IsAnyEnd end = ⊤
 
--- the end has come, so long ago that an edge has too that lies between it and the end of another line
--- of so exact ones, and at most 99 ms ago
-abbrev pub HasJustCome : (within now end : ℕ) → Type 0
-HasJustCome within now end = (end + (within - 1) ≤ now) × (now ≤ end + 99000)
+-- the end has come, so long ago that an edge has too on which lines agree by this frame, and at most
+-- 100 ms ago
+abbrev pub HasJustCome : ClockRules → (now end : ℕ) → Type 0
+HasJustCome c now end = (end + reach_us c ≤ now + (c.within.us - 1)) × (now ≤ end + 100000)
 
 -- ---- a line with faults
 

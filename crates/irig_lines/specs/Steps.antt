@@ -18,7 +18,8 @@ use Rattle.irig_lines.specs.declared.lines.Vote.{Vote}
 use Rattle.irig_lines.specs.declared.setup.ClockRules.{ClockRules}
 use Rattle.irig_vote.specs.Vote.{f_of}
 use Rattle.irig_lines.specs.Counting.{is_late, is_gone, has_come}
-use Rattle.irig_lines.specs.Exactness.{half_us, window_us, uneven_us}
+use Rattle.irig_lines.specs.Exactness.{uneven_us}
+use Rattle.irig_lines.specs.Widths.{half_us, reach_us}
 
 -- ---- a pulse
 
@@ -37,20 +38,28 @@ is_even c begin rise =
 abbrev pub begin_behind : (place rise begin : ℕ) → ℕ
 begin_behind place rise begin = if place == 1 then rise else begin
 
--- a frame whose first and last pulses rose then: what its port tells, where it ends, and whether it is
--- even
-abbrev pub whole_frame : ClockRules → (begin rise : ℕ) → Told → KeptFrame
-whole_frame c begin rise told = record {
+-- the time quality of a frame that claims a second; of another one 0
+abbrev pub quality_told : Told → ℕ → ℕ
+quality_told (tells.Claim c) quality = quality
+quality_told tells.Silence quality = 0
+quality_told (tells.Fault f) quality = 0
+quality_told (tells.Poor q) quality = 0
+
+-- a frame whose first and last pulses rose then: what its port tells, by what quality, where it ends,
+-- and whether it is even
+abbrev pub whole_frame : ClockRules → (begin rise : ℕ) → Told → (quality : ℕ) → KeptFrame
+whole_frame c begin rise told quality = record {
   told = told;
+  quality = quality_told told quality;
   end_us = (rise + 10000) % 2 ^ 32;
   is_even = is_even c begin rise;
 }
 
 -- what a line keeps behind a pulse with this place: at a frame's last one that frame
-abbrev pub frame_behind : ClockRules → (place begin rise : ℕ) → Told → Option KeptFrame
+abbrev pub frame_behind : ClockRules → (place begin rise : ℕ) → Told → (quality : ℕ) → Option KeptFrame
     → Option KeptFrame
-frame_behind c place begin rise told frame =
-    if place == 100 then Some (whole_frame c begin rise told) else frame
+frame_behind c place begin rise told quality frame =
+    if place == 100 then Some (whole_frame c begin rise told quality) else frame
 
 -- the line of a port
 abbrev pub line_at : Lines → ℕ → Line
@@ -70,13 +79,14 @@ with_line lines port line =
     else (if port == 3 then record lines { d = line }
     else record lines { e = line })))
 
--- a line behind a pulse; `told` is what its port then tells
-abbrev pub line_heard : ClockRules → Line → ℕ → ℕ → Told → Line
-line_heard c line rise width told = record {
+-- a line behind a pulse; `told` is what its port then tells, and `quality` the time quality that a
+-- frame then says
+abbrev pub line_heard : ClockRules → Line → ℕ → ℕ → Told → (quality : ℕ) → Line
+line_heard c line rise width told quality = record {
   sync = pulse_of line.sync rise width;
   begin_us = begin_behind (place_of line.sync rise width) rise line.begin_us;
-  frame = frame_behind c (place_of line.sync rise width) line.begin_us rise told line.frame;
-  seen = frame_behind c (place_of line.sync rise width) line.begin_us rise told line.seen;
+  frame = frame_behind c (place_of line.sync rise width) line.begin_us rise told quality line.frame;
+  seen = frame_behind c (place_of line.sync rise width) line.begin_us rise told quality line.seen;
   is_heard = true;
 }
 
@@ -169,19 +179,19 @@ claim_told (tells.Fault f) end half = None
 claim_told (tells.Poor q) end half = None
 
 -- the claim of a kept frame that is even, where it ends, and how far from there its edge may lie
-abbrev pub claim_kept : (within : ℕ) → Option KeptFrame → Option KeptClaim
-claim_kept within None = None
-claim_kept within (Some frame) =
-    if frame.is_even then claim_told frame.told frame.end_us (half_us within) else None
+abbrev pub claim_kept : ClockRules → Option KeptFrame → Option KeptClaim
+claim_kept c None = None
+claim_kept c (Some frame) =
+    if frame.is_even then claim_told frame.told frame.end_us (half_us c frame.quality) else None
 
 -- those of the five lines
-abbrev pub all_kept : (within : ℕ) → Lines → List (Option KeptClaim)
-all_kept within lines =
-    claim_kept within lines.a.frame
-    ∷ claim_kept within lines.b.frame
-    ∷ claim_kept within lines.c.frame
-    ∷ claim_kept within lines.d.frame
-    ∷ claim_kept within lines.e.frame
+abbrev pub all_kept : ClockRules → Lines → List (Option KeptClaim)
+all_kept c lines =
+    claim_kept c lines.a.frame
+    ∷ claim_kept c lines.b.frame
+    ∷ claim_kept c lines.c.frame
+    ∷ claim_kept c lines.d.frame
+    ∷ claim_kept c lines.e.frame
     ∷ []
 
 -- the first time at which the edge of a frame may lie, if its line is true
@@ -202,40 +212,41 @@ agrees x (Some y) =
 abbrev pub is_candidate : ℕ → KeptClaim → List (Option KeptClaim) → Bool
 is_candidate f x all = nat_lt f (count_by (agrees x) all)
 
--- of two candidates the one whose last time comes first
+-- of two candidates the one whose last time comes first: that of the other one comes behind it by no
+-- more than such a reach
 abbrev pub earlier : ℕ → Option KeptClaim → KeptClaim → Option KeptClaim
-earlier window None x = Some x
-earlier window (Some y) x =
-    if nat_le (clock_gap (last_us y) (last_us x)) window then Some y else Some x
+earlier reach None x = Some x
+earlier reach (Some y) x =
+    if nat_le (clock_gap (last_us y) (last_us x)) reach then Some y else Some x
 
 -- of these frames the candidate whose last time comes first, or the one so far
 abbrev pub first_candidate : ℕ → ℕ → List (Option KeptClaim) → List (Option KeptClaim)
     → Option KeptClaim → Option KeptClaim
-first_candidate window f all [] so_far = so_far
-first_candidate window f all (None ∷ xs) so_far = first_candidate window f all xs so_far
-first_candidate window f all (Some x ∷ xs) so_far =
-    first_candidate window f all xs
-    (if is_candidate f x all then earlier window so_far x else so_far)
+first_candidate reach f all [] so_far = so_far
+first_candidate reach f all (None ∷ xs) so_far = first_candidate reach f all xs so_far
+first_candidate reach f all (Some x ∷ xs) so_far =
+    first_candidate reach f all xs
+    (if is_candidate f x all then earlier reach so_far x else so_far)
 
--- ---- where that edge lies, of the frames of a claim whose last time comes at most 1 ms before that of
+-- ---- where that edge lies, of the frames of a claim whose last time comes at most 3 ms before that of
 -- this one, or later
 
--- how far behind 1 ms before the last time of this one a time lies
+-- how far behind 3 ms before the last time of this one a time lies
 abbrev pub place_behind : KeptClaim → ℕ → ℕ
-place_behind x time = (clock_gap (last_us x) time + 1000) % 2 ^ 32
+place_behind x time = (clock_gap (last_us x) time + 3000) % 2 ^ 32
 
 -- the edge of such a frame lies at most so far behind the last time of this one
 abbrev pub ends_by : KeptClaim → ℕ → Option KeptClaim → Bool
 ends_by x behind None = false
 ends_by x behind (Some y) =
-    same_claim x.claim y.claim && nat_le (place_behind x (last_us y)) (behind + 1000)
+    same_claim x.claim y.claim && nat_le (place_behind x (last_us y)) (behind + 3000)
 
 -- the edge of such a frame lies at most so far before the last time of this one
 abbrev pub ends_from : KeptClaim → ℕ → Option KeptClaim → Bool
 ends_from x before None = false
 ends_from x before (Some y) =
     same_claim x.claim y.claim
-    && (nat_le 1000 (place_behind x (first_us y) + before)
+    && (nat_le 3000 (place_behind x (first_us y) + before)
     && nat_lt (place_behind x (first_us y)) (2 ^ 31))
 
 -- how far behind the last time of this frame that of another one comes
@@ -248,49 +259,49 @@ abbrev pub first_before : KeptClaim → Option KeptClaim → ℕ
 first_before x None = 0
 first_before x (Some y) = clock_gap (first_us y) (last_us x)
 
--- the last time of such a frame comes with that of this one, or at most a window behind
-abbrev pub ends_near : (window : ℕ) → KeptClaim → Option KeptClaim → Bool
-ends_near window x None = false
-ends_near window x (Some y) =
-    same_claim x.claim y.claim && nat_le (clock_gap (last_us x) (last_us y)) window
+-- the last time of such a frame comes with that of this one, or at most a reach behind
+abbrev pub ends_near : (reach : ℕ) → KeptClaim → Option KeptClaim → Bool
+ends_near reach x None = false
+ends_near reach x (Some y) =
+    same_claim x.claim y.claim && nat_le (clock_gap (last_us x) (last_us y)) reach
 
--- the first time of such a frame comes with the last one of this one, or at most a window before
-abbrev pub begins_near : (window : ℕ) → KeptClaim → Option KeptClaim → Bool
-begins_near window x None = false
-begins_near window x (Some y) =
-    same_claim x.claim y.claim && nat_le (clock_gap (first_us y) (last_us x)) window
+-- the first time of such a frame comes with the last one of this one, or at most a reach before
+abbrev pub begins_near : (reach : ℕ) → KeptClaim → Option KeptClaim → Bool
+begins_near reach x None = false
+begins_near reach x (Some y) =
+    same_claim x.claim y.claim && nat_le (clock_gap (first_us y) (last_us x)) reach
 
 -- how far behind the last time of this frame that of another one comes, if the edges of more than f
--- frames lie no further behind; or so far as one so far, if that is less
-abbrev pub less_behind : (window f : ℕ) → KeptClaim → List (Option KeptClaim) → Option KeptClaim
+-- frames lie no further behind and that is less than the least until now; else this least
+abbrev pub less_behind : (reach f : ℕ) → KeptClaim → List (Option KeptClaim) → Option KeptClaim
     → (so_far : ℕ) → ℕ
-less_behind window f x all y so_far =
-    if ends_near window x y && nat_lt f (count_by (ends_by x (last_behind x y)) all)
+less_behind reach f x all y so_far =
+    if ends_near reach x y && nat_lt f (count_by (ends_by x (last_behind x y)) all)
     then min (last_behind x y) so_far
     else so_far
 
--- the least of these frames, or the one so far
-abbrev pub least_behind : (window f : ℕ) → KeptClaim → (all ys : List (Option KeptClaim))
+-- the least of these frames, or the one until now
+abbrev pub least_behind : (reach f : ℕ) → KeptClaim → (all ys : List (Option KeptClaim))
     → (so_far : ℕ) → ℕ
-least_behind window f x all [] so_far = so_far
-least_behind window f x all (y ∷ ys) so_far =
-    least_behind window f x all ys (less_behind window f x all y so_far)
+least_behind reach f x all [] so_far = so_far
+least_behind reach f x all (y ∷ ys) so_far =
+    least_behind reach f x all ys (less_behind reach f x all y so_far)
 
 -- how far before the last time of this frame the first one of another comes, if the edges of more than f
--- frames lie no further before; or so far as one so far, if that is less
-abbrev pub less_before : (window f : ℕ) → KeptClaim → List (Option KeptClaim) → Option KeptClaim
+-- frames lie no further before and that is less than the least until now; else this least
+abbrev pub less_before : (reach f : ℕ) → KeptClaim → List (Option KeptClaim) → Option KeptClaim
     → (so_far : ℕ) → ℕ
-less_before window f x all y so_far =
-    if begins_near window x y && nat_lt f (count_by (ends_from x (first_before x y)) all)
+less_before reach f x all y so_far =
+    if begins_near reach x y && nat_lt f (count_by (ends_from x (first_before x y)) all)
     then min (first_before x y) so_far
     else so_far
 
--- the least of these frames, or the one so far
-abbrev pub least_before : (window f : ℕ) → KeptClaim → (all ys : List (Option KeptClaim))
+-- the least of these frames, or the one until now
+abbrev pub least_before : (reach f : ℕ) → KeptClaim → (all ys : List (Option KeptClaim))
     → (so_far : ℕ) → ℕ
-least_before window f x all [] so_far = so_far
-least_before window f x all (y ∷ ys) so_far =
-    least_before window f x all ys (less_before window f x all y so_far)
+least_before reach f x all [] so_far = so_far
+least_before reach f x all (y ∷ ys) so_far =
+    least_before reach f x all ys (less_before reach f x all y so_far)
 
 -- the edge in the middle of an interval that begins so far before the last time of this frame, and
 -- ends so far behind it: it lies no further from either end, but for the drift of an element
@@ -302,18 +313,16 @@ vote_between d x before behind = record {
 }
 
 -- the edge on which more than f of these frames agree, by the first that agrees with so many
-abbrev pub vote_with : (within d f : ℕ) → List (Option KeptClaim) → Option KeptClaim → Option Vote
-vote_with within d f all None = None
-vote_with within d f all (Some x) =
-    Some (vote_between d x (least_before (window_us within) f x all all (window_us within))
-    (least_behind (window_us within) f x all all (window_us within)))
+abbrev pub vote_with : (reach d f : ℕ) → List (Option KeptClaim) → Option KeptClaim → Option Vote
+vote_with reach d f all None = None
+vote_with reach d f all (Some x) =
+    Some (vote_between d x (least_before reach f x all all reach) (least_behind reach f x all all reach))
 
 -- the edge on which the kept frames of lines agree, if they do
 abbrev pub agreed : ClockRules → Lines → Option Vote
 agreed c lines =
-    vote_with c.within.us c.drift_us (f_of c.redundancy) (all_kept c.within.us lines)
-    (first_candidate (window_us c.within.us) (f_of c.redundancy) (all_kept c.within.us lines)
-    (all_kept c.within.us lines) None)
+    vote_with (reach_us c) c.drift_us (f_of c.redundancy) (all_kept c lines)
+    (first_candidate (reach_us c) (f_of c.redundancy) (all_kept c lines) (all_kept c lines) None)
 
 -- the same, if it has come
 abbrev pub if_come : ℕ → Option Vote → Option Vote
@@ -360,5 +369,5 @@ until now time = if nat_lt (clock_gap now time) (2 ^ 31) then clock_gap now time
 -- to the edge on which lines agree; else to when the own counter counts one
 abbrev pub wait_by : ℕ → Option ℕ → Option Vote → ℕ
 wait_by now edge (Some vote) = until now vote.edge_us
-wait_by now (Some edge) None = until now ((edge + 1005000) % 2 ^ 32)
+wait_by now (Some edge) None = until now ((edge + 1006000) % 2 ^ 32)
 wait_by now None None = 1000000

@@ -6,10 +6,14 @@ ghost use Rattle.irig_lines.specs.Counting.{edges_to, edges_to_vote, edges_own, 
 const SECOND_US: u32 = 1_000_000;
 
 /// How long behind its edge a second is counted by the own counter.
-const PATIENCE_US: u32 = 5_000;
+const PATIENCE_US: u32 = 6_000;
 
-/// How long behind its edge a frame may be taken.
+/// How long behind its end a frame may be taken.
 const LATE_US: u32 = 100_000;
+
+/// How long behind an edge on which lines agree a tick may have it: it lies at most 3 ms before the end
+/// of a frame that is not late.
+const PAST_US: u32 = 103_000;
 
 /// How long behind its edge a frame still says what its line is.
 const GONE_US: u32 = 1_500_000;
@@ -78,9 +82,9 @@ pub fn is_gone(end_us: u32, now_us: u32) -> bool
     now_us.wrapping_sub(end_us).wrapping_add(AHEAD_US) > GONE_US + AHEAD_US
 }
 
-/// Whether an end does not lie ahead of now, nor more than 100 ms behind.
-pub fn has_come(end_us: u32, now_us: u32) -> bool
-    ensures { result ≡ has_come end_us now_us }
+/// Whether an edge does not lie ahead of now, nor more than 103 ms behind.
+pub fn has_come(edge_us: u32, now_us: u32) -> bool
+    ensures { result ≡ has_come edge_us now_us }
 {
-    now_us.wrapping_sub(end_us) <= LATE_US
+    now_us.wrapping_sub(edge_us) <= PAST_US
 }

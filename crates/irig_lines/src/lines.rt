@@ -3,8 +3,9 @@
 ghost use Rattle.std.specs.Prelude.{◌≡◌, ◌≤◌, ◌<◌, ◌-◌, None, IfSome, count_by};
 ghost use Rattle.irig_vote.specs.Vote.{f_of};
 ghost use Rattle.irig_sync.specs.Sync.{clock_gap, is_idle};
-ghost use Rattle.irig_lines.specs.Exactness.{most_drift_us, most_vote_us, window_us};
-ghost use Rattle.irig_lines.specs.Steps.{is_pulse, line_at, with_line, still_kept, line_settled, settled, taken, still_seen, is_even, is_uneven, are_uneven, whole_frame, frame_tells, tells_of, claim_kept, all_kept, agrees, is_candidate, earlier, first_candidate, place_behind, ends_by, ends_from, ends_near, begins_near, last_behind, first_before, less_behind, least_behind, less_before, least_before, vote_between, vote_with, agreed, if_come, IsNewLine, AreNewLines, until, wait_by};
+ghost use Rattle.irig_lines.specs.Exactness.{most_drift_us, most_vote_us};
+ghost use Rattle.irig_lines.specs.Widths.{reach_us};
+ghost use Rattle.irig_lines.specs.Steps.{is_pulse, line_at, with_line, still_kept, line_settled, settled, taken, still_seen, is_even, is_uneven, are_uneven, quality_told, whole_frame, frame_tells, tells_of, claim_kept, all_kept, agrees, is_candidate, earlier, first_candidate, place_behind, ends_by, ends_from, ends_near, begins_near, last_behind, first_before, less_behind, least_behind, less_before, least_before, vote_between, vote_with, agreed, if_come, IsNewLine, AreNewLines, until, wait_by};
 
 use crate::counting::{has_come, is_gone, is_late};
 use crate::setup::ClockRules;
@@ -15,7 +16,7 @@ use irig_vote::Tells;
 
 /// A frame whose last time comes longer before that of the first one that agrees with enough others
 /// has no part in a vote.
-const BEFORE_US: u32 = 1_000;
+const BEFORE_US: u32 = 3_000;
 
 /// What is as wide as this, in microseconds, is no pulse: the line is stuck.
 const STUCK_US: u32 = 500_000;
@@ -25,6 +26,8 @@ const STUCK_US: u32 = 500_000;
 pub struct KeptFrame {
     /// What it tells.
     pub told: Told,
+    /// The time quality that it says, if it claims a second; else 0.
+    pub quality: u8,
     /// The local time at which it ends.
     pub end_us: u32,
     /// Whether its last pulse rose 990 ms behind its first one, but for what lines so exact may be
@@ -69,7 +72,7 @@ pub struct Vote {
     pub claim: Claim,
     /// The local time at which it lies.
     pub edge_us: u32,
-    /// How far from the true edge that may be, in microseconds, at most 899.
+    /// How far from the true edge that may be, in microseconds, at most 2,899.
     pub bound_us: u32,
 }
 
@@ -165,20 +168,40 @@ pub fn is_even(rules: &ClockRules, begin_us: u32, rise_us: u32) -> bool
     requires { rules.now.drift_us ≤ most_drift_us }
     ensures { result ≡ is_even rules.now begin_us rise_us }
 {
-    let off_us = rules.window_us() + rules.drift_us;
+    let off_us = 2 * (rules.within.us() - 1) + rules.drift_us;
     let long_us = rise_us.wrapping_sub(begin_us);
     990_000 <= u64::from(long_us) + u64::from(off_us) && long_us <= 990_000 + off_us
 }
 
-/// The frame whose first and last pulses rose then, of which its port tells this.
-pub fn whole_frame(rules: &ClockRules, begin_us: u32, rise_us: u32, told: Told) -> KeptFrame
+/// The frame whose first and last pulses rose then, of which its port tells this. If it claims a
+/// second, this is its time quality.
+pub fn whole_frame(
+    rules: &ClockRules,
+    begin_us: u32,
+    rise_us: u32,
+    told: Told,
+    quality: u8,
+) -> KeptFrame
     requires { rules.now.drift_us ≤ most_drift_us }
-    ensures { result ≡ whole_frame rules.now begin_us rise_us told }
+    ensures { result ≡ whole_frame rules.now begin_us rise_us told quality }
 {
     KeptFrame {
         told,
+        quality: quality_told(told, quality),
         end_us: rise_us.wrapping_add(10_000),
         is_even: is_even(rules, begin_us, rise_us),
+    }
+}
+
+/// The time quality of what a frame tells that says this one: 0 of what claims no second.
+pub fn quality_told(told: Told, quality: u8) -> u8
+    ensures { result ≡ quality_told told quality }
+{
+    match told {
+        Told::Claim(_) => quality,
+        Told::Silence => 0,
+        Told::Fault(_) => 0,
+        Told::Poor(_) => 0,
     }
 }
 
@@ -291,7 +314,7 @@ fn count_uneven(frames: &[Option<KeptFrame>]) -> usize
 }
 
 fn claim_kept(rules: &ClockRules, frame: Option<KeptFrame>) -> Option<KeptClaim>
-    ensures { result ≡ claim_kept rules.now.within.us frame }
+    ensures { result ≡ claim_kept rules.now frame }
 {
     let Some(kept) = frame else {
         return None;
@@ -303,7 +326,7 @@ fn claim_kept(rules: &ClockRules, frame: Option<KeptFrame>) -> Option<KeptClaim>
         Told::Claim(claim) => Some(KeptClaim {
             claim,
             end_us: kept.end_us,
-            half_us: rules.within.us() - 1,
+            half_us: rules.half_us(kept.quality),
         }),
         Told::Silence => None,
         Told::Fault(_) => None,
@@ -333,15 +356,15 @@ pub fn agreed(rules: &ClockRules, lines: &Lines) -> Option<Vote>
 // The edge on which f + 1 of these frames agree.
 fn vote_of(rules: &ClockRules, all: &[Option<KeptClaim>]) -> Option<Vote>
     requires { rules.now.drift_us ≤ most_drift_us }
-    ensures value { result ≡ vote_with rules.now.within.us rules.now.drift_us
-        (f_of rules.now.redundancy) all.now (first_candidate (window_us rules.now.within.us)
+    ensures value { result ≡ vote_with (reach_us rules.now) rules.now.drift_us
+        (f_of rules.now.redundancy) all.now (first_candidate (reach_us rules.now)
         (f_of rules.now.redundancy) all.now all.now None) }
     ensures small { IfSome result (λ vote. vote.bound_us ≤ most_vote_us) }
 {
-    let window_us = rules.window_us();
+    let reach_us = rules.reach_us();
     let f = rules.redundancy.f();
-    let first = first_candidate(window_us, f, all)?;
-    Some(vote_between(rules, first, narrowed_by_all(window_us, f, &first, all)))
+    let first = first_candidate(reach_us, f, all)?;
+    Some(vote_between(rules, first, narrowed_by_all(reach_us, f, &first, all)))
 }
 
 // An interval about the last time of a frame.
@@ -354,8 +377,8 @@ struct About {
 // The edge in the middle of the interval about the last time of a frame.
 fn vote_between(rules: &ClockRules, first: KeptClaim, about: About) -> Vote
     requires steady { rules.now.drift_us ≤ most_drift_us }
-    requires before { about.before_us ≤ window_us rules.now.within.us }
-    requires behind { about.behind_us ≤ window_us rules.now.within.us }
+    requires before { about.before_us ≤ reach_us rules.now }
+    requires behind { about.behind_us ≤ reach_us rules.now }
     ensures value { result ≡ vote_between rules.now.drift_us first about.before_us
         about.behind_us }
     ensures small { result.bound_us ≤ most_vote_us }
@@ -372,8 +395,8 @@ fn vote_between(rules: &ClockRules, first: KeptClaim, about: About) -> Vote
 }
 
 // The frame with which f + 1 lines agree; of several the one whose last time comes first.
-fn first_candidate(window_us: u32, f: u8, all: &[Option<KeptClaim>]) -> Option<KeptClaim>
-    ensures { result ≡ first_candidate window_us f all.now all.now None }
+fn first_candidate(reach_us: u32, f: u8, all: &[Option<KeptClaim>]) -> Option<KeptClaim>
+    ensures { result ≡ first_candidate reach_us f all.now all.now None }
 {
     let mut so_far = None;
     for x in all {
@@ -381,7 +404,7 @@ fn first_candidate(window_us: u32, f: u8, all: &[Option<KeptClaim>]) -> Option<K
             continue;
         };
         if is_candidate(f, frame, all) {
-            so_far = earlier(window_us, so_far, *frame);
+            so_far = earlier(reach_us, so_far, *frame);
         }
     }
     so_far
@@ -411,12 +434,12 @@ fn agrees(x: &KeptClaim, y: &Option<KeptClaim>) -> bool
     }
 }
 
-fn earlier(window_us: u32, so_far: Option<KeptClaim>, x: KeptClaim) -> Option<KeptClaim>
-    ensures { result ≡ earlier window_us so_far x }
+fn earlier(reach_us: u32, so_far: Option<KeptClaim>, x: KeptClaim) -> Option<KeptClaim>
+    ensures { result ≡ earlier reach_us so_far x }
 {
     match so_far {
         Some(y) => {
-            if x.last_us().wrapping_sub(y.last_us()) <= window_us {
+            if x.last_us().wrapping_sub(y.last_us()) <= reach_us {
                 Some(y)
             } else {
                 Some(x)
@@ -427,41 +450,41 @@ fn earlier(window_us: u32, so_far: Option<KeptClaim>, x: KeptClaim) -> Option<Ke
 }
 
 // The interval that f + 1 of all frames leave.
-fn narrowed_by_all(window_us: u32, f: u8, x: &KeptClaim, all: &[Option<KeptClaim>]) -> About
+fn narrowed_by_all(reach_us: u32, f: u8, x: &KeptClaim, all: &[Option<KeptClaim>]) -> About
     ensures before { result.before_us
-        ≡ least_before window_us f x.now all.now all.now window_us }
+        ≡ least_before reach_us f x.now all.now all.now reach_us }
     ensures behind { result.behind_us
-        ≡ least_behind window_us f x.now all.now all.now window_us }
-    ensures before_most { result.before_us ≤ window_us }
-    ensures behind_most { result.behind_us ≤ window_us }
+        ≡ least_behind reach_us f x.now all.now all.now reach_us }
+    ensures before_most { result.before_us ≤ reach_us }
+    ensures behind_most { result.behind_us ≤ reach_us }
 {
     let mut so_far = About {
-        before_us: window_us,
-        behind_us: window_us,
+        before_us: reach_us,
+        behind_us: reach_us,
     };
     for y in all {
         so_far = About {
-            before_us: less_before(window_us, f, x, all, y, so_far.before_us),
-            behind_us: less_behind(window_us, f, x, all, y, so_far.behind_us),
+            before_us: less_before(reach_us, f, x, all, y, so_far.before_us),
+            behind_us: less_behind(reach_us, f, x, all, y, so_far.behind_us),
         };
     }
     so_far
 }
 
 fn less_before(
-    window_us: u32,
+    reach_us: u32,
     f: u8,
     x: &KeptClaim,
     all: &[Option<KeptClaim>],
     y: &Option<KeptClaim>,
     so_far_us: u32,
 ) -> u32
-    requires { so_far_us ≤ window_us }
-    ensures value { result ≡ less_before window_us f x.now all.now y.now so_far_us }
-    ensures most { result ≤ window_us }
+    requires { so_far_us ≤ reach_us }
+    ensures value { result ≡ less_before reach_us f x.now all.now y.now so_far_us }
+    ensures most { result ≤ reach_us }
 {
     let before_us = first_before(x, y);
-    if begins_near(window_us, x, y) && usize::from(f) < ending_from(x, before_us, all) {
+    if begins_near(reach_us, x, y) && usize::from(f) < ending_from(x, before_us, all) {
         before_us.min(so_far_us)
     } else {
         so_far_us
@@ -469,39 +492,39 @@ fn less_before(
 }
 
 fn less_behind(
-    window_us: u32,
+    reach_us: u32,
     f: u8,
     x: &KeptClaim,
     all: &[Option<KeptClaim>],
     y: &Option<KeptClaim>,
     so_far_us: u32,
 ) -> u32
-    requires { so_far_us ≤ window_us }
-    ensures value { result ≡ less_behind window_us f x.now all.now y.now so_far_us }
-    ensures most { result ≤ window_us }
+    requires { so_far_us ≤ reach_us }
+    ensures value { result ≡ less_behind reach_us f x.now all.now y.now so_far_us }
+    ensures most { result ≤ reach_us }
 {
     let behind_us = last_behind(x, y);
-    if ends_near(window_us, x, y) && usize::from(f) < ending_by(x, behind_us, all) {
+    if ends_near(reach_us, x, y) && usize::from(f) < ending_by(x, behind_us, all) {
         behind_us.min(so_far_us)
     } else {
         so_far_us
     }
 }
 
-fn ends_near(window_us: u32, x: &KeptClaim, y: &Option<KeptClaim>) -> bool
-    ensures { result ≡ ends_near window_us x.now y.now }
+fn ends_near(reach_us: u32, x: &KeptClaim, y: &Option<KeptClaim>) -> bool
+    ensures { result ≡ ends_near reach_us x.now y.now }
 {
     match y {
-        Some(y) => x.claim == y.claim && y.last_us().wrapping_sub(x.last_us()) <= window_us,
+        Some(y) => x.claim == y.claim && y.last_us().wrapping_sub(x.last_us()) <= reach_us,
         None => false,
     }
 }
 
-fn begins_near(window_us: u32, x: &KeptClaim, y: &Option<KeptClaim>) -> bool
-    ensures { result ≡ begins_near window_us x.now y.now }
+fn begins_near(reach_us: u32, x: &KeptClaim, y: &Option<KeptClaim>) -> bool
+    ensures { result ≡ begins_near reach_us x.now y.now }
 {
     match y {
-        Some(y) => x.claim == y.claim && x.last_us().wrapping_sub(y.first_us()) <= window_us,
+        Some(y) => x.claim == y.claim && x.last_us().wrapping_sub(y.first_us()) <= reach_us,
         None => false,
     }
 }
@@ -536,7 +559,7 @@ fn ending_from(x: &KeptClaim, before_us: u32, all: &[Option<KeptClaim>]) -> usiz
     all.iter().filter(|y| ends_from(x, before_us, y)).count()
 }
 
-// How far behind 1 ms before the last time of a frame a time lies.
+// How far behind 3 ms before the last time of a frame a time lies.
 fn place_behind(x: &KeptClaim, time_us: u32) -> u32
     ensures { result ≡ place_behind x.now time_us }
 {
@@ -598,7 +621,7 @@ pub fn wait_by(now_us: u32, edge_us: Option<u32>, vote: Option<Vote>) -> u32
 {
     match (vote, edge_us) {
         (Some(vote), _) => until(now_us, vote.edge_us),
-        (None, Some(edge)) => until(now_us, edge.wrapping_add(1_005_000)),
+        (None, Some(edge)) => until(now_us, edge.wrapping_add(1_006_000)),
         (None, None) => 1_000_000,
     }
 }

@@ -1,11 +1,15 @@
 //! A timekeeper's setup, and what is refused of it.
 
-ghost use Rattle.std.specs.Prelude.{◌≡◌, ◌≤◌};
-ghost use Rattle.irig_lines.specs.Exactness.{most_drift_us, most_within_us};
-ghost use Rattle.irig_lines.specs.Refusals.{clock_fault, within_of};
+ghost use Rattle.std.specs.Prelude.{◌≡◌, ◌≤◌, ◌+◌, ◌-◌, ◌*◌};
+ghost use Rattle.irig_lines.specs.Exactness.{most_quality_us, most_within_us};
+ghost use Rattle.irig_lines.specs.Widths.{quality_us};
+ghost use Rattle.irig_lines.specs.Refusals.{clock_fault, limits_of, within_of};
+ghost use Rattle.irig_lines.specs.VoteLimits.{most_poor_from};
 
 use crate::delay::Delays;
+use crate::limits::VoteLimits;
 use crate::within::Within;
+use irig_port::Limits;
 use irig_reader::ReaderRules;
 use irig_vote::Redundancy;
 
@@ -18,6 +22,8 @@ pub struct ClockRules {
     pub redundancy: Redundancy,
     /// How exact they are.
     pub within: Within,
+    /// Which frames have a vote.
+    pub limits: VoteLimits,
     /// How many microseconds a second the device's counter may be wrong, 0 to 100.
     pub drift_us: u32,
     /// How late each of them is.
@@ -27,21 +33,45 @@ pub struct ClockRules {
 }
 
 impl ClockRules {
-    ghost use Rattle.irig_lines.specs.Exactness.{end_off_us, window_us};
+    ghost use Rattle.irig_lines.specs.Widths.{half_us, quality_us, reach_us, widest_us, worst_of};
 
-    /// Frames that claim the same and end no further apart than this agree.
-    pub fn window_us(&self) -> u32
-        ensures { result ≡ window_us self.now.within.us }
+    /// How far in microseconds the edge of a frame of such a time quality lies from its end, if its line
+    /// is true, but for the drift of an element: as far as lines are off, and as the quality says. One
+    /// that has no vote counts as the worst that has.
+    pub fn half_us(&self, quality: u8) -> u32
+        ensures value { result ≡ half_us self.now quality }
+        ensures most { result ≤ widest_us self.now }
     {
-        2 * (self.within.us() - 1)
+        self.within.us() - 1 + quality_us(quality.min(self.worst()))
     }
 
-    /// How far from its edge the frame of a true line may end.
-    pub fn end_off_us(&self) -> u32
-        requires { self.now.drift_us ≤ most_drift_us }
-        ensures { result ≡ end_off_us self.now.within.us self.now.drift_us }
+    /// How far two edges may lie apart that may be that of one frame.
+    pub fn reach_us(&self) -> u32
+        ensures value { result ≡ reach_us self.now }
+        ensures most { result ≤ 2 * (most_within_us - 1 + most_quality_us) }
     {
-        self.within.us() - 1 + self.drift_us.div_ceil(100)
+        2 * (self.within.us() - 1 + quality_us(self.worst()))
+    }
+
+    // The worst time quality of a frame that has a vote.
+    fn worst(&self) -> u8
+        ensures { result ≡ worst_of self.now }
+    {
+        self.limits.limits.poor_from.saturating_sub(1)
+    }
+}
+
+// How far off in microseconds a clock of such a time quality may be.
+fn quality_us(quality: u8) -> u32
+    ensures value { result ≡ quality_us quality }
+    ensures most { result ≤ most_quality_us }
+{
+    match quality {
+        0 => 0,
+        1..=4 => 1,
+        5 => 10,
+        6 => 100,
+        _ => 1_000,
     }
 }
 
@@ -75,5 +105,18 @@ pub fn nearest_within(us: u32) -> Within
 {
     Within {
         us: us.clamp(1, 450),
+    }
+}
+
+/// These limits, or the nearest that a timekeeper may have: of a `poor_from` above 8 with 8.
+pub fn nearest_limits(limits: Limits) -> VoteLimits
+    ensures value { result ≡ limits_of limits }
+    ensures same { limits.poor_from ≤ most_poor_from → result.limits ≡ limits }
+{
+    VoteLimits {
+        limits: Limits {
+            not_before: limits.not_before,
+            poor_from: limits.poor_from.min(8),
+        },
     }
 }

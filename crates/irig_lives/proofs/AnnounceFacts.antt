@@ -1,5 +1,6 @@
 -- Two loops that announce: three lines, of which one lies, by a counter that is 100 us a second fast
 -- and wraps. One ticks each 90 ms, the other 90 ms behind each time that `wait` names.
+use Rattle.irig_lines.specs.VoteLimits.{usual_limits}
 use Rattle.std.specs.Prelude.{◌==◌, nat_lt, nat_le, get_or, count_by}
 use Rattle.std.specs.List.{range_with_len}
 use Rattle.std.proofs.Common.{◌≡◌, ◌∙◌, ℕ, zero, suc, ◌+◌, ◌-◌, ◌*◌, ◌/◌, ◌%◌, ◌^◌, ◌<◌, ◌≤◌, Bool, true, false, cond, ◌&&◌, List, [], ◌∷◌, ◌++◌, drop, length, Some, None, refl, sym, ap, subst, arith, inl, inr, append-nil}
@@ -36,7 +37,7 @@ use Rattle.irig_timekeeper.specs.Life.Call.{Hear, Tick}
 use Rattle.irig_timekeeper.specs.Announcing.{LeavesTheFirst, IsWhole, ComesWhole, Announces}
 use Rattle.irig_timekeeper.specs.Loops.{TicksEach, AreToldInTime, made_at, latest, AreMadeInTurn, named, IsSoonEnough, GoesByWait, ComeInARow}
 use Rattle.irig_timekeeper.proofs.LifeLaws.{own_pulses, others_pulses, no_pulse}
-use Rattle.irig_lives.proofs.LifeFacts.{edges, at, noon, true_table, is_device, rules, claim_of, device, silence, made, frame_0, frame_1, frame_2, told_0, told_1, told_2, true_claim, width_of}
+use Rattle.irig_lives.proofs.LifeFacts.{edges, at, noon, true_table, is_device, rules, claim_of, device, silence, made, frame_0, frame_1, frame_2, told_0, told_1, told_2, true_claim, width_of, clock}
 use Rattle.irig_lives.specs.Decided.{is_after, have_risen, in_order}
 use Rattle.irig_lives.proofs.DecidedLaws.{order_is}
 use Rattle.irig_timekeeper.proofs.LoopLaws.{polling_announces}
@@ -142,7 +143,7 @@ leaves i (suc (suc zero)) low = inl refl
 leaves i (suc (suc (suc zero))) low = inl refl
 leaves i (suc (suc (suc (suc f)))) low = absurd (omega (arith, low))
 
-tells_it : (i f : ℕ) → f < 4 → told_within None rules (symbols_of_last 100 (sent i (100 * f + 100))) ≡ tells.Claim (claim_of (43200 + f))
+tells_it : (i f : ℕ) → f < 4 → told_within (Some usual_limits) rules (symbols_of_last 100 (sent i (100 * f + 100))) ≡ tells.Claim (claim_of (43200 + f))
 unfolding sent pulse frames width_of told_of frame_told coded_told ones values_of field_at control_of offset_in utc_minute is_month_end four_years
 tells_it i zero low = refl
 tells_it i (suc zero) low = refl
@@ -150,7 +151,7 @@ tells_it i (suc (suc zero)) low = refl
 tells_it i (suc (suc (suc zero))) low = refl
 tells_it i (suc (suc (suc (suc f)))) low = absurd (omega (arith, low))
 
-is_whole : (i f : ℕ) → f < 4 → IsWhole 450 None rules noon edges (f + 1) (sent i (100 * f + 100))
+is_whole : (i f : ℕ) → f < 4 → IsWhole clock rules noon edges (f + 1) (sent i (100 * f + 100))
 is_whole i f low = record {
   line = line;
   right = is_line.right;
@@ -261,9 +262,9 @@ comes_whole m calls are n low long = record {
       let parts : m ≡ 100 * n + 100 + (m - (100 * n + 100)) = omega (arith, long) in
       let next : n + 1 ≡ 1 + n = omega arith in (
         m - (100 * n + 100),
-        subst (λ (ps : List Pulse). IsWhole 450 None rules noon edges (1 + n) (drop (m - (100 * n + 100)) ps)) (sym (are i (ltb-true i 2 first)))
-            (subst (IsWhole 450 None rules noon edges (1 + n)) (sym (drop_some i (m - (100 * n + 100)) (100 * n + 100) m parts))
-            (subst (λ (j : ℕ). IsWhole 450 None rules noon edges j (sent i (100 * n + 100))) next (is_whole i n low))),
+        subst (λ (ps : List Pulse). IsWhole clock rules noon edges (1 + n) (drop (m - (100 * n + 100)) ps)) (sym (are i (ltb-true i 2 first)))
+            (subst (IsWhole clock rules noon edges (1 + n)) (sym (drop_some i (m - (100 * n + 100)) (100 * n + 100) m parts))
+            (subst (λ (j : ℕ). IsWhole clock rules noon edges j (sent i (100 * n + 100))) next (is_whole i n low))),
       );
 }
 

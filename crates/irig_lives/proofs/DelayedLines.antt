@@ -2,6 +2,7 @@
 -- 100 us a second fast and wraps, the pulses of one come 3,000 us late, and those of another one 2,500 us
 -- early. Its life is that of the pulses as they rose at their clocks. So is it where lines are less than
 -- 10 us off.
+use Rattle.irig_lines.proofs.LineLaws.{true_by_any}
 use Rattle.std.proofs.Common.{◌≡◌, ◌∙◌, ℕ, zero, suc, ◌+◌, ◌-◌, ◌%◌, ◌^◌, ◌≤◌, List, [], ◌∷◌, map, Some, None, pos, negsuc, refl, sym, ap, arith, false}
 use Rattle.irig_frame.specs.Faults.{values_of, field_at}
 use Rattle.irig_control.specs.Parity.{ones}
@@ -29,8 +30,8 @@ use Rattle.irig_timekeeper.specs.States.{state_of}
 use Rattle.irig_timekeeper.proofs.LifeLaws.{device_true}
 use Rattle.irig_lives.specs.Decided.{is_after, have_risen, in_order, is_same, is_pulse_of, last_before, are_lately, are_true_lately, are_true_at_ticks}
 use Rattle.irig_lives.proofs.DecidedLaws.{order_is, truly_is}
-use Rattle.irig_lives.proofs.ExactFacts.{exact_edges, exact_steady, exact_truly}
-use Rattle.irig_lives.proofs.LifeFacts.{edges, steady, at, noon, no_delays, no_table, is_device, rules, claim_of, new_lines, are_new, silence, frame, line, is_line, width_of, truly_told}
+use Rattle.irig_lives.proofs.ExactFacts.{exact_edges, exact_steady}
+use Rattle.irig_lives.proofs.LifeFacts.{edges, steady, at, noon, no_delays, no_table, is_device, rules, claim_of, new_lines, are_new, silence, frame, line, is_line, width_of, usual}
 use Rattle.irig_timekeeper.specs.Rule.{step_checked, goes_against}
 
 -- ---- each time by a counter of 32 bits, from which a delay is taken
@@ -48,9 +49,8 @@ delays = record no_delays { a = pos 3000; b = negsuc 2499 }
 
 abbrev made_with : Delays → Made
 made_with late = record {
-  limits = None;
   rules = rules;
-  clock = record { reader_rules = record { lock_after = 1; holdover = 100 }; redundancy = of.Three; within = within_of 450; drift_us = 100; delays = late; prefers_frames = false };
+  clock = record { reader_rules = record { lock_after = 1; holdover = 100 }; redundancy = of.Three; within = within_of 450; limits = usual; drift_us = 100; delays = late; prefers_frames = false };
   table = no_table;
   lines = new_lines;
   fresh = are_new;
@@ -125,10 +125,10 @@ states = (refl, refl, refl)
 by_clocks : answer_at (life_of (made_with delays) calls) (now % 2 ^ 32) ≡ Some beat
 by_clocks = ap (λ (k : Keeping). answer_at k (now % 2 ^ 32)) (sym same_life) ∙ answer
 
-told_truly : IsToldInHoldover noon edges 0 0 450 100 100 now beat (at 43202)
+told_truly : IsToldInHoldover noon edges 0 0 (made_with delays).clock now beat (at 43202)
 told_truly =
-    device_true None rules (made_with delays).clock no_table new_lines 4294400000 are_new (IsTrueLately 450 rules noon edges) noon edges 0 0 (record { steady = steady; sound = is_device.sound; knows = is_device.knows; short = is_device.short }) (omega arith)
-    truly_told calls now beat (at 43202) order truth by_clocks refl
+    device_true rules (made_with delays).clock no_table new_lines 4294400000 are_new (IsTrueLately 450 rules noon edges) noon edges 0 0 (record { steady = steady; sound = is_device.sound; knows = is_device.knows; short = is_device.short }) (omega arith)
+    (λ now half end pulses claim is frame soon. true_by_any (made_with delays).clock rules noon 100 edges half now end pulses claim steady is frame soon) calls now beat (at 43202) order truth by_clocks refl
 
 -- ---- a device that does not know the delays has no vote of the same pulses
 
@@ -139,7 +139,7 @@ no_vote = refl
 -- ---- the same delays of lines that are less than 10 us off, by a counter that is 1 us a second fast
 
 abbrev exact : Made
-exact = record (made_with delays) { clock = record (made_with delays).clock { within = within_of 10; drift_us = 1 } }
+exact = record (made_with delays) { clock = record (made_with delays).clock { within = within_of 10; limits = usual; drift_us = 1 } }
 
 unfoldable exact_calls : List Call
 exact_calls = sent exact_edges 9 100
@@ -167,7 +167,7 @@ exact_answer : answer_at (told (device_of exact) (map come exact_calls)) (exact_
 unfolding exact_calls sent told come width_of line frame step_checked goes_against step_of told_of frame_told coded_told ones values_of field_at control_of offset_in utc_minute is_month_end four_years
 exact_answer = refl
 
-told_exactly : IsToldInHoldover noon exact_edges 0 0 10 1 100 exact_now exact_beat (at 43202)
+told_exactly : IsToldInHoldover noon exact_edges 0 0 exact.clock exact_now exact_beat (at 43202)
 told_exactly =
-    device_true None rules exact.clock no_table new_lines 1900000 are_new (IsTrueLately 10 rules noon exact_edges) noon exact_edges 0 0 (record { steady = exact_steady; sound = is_device.sound; knows = is_device.knows; short = omega arith })
-    (omega arith) exact_truly exact_calls exact_now exact_beat (at 43202) exact_order exact_truth (ap (λ (k : Keeping). answer_at k (exact_now % 2 ^ 32)) (sym same_exactly) ∙ exact_answer) refl
+    device_true rules exact.clock no_table new_lines 1900000 are_new (IsTrueLately 10 rules noon exact_edges) noon exact_edges 0 0 (record { steady = exact_steady; sound = is_device.sound; knows = is_device.knows; short = omega arith })
+    (omega arith) (λ now half end pulses claim is frame soon. true_by_any exact.clock rules noon 1 exact_edges half now end pulses claim exact_steady is frame soon) exact_calls exact_now exact_beat (at 43202) exact_order exact_truth (ap (λ (k : Keeping). answer_at k (exact_now % 2 ^ 32)) (sym same_exactly) ∙ exact_answer) refl

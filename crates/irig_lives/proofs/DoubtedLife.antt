@@ -29,15 +29,14 @@ use Rattle.irig_timekeeper.proofs.DoubtLaws.{says_rule, says_voted, not_held, he
 use Rattle.irig_timekeeper.proofs.StrayLaws.{never_doubts, never_unsteady}
 use Rattle.irig_lives.specs.Decided.{is_after, have_risen, in_order}
 use Rattle.irig_lives.proofs.DecidedLaws.{order_is}
-use Rattle.irig_lives.proofs.LifeFacts.{edges, at, noon, no_delays, no_table, is_device, rules, claim_of, new_lines, are_new, made, silence, frame, line, width_of, calls_3, now_3, now_4, order_4, truth_4, beat_4, answer_4}
+use Rattle.irig_lives.proofs.LifeFacts.{edges, at, noon, no_delays, no_table, is_device, rules, claim_of, new_lines, are_new, made, silence, frame, line, width_of, calls_3, now_3, now_4, order_4, truth_4, beat_4, answer_4, usual}
 
 -- ---- a device that holds over for so many seconds
 
 abbrev made_for : ℕ → Made
 made_for holdover = record {
-  limits = None;
   rules = rules;
-  clock = record { reader_rules = record { lock_after = 1; holdover = holdover }; redundancy = of.Three; within = within_of 450; drift_us = 100; delays = no_delays; prefers_frames = false };
+  clock = record { reader_rules = record { lock_after = 1; holdover = holdover }; redundancy = of.Three; within = within_of 450; limits = usual; drift_us = 100; delays = no_delays; prefers_frames = false };
   table = no_table;
   lines = new_lines;
   fresh = are_new;
@@ -204,7 +203,7 @@ said_again = held_again (device_of (made_for 1)) refl 5010000 third (Tick now_of
 -- strays
 
 abbrev exact : Made
-exact = record (made_for 57) { clock = record (made_for 57).clock { within = within_of 10; drift_us = 1 } }
+exact = record (made_for 57) { clock = record (made_for 57).clock { within = within_of 10; limits = usual; drift_us = 1 } }
 
 exactly : (late from n : ℕ) → List Call → List Call
 exactly late from zero calls = calls

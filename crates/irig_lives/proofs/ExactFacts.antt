@@ -33,13 +33,13 @@ use Rattle.irig_timekeeper.specs.Keeping.{Keeping, new_keeping, vote_at, answer_
 use Rattle.irig_timekeeper.specs.Truth.{IsDevice, IsToldInHoldover, IsStampedTruly}
 use Rattle.irig_timekeeper.specs.Life.{Call, Made, life_of, AreInOrder, AreTrueAtTicks, after_calls}
 use Rattle.irig_timekeeper.specs.Life.Call.{Hear, Tick}
-use Rattle.irig_lines.proofs.LineLaws.{true_lately}
+use Rattle.irig_lines.proofs.LineLaws.{true_by_any}
 use Rattle.irig_timekeeper.proofs.LifeLaws.{TellAlwaysTruly, device_true}
 use Rattle.irig_timekeeper.proofs.StampLaws.{stamped}
 use Rattle.irig_timekeeper.proofs.StrayLaws.{never_strays}
 use Rattle.irig_timekeeper.proofs.ClockLines.{clocks_tell_truly}
 use Rattle.irig_lives.proofs.SentLines.{sent_is_checked, checked_is_line}
-use Rattle.irig_lives.proofs.LifeFacts.{at, noon, no_delays, no_table, is_device, rules, claim_of, new_lines, are_new, silence, frame_0, frame_1, frame_2, told_0, told_1, true_claim, width_of}
+use Rattle.irig_lives.proofs.LifeFacts.{at, noon, no_delays, no_table, is_device, rules, claim_of, new_lines, are_new, silence, frame_0, frame_1, frame_2, told_0, told_1, true_claim, width_of, usual}
 use Rattle.irig_lives.specs.Decided.{is_after, have_risen, in_order, is_same, is_pulse_of, last_before, are_lately, are_true_lately, are_true_at_ticks}
 use Rattle.irig_lives.proofs.DecidedLaws.{order_is, still_true, truly_is}
 use Rattle.irig_timekeeper.specs.Rule.{step_checked, goes_against}
@@ -57,7 +57,7 @@ exact_steady = record { few = omega arith; steady = record { least = λ n. omega
 
 -- lines that are so exact
 abbrev clock_of : ℕ → ClockRules
-clock_of within = record { reader_rules = record { lock_after = 1; holdover = 100 }; redundancy = of.Three; within = within_of within; drift_us = 1; delays = no_delays; prefers_frames = false }
+clock_of within = record { reader_rules = record { lock_after = 1; holdover = 100 }; redundancy = of.Three; within = within_of within; limits = usual; drift_us = 1; delays = no_delays; prefers_frames = false }
 
 abbrev clock : ClockRules
 clock = clock_of 10
@@ -132,7 +132,7 @@ truth = (truly_is 10 rules noon edges line is_line 100 1 (Tick now_1 ∷ calls_1
 -- ---- what the device says
 
 abbrev device : ClockRules → Keeping
-device c = new_keeping None rules c no_table new_lines
+device c = new_keeping rules c no_table new_lines
 
 -- a frame ends 10 ms behind its last pulse, which by this counter is 1 us before its edge: the three end
 -- 10 us and 1 us before the edge, at 2,000,001, and 8 us behind it. More than one end by the middle one's
@@ -176,18 +176,18 @@ stamp_is = refl
 
 -- ---- so the laws speak of it
 
-pub exact_truly : TellAlwaysTruly (IsTrueLately 10 rules noon exact_edges) 10 1 rules noon exact_edges 0 0
-exact_truly now end pulses claim is frame soon = true_lately (within_of 10) rules noon 1 exact_edges now end pulses claim exact_steady is frame soon
+pub exact_truly : TellAlwaysTruly (IsTrueLately 10 rules noon exact_edges) clock rules noon exact_edges 0 0
+exact_truly now half end pulses claim is frame soon = true_by_any clock rules noon 1 exact_edges half now end pulses claim exact_steady is frame soon
 
-first_told : IsToldInHoldover noon edges 0 0 10 1 100 now_1 beat_1 (at 43201)
-first_told = device_true None rules clock no_table new_lines 900000 are_new (IsTrueLately 10 rules noon edges) noon edges 0 0 by_counter (omega arith) exact_truly calls_1 now_1 beat_1 (at 43201) order.0 truth.0 answers.0 refl
+first_told : IsToldInHoldover noon edges 0 0 clock now_1 beat_1 (at 43201)
+first_told = device_true rules clock no_table new_lines 900000 are_new (IsTrueLately 10 rules noon edges) noon edges 0 0 by_counter (omega arith) exact_truly calls_1 now_1 beat_1 (at 43201) order.0 truth.0 answers.0 refl
 
-next_told : IsToldInHoldover noon edges 0 0 10 1 100 now_2 beat_2 (at 43202)
-next_told = device_true None rules clock no_table new_lines 900000 are_new (IsTrueLately 10 rules noon edges) noon edges 0 0 by_counter (omega arith) exact_truly calls_2 now_2 beat_2 (at 43202) order.1.3 truth.1 answers.1 refl
+next_told : IsToldInHoldover noon edges 0 0 clock now_2 beat_2 (at 43202)
+next_told = device_true rules clock no_table new_lines 900000 are_new (IsTrueLately 10 rules noon edges) noon edges 0 0 by_counter (omega arith) exact_truly calls_2 now_2 beat_2 (at 43202) order.1.3 truth.1 answers.1 refl
 
 stamp_true : IsStampedTruly noon edges 0 3250001 stamp
 stamp_true =
-    stamped None rules clock no_table new_lines 900000 are_new noon edges 0 0 0 by_counter (omega arith) (omega arith) (IsTrueLately 10 rules noon edges) (omega arith) exact_truly
+    stamped rules clock no_table new_lines 900000 are_new noon edges 0 0 0 by_counter (omega arith) (omega arith) (IsTrueLately 10 rules noon edges) (omega arith) exact_truly
     (Tick now_2 ∷ calls_2) 3250001 asked order.1 truth.1 (omega arith) (omega arith) stamp stamp_is
 
 -- the first vote leaves 20 us, from 1,999,990 on; a second later, by a counter that runs 1 us a second
@@ -197,7 +197,7 @@ unfolding calls_2 elements with_element with_tick width_of frames lies lie step_
 known = refl
 
 made : Made
-made = record { limits = None; rules = rules; clock = clock; table = no_table; lines = new_lines; fresh = are_new }
+made = record { rules = rules; clock = clock; table = no_table; lines = new_lines; fresh = are_new }
 
 no_stray : (life_of made (Tick now_2 ∷ calls_2)).state.strays ≡ 0
 unfolding made
@@ -229,7 +229,7 @@ by_clocks : (now : ℕ) (pulses : List Pulse) → IsTrueLately 10 rules noon edg
 by_clocks now pulses is = record { own = edges; steady = exact_steady; near = λ n. record { least = omega arith; most = omega arith }; truth = is }
 
 -- the edge that is told lies 9 us behind that of UTC, 2,999,992: no more than its bound, 19 us, and 10 us
-told_late : IsToldInHoldover noon utc 10 10 10 1 100 now_2 beat_2 (at 43202)
+told_late : IsToldInHoldover noon utc 10 10 clock now_2 beat_2 (at 43202)
 told_late =
-    device_true None rules clock no_table new_lines 900000 are_new (IsTrueByItsClock 10 10 1 rules noon utc) noon utc 10 10 by_utc (omega arith) (clocks_tell_truly 10 (within_of 10) rules noon 1 utc) calls_2 now_2 beat_2
+    device_true rules clock no_table new_lines 900000 are_new (IsTrueByItsClock 10 10 1 rules noon utc) noon utc 10 10 by_utc (omega arith) (clocks_tell_truly 10 clock rules noon utc) calls_2 now_2 beat_2
     (at 43202) order.1.3 (still_true (IsTrueLately 10 rules noon edges) (IsTrueByItsClock 10 10 1 rules noon utc) by_clocks 1 (Tick now_2 ∷ calls_2) truth.1) answers.1 refl

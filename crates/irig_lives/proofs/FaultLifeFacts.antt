@@ -1,6 +1,6 @@
 -- A device of one line that has a fault: the pulse of its element 98 comes 600 us late. By a counter that
 -- is 100 us a second fast it announces 12:00:01, and stamps an event.
-use Rattle.std.proofs.Common.{◌≡◌, ℕ, zero, suc, ◌+◌, ◌*◌, ◌%◌, ◌^◌, ◌<◌, false, List, [], ◌∷◌, take, drop, Some, None, refl, sym, subst, arith, inl, inr}
+use Rattle.std.proofs.Common.{◌≡◌, ℕ, zero, suc, ◌+◌, ◌*◌, ◌%◌, ◌^◌, ◌<◌, false, List, [], ◌∷◌, take, drop, Some, refl, sym, subst, arith, inl, inr}
 use Rattle.irig_frame.specs.Symbols.{width_of}
 use Rattle.irig_frame.specs.Faults.{values_of, field_at}
 use Rattle.irig_control.specs.Parity.{ones}
@@ -28,14 +28,14 @@ use Rattle.irig_timekeeper.specs.Life.Call.{Hear, Tick}
 use Rattle.irig_timekeeper.proofs.LifeLaws.{device_true}
 use Rattle.irig_timekeeper.proofs.StampLaws.{stamped}
 use Rattle.irig_timekeeper.proofs.FaultLines.{faultless, faults_tell_truly, either_tells_truly}
-use Rattle.irig_lives.proofs.LifeFacts.{noon, rules, no_delays, no_table, is_device, new_lines, are_new, silence}
+use Rattle.irig_lives.proofs.LifeFacts.{noon, rules, no_delays, no_table, is_device, new_lines, are_new, silence, usual}
 use Rattle.irig_lives.specs.Decided.{is_after, have_risen, in_order}
 use Rattle.irig_lives.proofs.DecidedLaws.{order_is}
 use Rattle.irig_lives.proofs.FaultLineFacts.{fast, fast_steady, claim, line, is_checked, pulses, are, is_pulse, rest_is}
 use Rattle.irig_timekeeper.specs.Rule.{step_checked, goes_against}
 
 abbrev clock : ClockRules
-clock = record { reader_rules = record { lock_after = 1; holdover = 100 }; redundancy = of.One; within = within_of 450; drift_us = 100; delays = no_delays; prefers_frames = false }
+clock = record { reader_rules = record { lock_after = 1; holdover = 100 }; redundancy = of.One; within = within_of 450; limits = usual; drift_us = 100; delays = no_delays; prefers_frames = false }
 
 by_counter : IsDevice noon 100 fast clock.reader_rules no_table
 by_counter = record { steady = fast_steady; sound = is_device.sound; knows = is_device.knows; short = is_device.short }
@@ -150,7 +150,7 @@ abbrev second : UtcSecond
 second = record { day = 6209; sod = 43201 }
 
 abbrev device : Keeping
-device = new_keeping None rules clock no_table new_lines
+device = new_keeping rules clock no_table new_lines
 
 abbrev beat : Beat
 beat = record {
@@ -167,9 +167,9 @@ answer : answer_at (after_calls device calls) (now % 2 ^ 32) ≡ Some beat
 unfolding calls heard line step_checked goes_against step_of told_of frame_told coded_told ones values_of field_at control_of offset_in utc_minute is_month_end four_years
 answer = refl
 
-told : IsToldInHoldover noon fast 1097 1000 450 100 100 now beat second
+told : IsToldInHoldover noon fast 1097 1000 clock now beat second
 told =
-    device_true None rules clock no_table new_lines 900000 are_new (IsTrueButForFaults 450 rules noon fast) noon fast 1097 1000 by_counter (omega arith) (faults_tell_truly (within_of 450) rules noon 100 fast fast_steady) calls now beat second order (at_tick (IsTrueButForFaults 450 rules noon fast) faulty) answer refl
+    device_true rules clock no_table new_lines 900000 are_new (IsTrueButForFaults 450 rules noon fast) noon fast 1097 1000 by_counter (omega arith) (faults_tell_truly clock rules noon fast fast_steady) calls now beat second order (at_tick (IsTrueButForFaults 450 rules noon fast) faulty) answer refl
 
 -- an event a quarter of a second behind the edge
 abbrev stamp : Stamp
@@ -182,7 +182,7 @@ stamp_is = refl
 stamp_true : IsStampedTruly noon fast 1097 2250099 stamp
 unfolding calls heard line in_order have_risen is_after
 stamp_true =
-    stamped None rules clock no_table new_lines 900000 are_new noon fast 1097 1000 1097 by_counter (omega arith) (omega arith) (IsTrueOrFaulty 450 rules noon fast) (omega arith) (either_tells_truly (within_of 450) rules noon 100 fast fast_steady) (Tick now ∷ calls) 2250099 2300000
+    stamped rules clock no_table new_lines 900000 are_new noon fast 1097 1000 1097 by_counter (omega arith) (omega arith) (IsTrueOrFaulty 450 rules noon fast) (omega arith) (either_tells_truly clock rules noon fast fast_steady) (Tick now ∷ calls) 2250099 2300000
     asked (at_tick (IsTrueOrFaulty 450 rules noon fast) (λ i less. inr (faulty i less))) (omega arith) (omega arith) stamp stamp_is
   where
     asked : AreInOrder 900000 of.One (Tick 2300000 ∷ (Tick now ∷ calls))

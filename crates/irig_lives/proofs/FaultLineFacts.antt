@@ -1,6 +1,11 @@
 -- Lines with one fault, of which a frame ends as early and as late as the law of kept frames allows;
 -- and why what is at fault has to come in place.
-use Rattle.std.proofs.Common.{◌≡◌, ℕ, zero, suc, ◌+◌, ◌-◌, ◌*◌, ◌/◌, ◌%◌, ◌<◌, ◌≤◌, false, List, [], ◌∷◌, take, drop, Some, None, pos, refl, subst, ap, ◌∙◌, arith}
+use Rattle.irig_frame.specs.Faults.{values_of, field_at}
+use Rattle.irig_vote.specs.declared.redundancy.Redundancy.TheVariants as of
+use Rattle.irig_port.specs.Limits.{quality_in}
+use Rattle.irig_lines.specs.Widths.{half_us}
+use Rattle.irig_lines.specs.declared.setup.ClockRules.{ClockRules}
+use Rattle.std.proofs.Common.{◌≡◌, ℕ, zero, suc, ◌+◌, ◌-◌, ◌*◌, ◌/◌, ◌%◌, ◌<◌, ◌≤◌, false, List, [], ◌∷◌, take, drop, Some, None, pos, refl, subst, ap, ◌∙◌, arith, sym}
 use Rattle.irig_frame.specs.declared.symbol.Symbol.{Symbol}
 use Rattle.irig_frame.specs.declared.symbol.Symbol.TheVariants.{Zero, One, Marker, Bad}
 use Rattle.irig_frame.specs.Symbols.{symbol_of, width_of}
@@ -14,7 +19,7 @@ use Rattle.irig_time.specs.declared.mark.Mark.TheVariants.{Unspoken}
 use Rattle.irig_time.specs.declared.claim.Claim.{Claim}
 use Rattle.irig_time.specs.Days.{is_month_end, four_years}
 use Rattle.irig_time.specs.Timelines.{IsTrueClaim, true_mark}
-use Rattle.irig_control.specs.Control.{word_of}
+use Rattle.irig_control.specs.Control.{word_of, control_of}
 use Rattle.irig_frame.specs.Encoder.{frame_of_coded}
 use Rattle.irig_time.specs.CodedTime.{time_shown}
 use Rattle.irig_time.specs.Frames.{frame_of_second}
@@ -30,7 +35,7 @@ use Rattle.irig_lines.specs.Edges.{IsQuartz}
 use Rattle.irig_lines.specs.Refusals.{within_of}
 use Rattle.irig_lines.specs.Lines.{line_of, AreEven, IsLastBefore, IsFrameOf, IsCheckedLineOf, HasOneFaultInPlace, IsTrueButForFaults}
 use Rattle.irig_timekeeper.proofs.FaultLines.{faults_are_true, dropped, taken, faultless}
-use Rattle.irig_lives.proofs.LifeFacts.{noon, rules, frame_0, told_0}
+use Rattle.irig_lives.proofs.LifeFacts.{noon, rules, frame_0, told_0, usual, no_delays}
 use Rattle.irig_lives.proofs.SentLines.{sent_is_checked}
 
 -- ---- the world
@@ -125,13 +130,24 @@ module _ (edges : ℕ → ℕ) (start : edges 0 ≡ 1000000) (step : ℕ) (long 
       let left = dropped 450 line edges n k (pulses step off k) (are k most) in
       faultless 450 line edges left.0 (take 100 (drop n (pulses step off k))) (taken 450 line edges 100 left.0 (drop n (pulses step off k)) left.1)
 
-frame_by : (ps : List Pulse) (end : ℕ) → AreOnTime 100 ps → symbols_of_last 100 ps ≡ frame_0 → IsLastBefore end ps → AreEven 450 100 ps → IsFrameOf 450 100 rules claim end ps
+-- by lines that are so exact, and such a counter
+abbrev setup : ClockRules
+setup = record { reader_rules = record { lock_after = 1; holdover = 100 }; redundancy = of.One; within = within_of 450; limits = usual; drift_us = 100; delays = no_delays; prefers_frames = false }
+
+-- the frame says quality 0
+says_0 : quality_in frame_0 ≡ 0
+unfolding values_of field_at control_of
+says_0 = refl
+
+frame_by : (ps : List Pulse) (end : ℕ) → AreOnTime 100 ps → symbols_of_last 100 ps ≡ frame_0 → IsLastBefore end ps → AreEven 450 100 ps → IsFrameOf setup rules claim 449 end ps
 frame_by ps end on same last even = record {
   late = 0;
   on_time = on;
   carries = (carries_is_told rules (symbols_of_last 100 ps) claim).0 (ap (told_of rules) same ∙ told_0);
   last = last;
   even = even;
+  says = ap (half_us setup) (sym (ap quality_in same ∙ says_0));
+  votes = (let none = ap quality_in same ∙ says_0 in omega (arith, none));
 }
 
 -- ---- two pulses came in place of P98 and P99, the later one as early as an even frame may have it: the
@@ -176,7 +192,7 @@ early_line now = record { line = line; is_line = is_checked; few = λ n soon. by
     }
     by (suc (suc n)) = rest_is fast refl 10001 refl 0 (omega arith) n 98 (omega arith)
 
-early_frame : IsFrameOf 450 100 rules claim 1998553 early × (1998553 + 1547 ≡ fast 1)
+early_frame : IsFrameOf setup rules claim 449 1998553 early × (1998553 + 1547 ≡ fast 1)
 early_frame = (frame_by early 1998553 (refl, (refl, in_time 10001 (omega arith) (omega arith) 0 97 (omega arith))) early_symbols refl (omega arith, omega arith), refl)
 
 -- ---- P99 came as late as it may: the frame ends 1.450 ms late
@@ -207,7 +223,7 @@ late_line now = record { line = line; is_line = is_checked; few = λ n soon. by 
     }
     by (suc n) = rest_is slow refl 9999 refl 898 (omega arith) n 99 (omega arith)
 
-late_frame : IsFrameOf 450 100 rules claim 2001350 late × (2001350 ≡ slow 1 + 1450)
+late_frame : IsFrameOf setup rules claim 449 2001350 late × (2001350 ≡ slow 1 + 1450)
 late_frame = (frame_by late 2001350 (refl, in_time 9999 (omega arith) (omega arith) 898 98 (omega arith)) late_symbols refl (omega arith, omega arith), refl)
 
 -- ---- two pulses, of which the later one rose behind the time of P99: the frame ends 1.547 ms late, so
@@ -232,10 +248,10 @@ past_fault = record {
   earlier = are slow refl 9999 refl 898 (omega arith) 98 (omega arith);
 }
 
-past_frame : IsFrameOf 450 100 rules claim 2001447 past × (2001447 ≡ slow 1 + 1547)
+past_frame : IsFrameOf setup rules claim 449 2001447 past × (2001447 ≡ slow 1 + 1547)
 past_frame = (frame_by past 2001447 (refl, (refl, in_time 9999 (omega arith) (omega arith) 898 97 (omega arith))) past_symbols refl (omega arith, omega arith), refl)
 
 past_line : (now : ℕ) → now ≤ 2101447 → ¬ (IsTrueButForFaults 450 rules noon slow now past)
 past_line now soon is =
-    let near = faults_are_true (within_of 450) rules noon 100 slow slow_steady now 2001447 past claim is past_frame.0 (omega (arith, soon)) in
+    let near = faults_are_true (within_of 450) rules noon 100 slow slow_steady now 2001447 past claim is past_frame.0.late past_frame.0.on_time past_frame.0.last past_frame.0.carries past_frame.0.even (omega (arith, soon)) in
     omega (arith, near.near.least, near.near.most)

@@ -1,6 +1,6 @@
 -- Five lines, of which two lie alike: they send the next second's frame. By a counter that is 100 us a
 -- second fast a device announces the second that the other three tell.
-use Rattle.std.proofs.Common.{◌≡◌, ℕ, zero, suc, ◌+◌, ◌-◌, ◌%◌, ◌^◌, Bool, List, [], ◌∷◌, Some, None, refl, subst, arith, false}
+use Rattle.std.proofs.Common.{◌≡◌, ℕ, zero, suc, ◌+◌, ◌-◌, ◌%◌, ◌^◌, Bool, List, [], ◌∷◌, Some, refl, subst, arith, false}
 use Rattle.std.specs.Prelude.{nat_lt, get_or}
 use Rattle.irig_frame.specs.declared.symbol.Symbol.{Symbol}
 use Rattle.irig_frame.specs.declared.symbol.Symbol.TheVariants.{Bad}
@@ -26,16 +26,16 @@ use Rattle.irig_timekeeper.specs.Keeping.{Keeping, new_keeping, answer_at}
 use Rattle.irig_timekeeper.specs.Truth.{IsDevice, IsToldInHoldover}
 use Rattle.irig_timekeeper.specs.Life.{Call, AreInOrder, AreTrueAtTicks, after_calls}
 use Rattle.irig_timekeeper.specs.Life.Call.{Hear, Tick}
-use Rattle.irig_lines.proofs.LineLaws.{true_lately}
+use Rattle.irig_lines.proofs.LineLaws.{true_by_any}
 use Rattle.irig_timekeeper.proofs.LifeLaws.{device_true}
 use Rattle.irig_lives.proofs.SentLines.{sent_is_checked, checked_is_line}
-use Rattle.irig_lives.proofs.LifeFacts.{edges, steady, at, noon, no_delays, no_table, is_device, rules, claim_of, new_lines, are_new, frame_0, frame_1, told_0, true_claim, width_of}
+use Rattle.irig_lives.proofs.LifeFacts.{edges, steady, at, noon, no_delays, no_table, is_device, rules, claim_of, new_lines, are_new, frame_0, frame_1, told_0, true_claim, width_of, usual}
 use Rattle.irig_lives.specs.Decided.{is_after, have_risen, in_order, is_same, is_pulse_of, last_before, are_lately, are_true_lately, are_true_at_ticks}
 use Rattle.irig_lives.proofs.DecidedLaws.{order_is, truly_is}
 use Rattle.irig_timekeeper.specs.Rule.{step_checked, goes_against}
 
 abbrev clock : ClockRules
-clock = record { reader_rules = record { lock_after = 1; holdover = 100 }; redundancy = of.Five; within = within_of 450; drift_us = 100; delays = no_delays; prefers_frames = false }
+clock = record { reader_rules = record { lock_after = 1; holdover = 100 }; redundancy = of.Five; within = within_of 450; limits = usual; drift_us = 100; delays = no_delays; prefers_frames = false }
 
 is_device_of_five : IsDevice noon 100 edges clock.reader_rules no_table
 is_device_of_five = record { steady = steady; sound = is_device.sound; knows = is_device.knows; short = is_device.short }
@@ -84,7 +84,7 @@ truth = truly_is 450 rules noon edges line is_line 100 2 (Tick now ∷ calls) re
 -- end, and its bound is 450 us and half of what lies between these
 
 abbrev device : Keeping
-device = new_keeping None rules clock no_table new_lines
+device = new_keeping rules clock no_table new_lines
 
 abbrev beat : Beat
 beat = record {
@@ -101,7 +101,7 @@ answer : answer_at (after_calls device calls) (now % 2 ^ 32) ≡ Some beat
 unfolding calls heard true_pulse false_pulse width_of step_checked goes_against step_of told_of frame_told coded_told ones values_of field_at control_of offset_in utc_minute is_month_end four_years
 answer = refl
 
-told : IsToldInHoldover noon edges 0 0 450 100 100 now beat (at 43201)
+told : IsToldInHoldover noon edges 0 0 clock now beat (at 43201)
 told =
-    device_true None rules clock no_table new_lines 4293400000 are_new (IsTrueLately 450 rules noon edges) noon edges 0 0 is_device_of_five (omega arith)
-    (λ time end pulses c is f soon. true_lately (within_of 450) rules noon 100 edges time end pulses c steady is f soon) calls now beat (at 43201) order truth answer refl
+    device_true rules clock no_table new_lines 4293400000 are_new (IsTrueLately 450 rules noon edges) noon edges 0 0 is_device_of_five (omega arith)
+    (λ time half end pulses c is f soon. true_by_any clock rules noon 100 edges half time end pulses c steady is f soon) calls now beat (at 43201) order truth answer refl

@@ -34,7 +34,7 @@ use Rattle.irig_timekeeper.specs.Keeping.{Keeping, new_keeping, vote_at, answer_
 use Rattle.irig_timekeeper.specs.Truth.{KnowsEnd}
 use Rattle.irig_timekeeper.specs.Life.{Call, after_calls}
 use Rattle.irig_timekeeper.specs.Life.Call.{Hear, Tick}
-use Rattle.irig_lives.proofs.LifeFacts.{rules, no_delays, new_lines, silence, width_of}
+use Rattle.irig_lives.proofs.LifeFacts.{rules, no_delays, new_lines, silence, width_of, usual}
 use Rattle.irig_timekeeper.specs.Rule.{step_checked, goes_against}
 use Rattle.irig_port.specs.declared.told.Told.{Told}
 use Rattle.irig_timekeeper.proofs.GuardedTicks.{tick_guards_vote}
@@ -111,7 +111,7 @@ now_2 = 3002100
 -- ---- what the device says
 
 abbrev device : (prefers_frames : Bool) → List (ℕ × Leap) → Keeping
-device prefers_frames leaps = new_keeping None rules (record { reader_rules = record { lock_after = 1; holdover = 100 }; redundancy = of.One; within = within_of 450; drift_us = 100; delays = no_delays; prefers_frames = prefers_frames }) (knows leaps) new_lines
+device prefers_frames leaps = new_keeping rules (record { reader_rules = record { lock_after = 1; holdover = 100 }; redundancy = of.One; within = within_of 450; limits = usual; drift_us = 100; delays = no_delays; prefers_frames = prefers_frames }) (knows leaps) new_lines
 
 abbrev beat : Option UtcSecond → Lock → Cause → Option Claim → ℕ → Bool → Beat
 beat announce l c claim edge against = record { report = record { announce = announce; lock = l; cause = c }; told = record silence { a = told_by claim }; edge_us = edge; bound_us = 450; missed = 0; moved = 0; against_table = against }
@@ -136,7 +136,7 @@ unfolding calls_2 calls_1 heard width_of frames step_checked goes_against step_o
 misled = refl
 
 -- nothing either if the line is dark by then, whose word was kept
-dark : answer_at (after_calls (device false inserted) (Tick now_1 ∷ calls_1)) 3006000 ≡ Some (beat None lock.Unlocked cause.LeapGuard None 3000099 false)
+dark : answer_at (after_calls (device false inserted) (Tick now_1 ∷ calls_1)) 3007000 ≡ Some (beat None lock.Unlocked cause.LeapGuard None 3000099 false)
 unfolding calls_2 calls_1 heard width_of frames step_checked goes_against step_of told_of frame_told coded_told ones values_of field_at control_of offset_in utc_minute is_month_end four_years
 dark = refl
 

@@ -37,10 +37,10 @@ use Rattle.irig_timekeeper.specs.Keeping.{Keeping, new_keeping, answer_at}
 use Rattle.irig_timekeeper.specs.Truth.{IsDevice, IsToldInHoldover}
 use Rattle.irig_timekeeper.specs.Life.{Call, AreInOrder, AreTrueAtTicks, after_calls}
 use Rattle.irig_timekeeper.specs.Life.Call.{Hear, Tick}
-use Rattle.irig_lines.proofs.LineLaws.{true_lately}
+use Rattle.irig_lines.proofs.LineLaws.{true_by_any}
 use Rattle.irig_timekeeper.proofs.LifeLaws.{device_true}
 use Rattle.irig_lives.proofs.SentLines.{sent_is_checked, checked_is_line}
-use Rattle.irig_lives.proofs.LifeFacts.{rules, no_delays, new_lines, are_new, silence, width_of, no_table}
+use Rattle.irig_lives.proofs.LifeFacts.{rules, no_delays, new_lines, are_new, silence, width_of, no_table, usual}
 use Rattle.irig_lives.specs.Decided.{is_after, have_risen, in_order, is_same, is_pulse_of, last_before, are_lately, are_true_lately, are_true_at_ticks}
 use Rattle.irig_lives.proofs.DecidedLaws.{order_is, truly_is}
 use Rattle.irig_timekeeper.specs.Rule.{step_checked, goes_against}
@@ -61,7 +61,7 @@ steady : IsQuartz 100 edges
 steady = record { few = omega arith; steady = record { least = λ n. omega arith; most = λ n. omega arith } }
 
 abbrev clock : ClockRules
-clock = record { reader_rules = record { lock_after = 1; holdover = 100 }; redundancy = of.One; within = within_of 450; drift_us = 100; delays = no_delays; prefers_frames = false }
+clock = record { reader_rules = record { lock_after = 1; holdover = 100 }; redundancy = of.One; within = within_of 450; limits = usual; drift_us = 100; delays = no_delays; prefers_frames = false }
 
 -- 23:59:60 is inserted, or 23:59:59 deleted
 abbrev leaps : Leap → List (ℕ × Leap)
@@ -133,7 +133,7 @@ calls_2 = Tick now_1 ∷ calls_1
 
 -- so many seconds behind the edge, which is told 1 us early
 abbrev behind : ℕ → ℕ
-behind n = 2006000 + 1000000 * n
+behind n = 2007000 + 1000000 * n
 
 abbrev calls_3 : ℕ → List Call
 calls_3 n = Tick (behind n) ∷ calls_2
@@ -152,7 +152,7 @@ truth l = (
 -- ---- what the device says
 
 abbrev device : TableValue → Keeping
-device known = new_keeping None rules clock known new_lines
+device known = new_keeping rules clock known new_lines
 
 abbrev held : Option UtcSecond → Lock → Cause → ℕ → ℕ → ℕ → Beat
 held announce l c edge bound missed = record { report = record { announce = announce; lock = l; cause = c }; told = silence; edge_us = edge; bound_us = bound; missed = missed; moved = 0; against_table = false }
@@ -196,16 +196,16 @@ unknown = (refl, refl)
 -- ---- so the law speaks of it
 
 module _ (l : Leap) (calls : List Call) (now : ℕ) (beat : Beat) (u : UtcSecond) (ordered : AreInOrder 900000 of.One (Tick now ∷ calls)) (are : AreTrueAtTicks (IsTrueLately 450 rules (with_leap l) edges) 0 (Tick now ∷ calls)) where
-  by_law : answer_at (after_calls (device (knows_leap l)) calls) (now % 2 ^ 32) ≡ Some beat → beat.report.announce ≡ Some u → IsToldInHoldover (with_leap l) edges 0 0 450 100 100 now beat u
+  by_law : answer_at (after_calls (device (knows_leap l)) calls) (now % 2 ^ 32) ≡ Some beat → beat.report.announce ≡ Some u → IsToldInHoldover (with_leap l) edges 0 0 clock now beat u
   by_law =
-      device_true None rules clock (knows_leap l) new_lines 900000 are_new (IsTrueLately 450 rules (with_leap l) edges) (with_leap l) edges 0 0 (is_device l) (omega arith)
-      (λ time end pulses c is f soon. true_lately (within_of 450) rules (with_leap l) 100 edges time end pulses c steady is f soon) calls now beat u ordered are
+      device_true rules clock (knows_leap l) new_lines 900000 are_new (IsTrueLately 450 rules (with_leap l) edges) (with_leap l) edges 0 0 (is_device l) (omega arith)
+      (λ time half end pulses c is f soon. true_by_any clock rules (with_leap l) 100 edges half time end pulses c steady is f soon) calls now beat u ordered are
 
-told_60 : IsToldInHoldover (with_leap leap.Insert) edges 0 0 450 100 100 (behind 59) (held (Some (at 86400)) (lock.Holdover 59) cause.Held 61000099 6350 58) (at 86400)
+told_60 : IsToldInHoldover (with_leap leap.Insert) edges 0 0 clock (behind 59) (held (Some (at 86400)) (lock.Holdover 59) cause.Held 61000099 6350 58) (at 86400)
 told_60 = by_law leap.Insert calls_2 (behind 59) _ (at 86400) order.0.3 (truth leap.Insert).0.1 inserted.0 refl
 
-told_new_year : IsToldInHoldover (with_leap leap.Insert) edges 0 0 450 100 100 (behind 60) (held (Some new_year) (lock.Holdover 60) cause.Held 62000099 6450 0) new_year
+told_new_year : IsToldInHoldover (with_leap leap.Insert) edges 0 0 clock (behind 60) (held (Some new_year) (lock.Holdover 60) cause.Held 62000099 6450 0) new_year
 told_new_year = by_law leap.Insert (calls_3 59) (behind 60) _ new_year order.0 (truth leap.Insert).0 inserted.1 refl
 
-told_without_59 : IsToldInHoldover (with_leap leap.Delete) edges 0 0 450 100 100 (behind 58) (held (Some new_year) (lock.Holdover 58) cause.Held 60000099 6250 0) new_year
+told_without_59 : IsToldInHoldover (with_leap leap.Delete) edges 0 0 clock (behind 58) (held (Some new_year) (lock.Holdover 58) cause.Held 60000099 6250 0) new_year
 told_without_59 = by_law leap.Delete (calls_3 57) (behind 58) _ new_year order.1 (truth leap.Delete).1 deleted.1 refl

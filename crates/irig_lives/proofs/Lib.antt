@@ -2,6 +2,7 @@ pub mod SetupLaws
 pub mod DecidedLaws
 pub mod LifeFacts
 pub mod AnnounceFacts
+pub mod QualityFacts
 pub mod WellHeardFacts
 pub mod SentLines
 pub mod FaultLineFacts

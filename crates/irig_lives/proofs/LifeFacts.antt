@@ -1,5 +1,7 @@
 -- A short life for which all premises of a device's laws hold: three lines, of which one lies, by a
 -- counter that is 100 us a second fast and wraps; four ticks.
+use Rattle.irig_lines.specs.VoteLimits.{usual_limits}
+use Rattle.irig_lines.specs.declared.limits.VoteLimits.{VoteLimits}
 use Rattle.std.proofs.Common.{◌≡◌, ℕ, zero, suc, ◌+◌, ◌-◌, ◌*◌, ◌/◌, ◌%◌, ◌^◌, ◌<◌, ◌≤◌, ◌⊎◌, Bool, true, false, cond, not, ◌&&◌, List, [], ◌∷◌, ◌++◌, length, Some, None, refl, sym, subst, ap, ◌∙◌, arith, inl, inr}
 use Rattle.std.specs.Prelude.{pos, slice_get, ◌==◌, nat_lt, nat_le, get_or}
 use Rattle.std.proofs.lemmas.Bool.{cases_Bool, lt-ltb}
@@ -54,7 +56,7 @@ use Rattle.irig_timekeeper.specs.Truth.{IsDevice, IsToldInHoldover, IsLaterSecon
 use Rattle.irig_timekeeper.specs.Life.{Made, life_of, Call, Made, AreTrueLately, last_tick, AreInOrder, AreTrueAtTicks, after_calls}
 use Rattle.irig_timekeeper.specs.Life.Call.{Hear, Tick}
 use Rattle.irig_timekeeper.specs.Healing.{HasHealed}
-use Rattle.irig_lines.proofs.LineLaws.{true_lately}
+use Rattle.irig_lines.proofs.LineLaws.{true_by_any}
 use Rattle.irig_timekeeper.proofs.LifeLaws.{TellAlwaysTruly, device_true, device_in_order}
 use Rattle.irig_timekeeper.proofs.StrayLaws.{never_strays}
 use Rattle.irig_timekeeper.proofs.ClockLines.{clocks_tell_truly}
@@ -89,8 +91,12 @@ true_table = record { leaps = λ day end from to. absurd (omega (arith, from, to
 abbrev pub no_delays : Delays
 no_delays = record { a = pos 0; b = pos 0; c = pos 0; d = pos 0; e = pos 0 }
 
+-- no frame is too early, and none of a clock that says 1 ms has a vote
+abbrev pub usual : VoteLimits
+usual = record { limits = usual_limits; few = omega arith }
+
 abbrev pub clock : ClockRules
-clock = record { reader_rules = record { lock_after = 2; holdover = 100 }; redundancy = of.Three; within = within_of 450; drift_us = 100; delays = no_delays; prefers_frames = false }
+clock = record { reader_rules = record { lock_after = 2; holdover = 100 }; redundancy = of.Three; within = within_of 450; limits = usual; drift_us = 100; delays = no_delays; prefers_frames = false }
 
 pub is_device : IsDevice noon 100 edges clock.reader_rules no_table
 is_device = record { steady = steady; sound = is_timeline; knows = inl true_table; short = omega arith }
@@ -123,7 +129,7 @@ abbrev pub frame_2 : List Symbol
 frame_2 = Marker ∷ Zero ∷ One ∷ Zero ∷ Zero ∷ Zero ∷ Zero ∷ Zero ∷ Zero ∷ Marker ∷ Zero ∷ Zero ∷ Zero ∷ Zero ∷ Zero ∷ Zero ∷ Zero ∷ Zero ∷ Zero ∷ Marker ∷ Zero ∷ One ∷ Zero ∷ Zero ∷ Zero ∷ One ∷ Zero ∷ Zero ∷ Zero ∷ Marker ∷ Zero ∷ One ∷ One ∷ Zero ∷ Zero ∷ Zero ∷ One ∷ One ∷ Zero ∷ Marker ∷ One ∷ One ∷ Zero ∷ Zero ∷ Zero ∷ Zero ∷ Zero ∷ Zero ∷ Zero ∷ Marker ∷ Zero ∷ One ∷ One ∷ Zero ∷ Zero ∷ One ∷ Zero ∷ Zero ∷ Zero ∷ Marker ∷ Zero ∷ Zero ∷ Zero ∷ Zero ∷ Zero ∷ Zero ∷ Zero ∷ Zero ∷ Zero ∷ Marker ∷ Zero ∷ Zero ∷ Zero ∷ Zero ∷ Zero ∷ Zero ∷ Zero ∷ Zero ∷ Zero ∷ Marker ∷ Zero ∷ One ∷ Zero ∷ Zero ∷ Zero ∷ Zero ∷ One ∷ One ∷ Zero ∷ Marker ∷ Zero ∷ Zero ∷ One ∷ Zero ∷ One ∷ Zero ∷ One ∷ Zero ∷ Zero ∷ Marker ∷ []
 
 -- a frame that carries no claim: all its digits are 1
-abbrev nothing : List Symbol
+abbrev pub nothing : List Symbol
 nothing = Marker ∷ One ∷ One ∷ One ∷ One ∷ One ∷ One ∷ One ∷ One ∷ Marker ∷ One ∷ One ∷ One ∷ One ∷ One ∷ One ∷ One ∷ One ∷ One ∷ Marker ∷ One ∷ One ∷ One ∷ One ∷ One ∷ One ∷ One ∷ One ∷ One ∷ Marker ∷ One ∷ One ∷ One ∷ One ∷ One ∷ One ∷ One ∷ One ∷ One ∷ Marker ∷ One ∷ One ∷ One ∷ One ∷ One ∷ One ∷ One ∷ One ∷ One ∷ Marker ∷ One ∷ One ∷ One ∷ One ∷ One ∷ One ∷ One ∷ One ∷ One ∷ Marker ∷ One ∷ One ∷ One ∷ One ∷ One ∷ One ∷ One ∷ One ∷ One ∷ Marker ∷ One ∷ One ∷ One ∷ One ∷ One ∷ One ∷ One ∷ One ∷ One ∷ Marker ∷ One ∷ One ∷ One ∷ One ∷ One ∷ One ∷ One ∷ One ∷ One ∷ Marker ∷ One ∷ One ∷ One ∷ One ∷ One ∷ One ∷ One ∷ One ∷ One ∷ Marker ∷ []
 
 unfoldable pub frame : ℕ → List Symbol
@@ -137,13 +143,13 @@ line k = get_or (frame (k / 100)) (k % 100) Zero
 
 -- ---- what is checked
 
-right : ℕ → Symbol → Bool
+unfoldable pub right : ℕ → Symbol → Bool
 right i Marker = is_marker_place i
 right i Bad = false
 right i Zero = not (is_marker_place i)
 right i One = not (is_marker_place i)
 
-not_true : (b : Bool) → not b ≡ true → b ≡ false
+pub not_true : (b : Bool) → not b ≡ true → b ≡ false
 not_true false e = refl
 not_true true e = absurd cc
 
@@ -154,11 +160,11 @@ right_is i Bad e = absurd cc
 right_is i Zero e = not_true (is_marker_place i) e
 right_is i One e = not_true (is_marker_place i) e
 
-right_from : ℕ → List Symbol → Bool
+unfoldable pub right_from : ℕ → List Symbol → Bool
 right_from i [] = true
 right_from i (x ∷ s) = right i x && right_from (i + 1) s
 
-right_at : (i j : ℕ) (s : List Symbol) → right_from i s ≡ true → j < length s → IsRight (i + j) (Some (get_or s j Zero))
+pub right_at : (i j : ℕ) (s : List Symbol) → right_from i s ≡ true → j < length s → IsRight (i + j) (Some (get_or s j Zero))
 unfolding right_from
 right_at i j [] e less = absurd (omega (arith, less))
 right_at i zero (x ∷ s) e less = let same : i + 0 ≡ i = omega arith in rw same (right_is i x (both (right i x) (right_from (i + 1) s) e).0)
@@ -180,7 +186,7 @@ is_true_line k =
     let none : k % 100 ≡ 0 + k % 100 = omega arith in
     subst (λ (i : ℕ). IsRight i (Some (get_or (frame (k / 100)) (k % 100) Zero))) (sym none) (right_at 0 (k % 100) (frame (k / 100)) is.1 (omega (arith, is.0)))
 
-same_list : (xs ys : List Symbol) → length xs ≡ length ys → ((i : ℕ) → i < length ys → slice_get xs i ≡ slice_get ys i) → xs ≡ ys
+pub same_list : (xs ys : List Symbol) → length xs ≡ length ys → ((i : ℕ) → i < length ys → slice_get xs i ≡ slice_get ys i) → xs ≡ ys
 same_list [] [] l h = refl
 same_list [] (y ∷ ys) l h = absurd cc
 same_list (x ∷ xs) [] l h = absurd cc
@@ -211,7 +217,7 @@ true_claim n sod is less = record {
   mark = (let low : nat_lt sod 86341 ≡ true = lt-ltb sod 86341 less in rw low marked);
 }
 
-same_claim : (c d : Claim) → tells.Claim c ≡ tells.Claim d → c ≡ d
+pub same_claim : (c d : Claim) → tells.Claim c ≡ tells.Claim d → c ≡ d
 same_claim c d e = cc
 
 pub told_0 : told_of rules frame_0 ≡ tells.Claim (claim_of 43200)
@@ -226,13 +232,13 @@ pub told_2 : told_of rules frame_2 ≡ tells.Claim (claim_of 43202)
 unfolding told_of frame_told coded_told ones values_of field_at control_of offset_in utc_minute is_month_end four_years
 told_2 = refl
 
-IsNoClaim : Told → Type 0
+unfoldable pub IsNoClaim : Told → Type 0
 IsNoClaim (tells.Claim c) = ⊥
 IsNoClaim tells.Silence = Unit {0}
 IsNoClaim (tells.Fault f) = Unit {0}
 IsNoClaim (tells.Poor q) = Unit {0}
 
-told_none : IsNoClaim (told_of rules nothing)
+pub told_none : IsNoClaim (told_of rules nothing)
 unfolding IsNoClaim told_of frame_told coded_told ones values_of field_at control_of offset_in utc_minute is_month_end four_years
 told_none = tt
 
@@ -300,7 +306,7 @@ unfolding calls_3 elements_before with_element pulse_told with_tick width_of lie
 truth_4 = truly_is 450 rules noon edges line is_line 400 1 life_4 refl
 
 abbrev pub device : Keeping
-device = new_keeping None rules clock no_table new_lines
+device = new_keeping rules clock no_table new_lines
 
 abbrev pub silence : Tells
 silence = record { a = tells.Silence; b = tells.Silence; c = tells.Silence; d = tells.Silence; e = tells.Silence }
@@ -340,11 +346,11 @@ unfolding calls_3 elements_before with_element pulse_told with_tick width_of lie
 answer_4 = refl
 
 -- so the laws speak of it
-pub truly_told : TellAlwaysTruly (IsTrueLately 450 rules noon edges) 450 100 rules noon edges 0 0
-truly_told now end pulses claim is frame soon = true_lately (within_of 450) rules noon 100 edges now end pulses claim steady is frame soon
+pub truly_told : TellAlwaysTruly (IsTrueLately 450 rules noon edges) clock rules noon edges 0 0
+truly_told now half end pulses claim is frame soon = true_by_any clock rules noon 100 edges half now end pulses claim steady is frame soon
 
-told_4 : IsToldInHoldover noon edges 0 0 450 100 100 now_4 beat_4 (at 43204)
-told_4 = device_true None rules clock no_table new_lines 4293400000 are_new (IsTrueLately 450 rules noon edges) noon edges 0 0 is_device (omega arith) truly_told (Tick now_3 ∷ calls_3) now_4 beat_4 (at 43204) order_4 truth_4 answer_4 refl
+told_4 : IsToldInHoldover noon edges 0 0 clock now_4 beat_4 (at 43204)
+told_4 = device_true rules clock no_table new_lines 4293400000 are_new (IsTrueLately 450 rules noon edges) noon edges 0 0 is_device (omega arith) truly_told (Tick now_3 ∷ calls_3) now_4 beat_4 (at 43204) order_4 truth_4 answer_4 refl
 
 -- clocks that are all 1 ms early: by seconds of UTC that begin so much later the edge that is told lies no
 -- further off than its bound, 950 us, and 1 ms
@@ -357,26 +363,26 @@ by_utc = record { steady = record { few = omega arith; steady = record { least =
 by_clocks : (now : ℕ) (pulses : List Pulse) → IsTrueLately 450 rules noon edges now pulses → IsTrueByItsClock 1000 450 100 rules noon utc now pulses
 by_clocks now pulses is = record { own = edges; steady = steady; near = λ n. record { least = omega arith; most = omega arith }; truth = is }
 
-told_early : IsToldInHoldover noon utc 1000 1000 450 100 100 now_4 beat_4 (at 43204)
+told_early : IsToldInHoldover noon utc 1000 1000 clock now_4 beat_4 (at 43204)
 told_early =
-    device_true None rules clock no_table new_lines 4293400000 are_new (IsTrueByItsClock 1000 450 100 rules noon utc) noon utc 1000 1000 by_utc (omega arith) (clocks_tell_truly 1000 (within_of 450) rules noon 100 utc)
+    device_true rules clock no_table new_lines 4293400000 are_new (IsTrueByItsClock 1000 450 100 rules noon utc) noon utc 1000 1000 by_utc (omega arith) (clocks_tell_truly 1000 clock rules noon utc)
     (Tick now_3 ∷ calls_3) now_4 beat_4 (at 43204) order_4 (still_true (IsTrueLately 450 rules noon edges) (IsTrueByItsClock 1000 450 100 rules noon utc) by_clocks 1 life_4 truth_4) answer_4 refl
 
 -- the vote of the tick before leaves 1,700 us, from 851 us before the edge on, and a second later the
 -- counter's drift 100 us more at each end; no vote contradicted another
 made_450 : Made
-made_450 = record { limits = None; rules = rules; clock = clock; table = no_table; lines = new_lines; fresh = are_new }
+made_450 = record { rules = rules; clock = clock; table = no_table; lines = new_lines; fresh = are_new }
 
 no_stray : (life_of made_450 (Tick now_4 ∷ (Tick now_3 ∷ calls_3))).state.strays ≡ 0
 unfolding made_450
 no_stray = never_strays noon edges made_450 4293400000 (Tick now_4 ∷ (Tick now_3 ∷ calls_3)) (record { is = is_device; order = order_4; truth = truth_4 })
 
 later_4 : IsLaterSecond noon (at 43203) (at 43204)
-later_4 = device_in_order None rules clock no_table new_lines 4293400000 are_new (IsTrueLately 450 rules noon edges) noon edges 0 0 is_device (omega arith) truly_told calls_3 [] now_3 now_4 beat_3 beat_4 (at 43203) (at 43204) order_4 truth_4 answer_3 refl answer_4 refl
+later_4 = device_in_order rules clock no_table new_lines 4293400000 are_new (IsTrueLately 450 rules noon edges) noon edges 0 0 is_device (omega arith) truly_told calls_3 [] now_3 now_4 beat_3 beat_4 (at 43203) (at 43204) order_4 truth_4 answer_3 refl answer_4 refl
 
 -- by the vote of its third second it has healed from whatever came before
 abbrev pub made : Made
-made = record { limits = None; rules = rules; clock = clock; table = no_table; lines = new_lines; fresh = are_new }
+made = record { rules = rules; clock = clock; table = no_table; lines = new_lines; fresh = are_new }
 
 abbrev vote_3 : Vote
 vote_3 = record { claim = claim_of 43202; edge_us = 1533003; bound_us = 850 }
@@ -416,8 +422,8 @@ answer_by_lines : answer_at (after_calls device by_lines) (now_3 % 2 ^ 32) ≡ S
 unfolding by_lines queued elements_before with_element pulse_told with_tick width_of lie line frame step_checked goes_against step_of told_of frame_told coded_told ones values_of field_at control_of offset_in utc_minute is_month_end four_years
 answer_by_lines = refl
 
-told_by_lines : IsToldInHoldover noon edges 0 0 450 100 100 now_3 beat_3 (at 43203)
-told_by_lines = device_true None rules clock no_table new_lines 4293400000 are_new (IsTrueLately 450 rules noon edges) noon edges 0 0 is_device (omega arith) truly_told by_lines now_3 beat_3 (at 43203) order_by_lines truth_by_lines answer_by_lines refl
+told_by_lines : IsToldInHoldover noon edges 0 0 clock now_3 beat_3 (at 43203)
+told_by_lines = device_true rules clock no_table new_lines 4293400000 are_new (IsTrueLately 450 rules noon edges) noon edges 0 0 is_device (omega arith) truly_told by_lines now_3 beat_3 (at 43203) order_by_lines truth_by_lines answer_by_lines refl
 
 -- ---- what the premises let through
 
@@ -501,7 +507,7 @@ too_late : (start rise : ℕ) → ¬ AreInOrder start of.Three (Hear 0 rise 2000
 too_late start rise order = (let late : rise + 500001 ≤ rise + 500000 = (order.1 refl).1 in omega (arith, late))
 
 -- a restart leaves what is new
-as_new : (k : Keeping) (lines : Lines) → restarted k lines ≡ new_keeping k.limits k.rules k.clock k.table lines
+as_new : (k : Keeping) (lines : Lines) → restarted k lines ≡ new_keeping k.rules k.clock k.table lines
 as_new k lines = refl
 
 -- a line that is stuck high for half a second or longer changes nothing, and ends nothing that the

@@ -1,6 +1,7 @@
 -- Whatever its rules, a device that holds over for 58 seconds or more is misled by its table at the end
 -- of a month without a leap. f + 1 lines send true frames until it locks at 23:59:01, and then all are
 -- dark. The table says that 23:59:59 is deleted.
+use Rattle.irig_port.specs.Limits.{IsWithin}
 use Rattle.std.proofs.Common.{◌≡◌, ◌∙◌, ℕ, ◌+◌, ◌-◌, ◌*◌, ◌%◌, ◌^◌, ◌<◌, ◌≤◌, List, [], ◌∷◌, Option, Some, None, refl, sym, ap, subst, arith, inl, inr}
 use Rattle.std.specs.Prelude.{nat_lt, cond}
 use Rattle.std.proofs.lemmas.Bool.{lt-ltb, cases_lt}
@@ -31,7 +32,7 @@ use Rattle.irig_timekeeper.specs.Truth.{IsDevice, IsEdgeAt, IsOnTrack, StandsAt}
 use Rattle.irig_timekeeper.specs.Life.{Call, Made, pulses_on, AreInOrder, AreTrueLately, AreTrueAtTicks, after_calls, device_of}
 use Rattle.irig_timekeeper.specs.Life.Call.{Tick}
 use Rattle.irig_lives.specs.Misled.{IsMisled}
-use Rattle.irig_lines.proofs.LineLaws.{true_lately}
+use Rattle.irig_lines.proofs.LineLaws.{true_by_any}
 use Rattle.irig_timekeeper.proofs.StrayLaws.{never_doubts}
 use Rattle.irig_timekeeper.proofs.LifeLaws.{truth_before, begins, lines_after, ticks}
 use Rattle.irig_lives.proofs.LifeFacts.{new_lines, are_new}
@@ -62,7 +63,7 @@ still_after : (ps : List Pulse) (now then : ℕ) → now ≤ then → IsAfter ps
 still_after [] now then later after = tt
 still_after (p ∷ ps) now then later after = omega (arith, later, after)
 
-module _ (rules : Rules) (clock : ClockRules) (range : IsReaderRules clock.reader_rules) (few : clock.drift_us ≤ 100) (short : (clock.reader_rules.holdover + 2) * clock.drift_us ≤ 490000) (long : 58 ≤ clock.reader_rules.holdover) where
+module _ (rules : Rules) (clock : ClockRules) (range : IsReaderRules clock.reader_rules) (few : clock.drift_us ≤ 100) (short : (clock.reader_rules.holdover + 2) * clock.drift_us ≤ 490000) (long : 58 ≤ clock.reader_rules.holdover) (some : 1 ≤ clock.limits.limits.poor_from) (late : clock.limits.limits.not_before ≤ 30) where
   abbrev locks : ℕ
   locks = clock.reader_rules.lock_after
 
@@ -109,6 +110,14 @@ module _ (rules : Rules) (clock : ClockRules) (range : IsReaderRules clock.reade
   carried : (f : ℕ) → f < locks + 2 → sent.Carried rules lie f (sent.frame rules lie lie_is f)
   carried f low = sent.carried rules lie lie_is f (at (first + f)) (second f (omega (arith, low)))
 
+  votes : (f : ℕ) (low : f < locks + 2) → IsWithin (Some clock.limits.limits) (sent.frame rules lie lie_is f) (carried f low).0
+  unfolding carried
+  votes f low =
+      let is = second f (omega (arith, low)) in
+      let own = carried f low in
+      let same = ap (λ (u : UtcSecond). u.day) (one_second lie f own.0.at (at (first + f)) (claimed lie f own.0 own.1) is) in
+      sent.is_within rules lie lie_is clock.limits.limits f (at (first + f)) is some (subst (λ (d : ℕ). clock.limits.limits.not_before ≤ d) (sym same) late)
+
   unmarked : (leaps : List (ℕ × Leap)) (f : ℕ) → f < locks + 2 → true_mark leaps (at (first + f)) ≡ Unspoken
   unmarked leaps f low = rw (known_first_end, lt-ltb (first + f) 86341 (omega (arith, low, fits))) refl
 
@@ -126,8 +135,8 @@ module _ (rules : Rules) (clock : ClockRules) (range : IsReaderRules clock.reade
 
   -- ---- 23:59:01 is announced
 
-  abbrev told : sent.IsTold rules clock range deletion lie device (record { leaps = λ day end from to. refl }) (sent.frame rules lie lie_is) carried (at (first + (1 + 1 + locks)))
-  told = sent.told rules clock range deletion lie device (record { leaps = λ day end from to. refl }) (sent.frame rules lie lie_is) carried (at (first + (1 + 1 + locks))) (second (1 + 1 + locks) (omega arith))
+  abbrev told : sent.IsTold rules clock range deletion lie device (record { leaps = λ day end from to. refl }) (sent.frame rules lie lie_is) carried votes (at (first + (1 + 1 + locks)))
+  told = sent.told rules clock range deletion lie device (record { leaps = λ day end from to. refl }) (sent.frame rules lie lie_is) carried votes (at (first + (1 + 1 + locks))) (second (1 + 1 + locks) (omega arith))
 
   abbrev n : ℕ
   n = 1 + 1 + locks
@@ -169,17 +178,17 @@ module _ (rules : Rules) (clock : ClockRules) (range : IsReaderRules clock.reade
   table_misleads =
       let a = told.a in
       let calls : List Call = Tick a.now ∷ a.earlier in
-      let now : ℕ = told.edge + 58005000 in
+      let now : ℕ = told.edge + 58006000 in
       let k : Keeping = after_calls new calls in
       let e : ℕ = a.beat.edge_us in
       let left = left_by (after_calls new a.earlier) (a.now % 2 ^ 32) (at (first + n)) a.beat a.answer a.says in
-      let track = (ticks None rules clock deletion new_lines 9999000 are_new (IsTrueLately clock.within.us rules lie edges) lie edges 0 0 device (omega arith)
-      (λ time end pulses claim is frame soon. true_lately clock.within rules lie clock.drift_us edges time end pulses claim device.steady is frame soon) a.earlier a.now told.order told.truth).track in
+      let track = (ticks rules clock deletion new_lines 9999000 are_new (IsTrueLately clock.within.us rules lie edges) lie edges 0 0 device (omega arith)
+      (λ time half end pulses claim is frame soon. true_by_any clock rules lie clock.drift_us edges half time end pulses claim device.steady is frame soon) a.earlier a.now told.order told.truth).track in
       let alone = stands a.now k.state.reader k.state.bound_us k.state.edge_us e left.h left.edge left.reader left.last left.age track in
       let many = (many_alone clock.reader_rules deletion lie lie_is (record { leaps = λ day end from to. refl }) clock.prefers_frames n 57 k.state.reader then_second alone (omega (arith, long)) then_seconds of_that_day).1 in
       let late : a.now ≤ now = omega (arith, told.at.soon) in
       let order : AreInOrder 9999000 clock.redundancy (Tick now ∷ calls) = (late, omega (arith, told.at.come), (λ line. still_after (pulses_on line a.earlier) (a.now + 4000) (now + 4000) (omega (arith, late)) (told.order.2 line)), told.order) in
-      let setup = (lines_after new 9999000 (begins None rules clock deletion new_lines 9999000 are_new) calls now order).same in
+      let setup = (lines_after new 9999000 (begins rules clock deletion new_lines 9999000 are_new) calls now order).same in
       let says : (step_behind k.clock.prefers_frames k.clock.reader_rules k.table 57 k.state.reader None).report.announce ≡ Some new_month =
       ap (λ (c : ClockRules). (step_behind c.prefers_frames c.reader_rules k.table 57 k.state.reader None).report.announce) setup.clock
       ∙ ap (λ (x : TableValue). (step_behind clock.prefers_frames clock.reader_rules x 57 k.state.reader None).report.announce) setup.table ∙ many in
@@ -190,7 +199,7 @@ module _ (rules : Rules) (clock : ClockRules) (range : IsReaderRules clock.reade
       let edge = own_edge_at a.now now late (omega (arith, told.at.come)) e told.edge told.at 58 (sym come) (omega arith) in
       let same : told.m ≡ n = omega (arith, told.second.sum, (second n (omega arith)).sum) in
       let truths = truth_before (IsTrueLately clock.within.us rules truth edges) (f_of clock.redundancy) a.later calls
-      (subst (AreTrueAtTicks (IsTrueLately clock.within.us rules truth edges) (f_of clock.redundancy)) a.are (sent.all_true rules clock range deletion lie device (record { leaps = λ day end from to. refl }) (sent.frame rules lie lie_is) carried truth carried_truth)) in
+      (subst (AreTrueAtTicks (IsTrueLately clock.within.us rules truth edges) (f_of clock.redundancy)) a.are (sent.all_true rules clock range deletion lie device (record { leaps = λ day end from to. refl }) (sent.frame rules lie lie_is) carried votes truth carried_truth)) in
       let lately : AreTrueLately (IsTrueLately clock.within.us rules truth edges) (f_of clock.redundancy) now calls = record {
         untrue = truths.0.untrue;
         few = truths.0.few;

@@ -1,6 +1,9 @@
 -- Whatever its rules, a device is misled by more than f lines that send the time of a clock a second
 -- behind: by its own laws it announces what that clock says.
-use Rattle.std.proofs.Common.{ℕ, ◌+◌, ◌*◌, ◌<◌, ◌≤◌, [], ◌∷◌, refl, ap, subst, arith, inl}
+use Rattle.irig_hold.proofs.HoldLaws.{claimed}
+use Rattle.irig_time.proofs.TimeLaws.{one_second}
+use Rattle.irig_port.specs.Limits.{IsWithin}
+use Rattle.std.proofs.Common.{ℕ, ◌+◌, ◌*◌, ◌<◌, ◌≤◌, [], ◌∷◌, refl, ap, subst, arith, inl, Some, sym}
 use Rattle.irig_time.specs.declared.second.UtcSecond.{UtcSecond}
 use Rattle.irig_time.specs.declared.rules.Rules.{Rules}
 use Rattle.irig_time.specs.Timelines.{TimelineValue, times, IsSecond}
@@ -51,7 +54,7 @@ no_table = table 0 []
 pub true_table : (sod : ℕ) → IsTrueTable (from sod) no_table
 true_table sod = record { leaps = λ day end low high. absurd (omega (arith, low, high)) }
 
-module _ (rules : Rules) (clock : ClockRules) (range : IsReaderRules clock.reader_rules) (few : clock.drift_us ≤ 100) (short : (clock.reader_rules.holdover + 2) * clock.drift_us ≤ 490000) where
+module _ (rules : Rules) (clock : ClockRules) (range : IsReaderRules clock.reader_rules) (few : clock.drift_us ≤ 100) (short : (clock.reader_rules.holdover + 2) * clock.drift_us ≤ 490000) (some : 1 ≤ clock.limits.limits.poor_from) (late : clock.limits.limits.not_before ≤ 6205) where
   pub device : IsDevice lie clock.drift_us edges clock.reader_rules no_table
   device = record { steady = steady clock.drift_us few; sound = lie_is; knows = inl (true_table 43200); short = short }
 
@@ -64,12 +67,20 @@ module _ (rules : Rules) (clock : ClockRules) (range : IsReaderRules clock.reade
   carried : (f : ℕ) → f < clock.reader_rules.lock_after + 2 → sent.Carried rules lie f (sent.frame rules lie lie_is f)
   carried f low = sent.carried rules lie lie_is f (at (43200 + f)) (second f (omega (arith, low, range.lock_after.1)))
 
+  votes : (f : ℕ) (low : f < clock.reader_rules.lock_after + 2) → IsWithin (Some clock.limits.limits) (sent.frame rules lie lie_is f) (carried f low).0
+  unfolding carried
+  votes f low =
+      let is = second f (omega (arith, low, range.lock_after.1)) in
+      let own = carried f low in
+      let same = ap (λ (u : UtcSecond). u.day) (one_second lie f own.0.at (at (43200 + f)) (claimed lie f own.0 own.1) is) in
+      sent.is_within rules lie lie_is clock.limits.limits f (at (43200 + f)) is some (subst (λ (d : ℕ). clock.limits.limits.not_before ≤ d) (sym same) late)
+
   pub lines_mislead : IsMisled truth made (f_of clock.redundancy + 1)
   lines_mislead =
       let u : UtcSecond = at (43200 + (1 + 1 + clock.reader_rules.lock_after)) in
-      let told = sent.told rules clock range no_table lie device (true_table 43200) (sent.frame rules lie lie_is) carried u (second (1 + 1 + clock.reader_rules.lock_after) (omega (arith, range.lock_after.1))) in
+      let told = sent.told rules clock range no_table lie device (true_table 43200) (sent.frame rules lie lie_is) carried votes u (second (1 + 1 + clock.reader_rules.lock_after) (omega (arith, range.lock_after.1))) in
       let a = told.a in
-      let others = sent.others_true rules clock range no_table lie device (true_table 43200) (sent.frame rules lie lie_is) carried truth in
+      let others = sent.others_true rules clock range no_table lie device (true_table 43200) (sent.frame rules lie lie_is) carried votes truth in
       record {
         edges = edges;
         steady = steady clock.drift_us few;

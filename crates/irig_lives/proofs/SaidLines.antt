@@ -27,12 +27,12 @@ use Rattle.irig_timekeeper.specs.Life.{Call, Made, life_of, last_tick, pulses_on
 use Rattle.irig_timekeeper.specs.Life.Call.{Hear, Tick}
 use Rattle.irig_timekeeper.specs.States.{state_of}
 use Rattle.irig_timekeeper.specs.LineTruths.{is_untrue, is_false, HasSentFalsely, HasSentTruly}
-use Rattle.irig_lines.proofs.LineLaws.{true_lately}
+use Rattle.irig_lines.proofs.LineLaws.{true_by_any}
 use Rattle.irig_timekeeper.proofs.LifeLaws.{TellAlwaysTruly}
 use Rattle.irig_timekeeper.proofs.StateLaws.{true_line, true_at_tick, said_rightly, again}
 use Rattle.irig_lives.specs.Decided.{is_after, have_risen, in_order, is_same, is_pulse_of, last_before, are_lately, are_true_lately, are_true_at_ticks}
 use Rattle.irig_lives.proofs.DecidedLaws.{order_is, truly_is, lately_decided}
-use Rattle.irig_lives.proofs.LifeFacts.{edges, noon, no_delays, no_table, is_device, rules, new_lines, are_new, made, frame, line, is_line, width_of, lie, pulse_told, with_element, with_tick, elements_before, calls_3, now_3, now_4, life_4, order_4, truth_4, truly_told}
+use Rattle.irig_lives.proofs.LifeFacts.{edges, noon, no_delays, no_table, is_device, rules, new_lines, are_new, made, frame, line, is_line, width_of, lie, pulse_told, with_element, with_tick, elements_before, calls_3, now_3, now_4, life_4, order_4, truth_4, truly_told, usual}
 use Rattle.irig_timekeeper.specs.Rule.{step_checked, goes_against}
 
 -- ---- the calls: 300 elements of three lines, and a tick 2 ms behind each edge. The pulses of line 0 come
@@ -167,13 +167,13 @@ steady : IsQuartz 1 exact
 steady = record { few = omega arith; steady = record { least = λ n. omega arith; most = λ n. omega arith } }
 
 abbrev exact_clock : ClockRules
-exact_clock = record { reader_rules = record { lock_after = 1; holdover = 100 }; redundancy = of.Three; within = within_of 10; drift_us = 1; delays = no_delays; prefers_frames = false }
+exact_clock = record { reader_rules = record { lock_after = 1; holdover = 100 }; redundancy = of.Three; within = within_of 10; limits = usual; drift_us = 1; delays = no_delays; prefers_frames = false }
 
 by_counter : IsDevice noon 1 exact exact_clock.reader_rules no_table
 by_counter = record { steady = steady; sound = is_device.sound; knows = is_device.knows; short = omega arith }
 
 abbrev exact_made : Made
-exact_made = record { limits = None; rules = rules; clock = exact_clock; table = no_table; lines = new_lines; fresh = are_new }
+exact_made = record { rules = rules; clock = exact_clock; table = no_table; lines = new_lines; fresh = are_new }
 
 abbrev exact_now : ℕ
 exact_now = 4002003
@@ -192,8 +192,8 @@ exact_truth = truly_is 10 rules noon exact line is_line 300 1 (Tick exact_now �
 exact_lives : LivesTruly (IsTrueLately 10) noon exact exact_made 900000 (Tick exact_now ∷ exact_calls)
 exact_lives = record { is = by_counter; order = exact_order; truth = exact_truth }
 
-exact_told : TellAlwaysTruly (IsTrueLately 10 rules noon exact) 10 1 rules noon exact 0 0
-exact_told now end pulses claim is frame soon = true_lately (within_of 10) rules noon 1 exact now end pulses claim steady is frame soon
+exact_told : TellAlwaysTruly (IsTrueLately 10 rules noon exact) exact_clock rules noon exact 0 0
+exact_told now half end pulses claim is frame soon = true_by_any exact_clock rules noon 1 exact half now end pulses claim steady is frame soon
 
 exact_line : IsTrueLately 10 rules noon exact (exact_now - 1500000) (pulses_on 1 exact_calls)
 unfolding exact_calls elements said behind_edge width_of line frame are_lately last_before is_pulse_of is_same

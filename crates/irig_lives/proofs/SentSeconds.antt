@@ -1,5 +1,10 @@
 -- A device whose first f + 1 lines send the seconds of a clock, as many in a row as it locks after and
 -- two more, and nothing behind them, and whose other lines are dark: it announces the last of them.
+use Rattle.irig_gen.specs.Zones.{zone_at}
+use Rattle.irig_port.specs.declared.limits.Limits.{Limits}
+use Rattle.irig_control.specs.Control.{control_of}
+use Rattle.irig_control.specs.declared.control.Control.{Control}
+use Rattle.irig_port.proofs.LimitLaws.{claim_within}
 use Rattle.std.proofs.Common.{◌≡◌, ◌∙◌, ℕ, ◌+◌, ◌-◌, ◌*◌, ◌/◌, ◌%◌, ◌<◌, ◌≤◌, Bool, false, List, [], ◌∷◌, ◌++◌, drop, length, Option, Some, None, pos, refl, sym, ap, subst, arith, inl, inr, append-nil}
 use Rattle.std.specs.Prelude.{nat_lt, count_by, get_or, unwrap_or}
 use Rattle.std.specs.List.{range_with_len}
@@ -15,14 +20,14 @@ use Rattle.irig_time.specs.declared.second.UtcSecond.{UtcSecond}
 use Rattle.irig_time.specs.declared.rules.Rules.{Rules}
 use Rattle.irig_time.specs.declared.claim.Claim.{Claim}
 use Rattle.irig_time.specs.Carries.{Carries}
-use Rattle.irig_time.specs.Timelines.{TimelineValue, IsSecond, IsTrueClaim}
+use Rattle.irig_time.specs.Timelines.{TimelineValue, IsSecond, IsTrueClaim, leap_of}
 use Rattle.irig_time.specs.TimelineFaults.{IsTimeline}
 use Rattle.irig_time.specs.Tables.{TableValue}
-use Rattle.irig_gen.specs.Frames.{GeneratorValue, gen, IsFrameOrNone}
+use Rattle.irig_gen.specs.Frames.{GeneratorValue, gen, IsFrameOrNone, control_at}
 use Rattle.irig_gen.specs.Sent.{frame_of}
 use Rattle.irig_gen.proofs.SentLaws.{frame_of_is}
-use Rattle.irig_gen.proofs.GenLaws.{true_frames}
-use Rattle.irig_port.specs.Limits.{told_within}
+use Rattle.irig_gen.proofs.GenLaws.{true_frames, control_back, control_fits}
+use Rattle.irig_port.specs.Limits.{told_within, IsWithin, quality_in}
 use Rattle.irig_port.proofs.CarriesLaws.{carries_is_told}
 use Rattle.irig_hold.specs.Truth.{IsTrueTable}
 use Rattle.irig_vote.specs.declared.redundancy.Redundancy.{Redundancy}
@@ -37,7 +42,7 @@ use Rattle.irig_timekeeper.specs.Truth.{IsDevice, IsEdgeAt}
 use Rattle.irig_timekeeper.specs.Life.{Call, Made, pulses_on, last_tick, AreInOrder, AreTrueAtTicks, device_of}
 use Rattle.irig_timekeeper.specs.Life.Call.{Tick}
 use Rattle.irig_timekeeper.specs.Loops.{ComeInARow}
-use Rattle.irig_lines.proofs.LineLaws.{true_lately}
+use Rattle.irig_lines.proofs.LineLaws.{true_by_any}
 use Rattle.irig_timekeeper.proofs.LifeLaws.{device_true, order_before, truth_before, truth_over}
 use Rattle.irig_lives.proofs.LifeFacts.{new_lines, are_new}
 use Rattle.irig_timekeeper.proofs.LoopLaws.{polling_announces}
@@ -65,6 +70,21 @@ module _ (rules : Rules) (t : TimelineValue) (sound : IsTimeline t) where
       by None none = absurd (none u second)
       by (Some s) is = true_frames generator t f s (record { sound = refl }) sound is
 
+  -- they say quality 0, and so have a vote of any device that does not ask for a later day
+  says_no_quality : (f : ℕ) (u : UtcSecond) → IsSecond t f u → quality_in (frame f) ≡ 0
+  unfolding frame
+  says_no_quality f u second = by (frame_of None generator t f) (frame_of_is None generator t f (record { sound = refl }) sound)
+    where
+      by : (o : Option (List Symbol)) → IsFrameOrNone None generator t f o → quality_in (unwrap_or o []) ≡ 0
+      by None none = absurd (none u second)
+      by (Some s) is =
+          let k = control_at generator t is.second in
+          let sent = control_back is.frame.coded.control k (control_fits rules.sense (zone_at generator.zone generator.changes is.second) generator.changes (leap_of t.leaps is.second.day) is.second (omega arith)) is.frame.unused is.frame.control in
+          ap (λ (w : ℕ). (control_of w).quality) (sym is.frame.reads.control) ∙ ap (λ (c : Control). c.quality) sent
+
+  pub is_within : (limits : Limits) (f : ℕ) (u : UtcSecond) (second : IsSecond t f u) → 1 ≤ limits.poor_from → limits.not_before ≤ (carried f u second).0.at.day → IsWithin (Some limits) (frame f) (carried f u second).0
+  is_within limits f u second some late = (let none = says_no_quality f u second in omega (arith, none, some), late)
+
 -- ---- f + 1 lines
 
 abbrev pub sends : Redundancy → ℕ → Bool
@@ -88,7 +108,7 @@ still_lately within line now then k later (p ∷ ps) (inr new) = inr (new.0, new
 
 module _ (rules : Rules) (clock : ClockRules) (range : IsReaderRules clock.reader_rules) (sheet : TableValue) (t : TimelineValue) (is : IsDevice t clock.drift_us edges clock.reader_rules sheet) where
   abbrev pub made : Made
-  made = record { limits = None; rules = rules; clock = clock; table = sheet; lines = new_lines; fresh = are_new }
+  made = record { rules = rules; clock = clock; table = sheet; lines = new_lines; fresh = are_new }
 
   abbrev n : ℕ
   n = f_of clock.redundancy + 1
@@ -96,7 +116,7 @@ module _ (rules : Rules) (clock : ClockRules) (range : IsReaderRules clock.reade
   abbrev pub seconds : ℕ
   seconds = clock.reader_rules.lock_after + 2
 
-  module _ (right : IsTrueTable t sheet) (frame : ℕ → List Symbol) (carried : (f : ℕ) → f < seconds → Carried rules t f (frame f)) where
+  module _ (right : IsTrueTable t sheet) (frame : ℕ → List Symbol) (carried : (f : ℕ) → f < seconds → Carried rules t f (frame f)) (votes : (f : ℕ) (low : f < seconds) → IsWithin (Some clock.limits.limits) (frame f) (carried f low).0) where
     abbrev line : ℕ → Symbol
     line = line_of frame seconds
 
@@ -121,7 +141,7 @@ module _ (rules : Rules) (clock : ClockRules) (range : IsReaderRules clock.reade
         get_or_from_slice_get (row line (100 * f) 100) i (line (100 * f + i)) d (row-get line (100 * f) 100 i low) ∙ stands f i early low
         ∙ sym (get_or_from_slice_get (frame f) i (get_or (frame f) i Bad) d (slice_get-get_or (frame f) i Bad there))))
 
-    whole : (f : ℕ) → f < seconds → IsWhole clock.within.us None rules t edges (f + 1) (sent line is_line.right (100 * f + 100))
+    whole : (f : ℕ) → f < seconds → IsWhole clock rules t edges (f + 1) (sent line is_line.right (100 * f + 100))
     whole f early =
         let own = carried f early in
         let same : symbols_of_last 100 (sent line is_line.right (100 * f + 100)) ≡ frame f = heard line is_line.right f ∙ as_sent f early in
@@ -137,7 +157,7 @@ module _ (rules : Rules) (clock : ClockRules) (range : IsReaderRules clock.reade
           are = are_recent line is_line.right (100 * f) clock.within.us clock.within.some 100;
           first = leaves line is_line.right clock.within.us f;
           claim = own.0;
-          tells = ap (told_within None rules) same ∙ (carries_is_told rules (frame f) own.0).1 own.2;
+          tells = ap (told_within (Some clock.limits.limits) rules) same ∙ (claim_within (Some clock.limits.limits) rules (frame f) own.0).1 ((carries_is_told rules (frame f) own.0).1 own.2, votes f early);
           truth = own.1;
         }
 
@@ -192,7 +212,7 @@ module _ (rules : Rules) (clock : ClockRules) (range : IsReaderRules clock.reade
               let all : 100 * f + 100 + (count - (100 * f + 100)) ≡ count = omega (arith, low) in
               let left : drop (count - (100 * f + 100)) (pulses_on i (first_calls count)) ≡ sent line is_line.right (100 * f + 100) =
               ap (drop (count - (100 * f + 100))) (sent_on line is_line.right n i count here ∙ ap (sent line is_line.right) (sym all)) ∙ drop_sent line is_line.right (count - (100 * f + 100)) (100 * f + 100) in
-              (count - (100 * f + 100), subst (IsWhole clock.within.us None rules t edges (1 + f)) (sym left) (subst (λ (m : ℕ). IsWhole clock.within.us None rules t edges m (sent line is_line.right (100 * f + 100))) next (whole f low))));
+              (count - (100 * f + 100), subst (IsWhole clock rules t edges (1 + f)) (sym left) (subst (λ (m : ℕ). IsWhole clock rules t edges m (sent line is_line.right (100 * f + 100))) next (whole f low))));
         }
 
     alone : calls ≡ calls ++ []
@@ -240,8 +260,8 @@ module _ (rules : Rules) (clock : ClockRules) (range : IsReaderRules clock.reade
         let says : a.beat.report.announce ≡ Some u = ap (λ (r : Report). r.announce) a.says in
         let order = order_before 9999000 clock.redundancy a.later (Tick a.now ∷ a.earlier) (subst (AreInOrder 9999000 clock.redundancy) a.are ordered) in
         let truth = truth_before (IsTrueLately clock.within.us rules t edges) (f_of clock.redundancy) a.later (Tick a.now ∷ a.earlier) (subst (AreTrueAtTicks (IsTrueLately clock.within.us rules t edges) (f_of clock.redundancy)) a.are (all_true t carried)) in
-        let told = device_true None rules clock sheet new_lines 9999000 are_new (IsTrueLately clock.within.us rules t edges) t edges 0 0 is (omega arith)
-        (λ now end pulses claim is_true frame soon. true_lately clock.within rules t clock.drift_us edges now end pulses claim is.steady is_true frame soon) a.earlier a.now a.beat u order truth a.answer says in
+        let told = device_true rules clock sheet new_lines 9999000 are_new (IsTrueLately clock.within.us rules t edges) t edges 0 0 is (omega arith)
+        (λ now half end pulses claim is_true frame soon. true_by_any clock rules t clock.drift_us edges half now end pulses claim is.steady is_true frame soon) a.earlier a.now a.beat u order truth a.answer says in
         record {
           a = a;
           order = order;

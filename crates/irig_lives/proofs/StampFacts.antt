@@ -30,11 +30,11 @@ use Rattle.irig_timekeeper.specs.Truth.{IsDevice, IsStampedTruly, IsInstant}
 use Rattle.irig_timekeeper.specs.Life.{Call, AreInOrder, AreTrueAtTicks, after_calls}
 use Rattle.irig_timekeeper.specs.Life.Call.{Hear, Tick}
 use Rattle.irig_timekeeper.specs.Rows.{AreToldLast}
-use Rattle.irig_lines.proofs.LineLaws.{true_lately}
+use Rattle.irig_lines.proofs.LineLaws.{true_by_any}
 use Rattle.irig_timekeeper.proofs.RowLaws.{in_a_row, none_lost}
 use Rattle.irig_timekeeper.proofs.StampLaws.{stamped, near_instant}
 use Rattle.irig_lives.proofs.SentLines.{sent_is_checked, checked_is_line}
-use Rattle.irig_lives.proofs.LifeFacts.{at, noon, no_delays, no_table, is_device, rules, claim_of, new_lines, are_new, silence, frame_0, frame_1, told_0, told_1, true_claim, width_of}
+use Rattle.irig_lives.proofs.LifeFacts.{at, noon, no_delays, no_table, is_device, rules, claim_of, new_lines, are_new, silence, frame_0, frame_1, told_0, told_1, true_claim, width_of, usual}
 use Rattle.irig_lives.specs.Decided.{is_after, have_risen, in_order, is_same, is_pulse_of, last_before, are_lately, are_true_lately, are_true_at_ticks}
 use Rattle.irig_lives.proofs.DecidedLaws.{order_is, truly_is}
 use Rattle.irig_timekeeper.specs.Rule.{step_checked, goes_against}
@@ -57,7 +57,7 @@ slow_steady : IsQuartz 100 slow
 slow_steady = record { few = omega arith; steady = record { least = λ n. omega arith; most = λ n. omega arith } }
 
 abbrev clock : ClockRules
-clock = record { reader_rules = record { lock_after = 1; holdover = 100 }; redundancy = of.One; within = within_of 450; drift_us = 100; delays = no_delays; prefers_frames = false }
+clock = record { reader_rules = record { lock_after = 1; holdover = 100 }; redundancy = of.One; within = within_of 450; limits = usual; drift_us = 100; delays = no_delays; prefers_frames = false }
 
 by_counter : (edges : ℕ → ℕ) → IsQuartz 100 edges → IsDevice noon 100 edges clock.reader_rules no_table
 by_counter edges steady = record { steady = steady; sound = is_device.sound; knows = is_device.knows; short = is_device.short }
@@ -124,7 +124,7 @@ instants = (
 -- an element
 
 abbrev device : Keeping
-device = new_keeping None rules clock no_table new_lines
+device = new_keeping rules clock no_table new_lines
 
 abbrev fast_stamp : Stamp
 fast_stamp = record { second = at 43202; offset_us = 250026; bound_us = 450 }
@@ -138,13 +138,13 @@ stamps = (refl, refl)
 
 fast_true : IsStampedTruly noon fast 0 3250225 fast_stamp
 fast_true =
-    stamped None rules clock no_table new_lines 900000 are_new noon fast 0 0 0 (by_counter fast fast_steady) (omega arith) (omega arith) (IsTrueLately 450 rules noon fast) (omega arith)
-    (λ time end pulses c is f soon. true_lately (within_of 450) rules noon 100 fast time end pulses c fast_steady is f soon) by_fast 3250225 asked order.0 fast_truth (omega arith) (omega arith) fast_stamp stamps.0
+    stamped rules clock no_table new_lines 900000 are_new noon fast 0 0 0 (by_counter fast fast_steady) (omega arith) (omega arith) (IsTrueLately 450 rules noon fast) (omega arith)
+    (λ time half end pulses c is f soon. true_by_any clock rules noon 100 fast half time end pulses c fast_steady is f soon) by_fast 3250225 asked order.0 fast_truth (omega arith) (omega arith) fast_stamp stamps.0
 
 slow_true : IsStampedTruly noon slow 0 3249775 slow_stamp
 slow_true =
-    stamped None rules clock no_table new_lines 900000 are_new noon slow 0 0 0 (by_counter slow slow_steady) (omega arith) (omega arith) (IsTrueLately 450 rules noon slow) (omega arith)
-    (λ time end pulses c is f soon. true_lately (within_of 450) rules noon 100 slow time end pulses c slow_steady is f soon) by_slow 3249775 asked order.1 slow_truth (omega arith) (omega arith) slow_stamp stamps.1
+    stamped rules clock no_table new_lines 900000 are_new noon slow 0 0 0 (by_counter slow slow_steady) (omega arith) (omega arith) (IsTrueLately 450 rules noon slow) (omega arith)
+    (λ time half end pulses c is f soon. true_by_any clock rules noon 100 slow half time end pulses c slow_steady is f soon) by_slow 3249775 asked order.1 slow_truth (omega arith) (omega arith) slow_stamp stamps.1
 
 -- what the law says of them: they name instants that lie at most 1,300 us apart, by both bounds and
 -- the drift of two seconds of each. They lie 52 us apart
@@ -159,10 +159,10 @@ together =
 -- their bound, 10 us: that of a true line's frame, 9 us and 1 us for the drift of an element
 
 abbrev exact : ClockRules
-exact = record { reader_rules = record { lock_after = 1; holdover = 100 }; redundancy = of.One; within = within_of 10; drift_us = 100; delays = no_delays; prefers_frames = false }
+exact = record { reader_rules = record { lock_after = 1; holdover = 100 }; redundancy = of.One; within = within_of 10; limits = usual; drift_us = 100; delays = no_delays; prefers_frames = false }
 
 abbrev exact_device : Keeping
-exact_device = new_keeping None rules exact no_table new_lines
+exact_device = new_keeping rules exact no_table new_lines
 
 -- a tick 3 ms behind each edge
 abbrev first_now : ℕ
@@ -251,8 +251,8 @@ stamps_of_row = (refl, refl, refl, refl, refl)
 -- by the laws each has one from the first edge on to that last time
 near : 3000199 < 2000099 + 1500000
 near =
-    in_a_row None rules exact no_table new_lines 900000 are_new (IsTrueLately 10 rules noon fast) noon fast 0 0 (by_counter fast fast_steady) (omega arith)
-    (λ time end pulses c is f soon. true_lately (within_of 10) rules noon 100 fast time end pulses c fast_steady is f soon) calls first_beat then_beat 2000099 3000199 (at 43201) calls_in_order calls_truth row refl refl
+    in_a_row rules exact no_table new_lines 900000 are_new (IsTrueLately 10 rules noon fast) noon fast 0 0 (by_counter fast fast_steady) (omega arith)
+    (λ time half end pulses c is f soon. true_by_any exact rules noon 100 fast half time end pulses c fast_steady is f soon) calls first_beat then_beat 2000099 3000199 (at 43201) calls_in_order calls_truth row refl refl
 
 each_has_one : (time : ℕ) → 2000099 ≤ time → time ≤ 4000209 → (stamp : Stamp) × (stamp_at (after_calls exact_device calls) (time % 2 ^ 32) ≡ Some stamp)
 each_has_one time from upto = none_lost exact_device calls first_beat then_beat 2000099 3000199 (at 43201) (at 43202) row refl refl time near from (omega (arith, upto))

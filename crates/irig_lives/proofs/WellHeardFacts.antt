@@ -4,16 +4,15 @@ use Rattle.std.proofs.Common.{◌≡◌, ◌∙◌, ℕ, zero, suc, ◌+◌, ◌
 use Rattle.std.proofs.lemmas.List.{take-append-drop}
 use Rattle.irig_sync.specs.Edges.{element_at}
 use Rattle.irig_vote.specs.declared.redundancy.Redundancy.TheVariants as of
-use Rattle.irig_lines.specs.Refusals.{within_of}
 use Rattle.irig_lines.specs.Lines.{IsTrueLately}
 use Rattle.irig_timekeeper.specs.Life.{Call, AreInOrder, AreTrueOver, last_tick, pulses_on}
 use Rattle.irig_timekeeper.specs.Life.Call.{Tick}
 use Rattle.irig_timekeeper.specs.Announcing.{ComesWhole, IsWellHeard, AreWellHeard, Announces}
-use Rattle.irig_lines.proofs.LineLaws.{true_lately}
+use Rattle.irig_lines.proofs.LineLaws.{true_by_any}
 use Rattle.irig_timekeeper.proofs.LifeLaws.{begins}
 use Rattle.irig_timekeeper.proofs.LoopLaws.{truth_splits}
 use Rattle.irig_timekeeper.proofs.AnnounceLaws.{announces}
-use Rattle.irig_lives.proofs.LifeFacts.{true_table, edges, at, noon, is_device, rules, device, made, width_of}
+use Rattle.irig_lives.proofs.LifeFacts.{true_table, edges, at, noon, is_device, rules, device, made, width_of, clock}
 use Rattle.irig_lives.specs.Decided.{in_order, have_risen, is_after}
 use Rattle.irig_lives.proofs.DecidedLaws.{order_is}
 use Rattle.irig_lives.proofs.AnnounceFacts.{comes_whole, truly, all_left, sent, polls, with_element, own, others, rise_of, lie, frames, pulse, start, second_4}
@@ -68,7 +67,7 @@ ticks = (refl, refl, refl, refl)
 true_upto : AreTrueOver (IsTrueLately 450 rules noon edges) 1 (upto 405) []
 true_upto = truly 405 (upto 405) (all_left 405 (upto 405) pulses_4 nothing)
 
-module _ (n : ℕ) (low : n < 4) (k : ℕ) (long : 100 * n + 100 ≤ k) (before : ℕ) (last : last_tick start (polls k) ≡ before) (early : before ≤ edges (1 + n) + 3000) (come : edges (1 + n) + 899 ≤ element_at edges k - 1000)
+module _ (n : ℕ) (low : n < 4) (k : ℕ) (long : 100 * n + 100 ≤ k) (before : ℕ) (last : last_tick start (polls k) ≡ before) (early : before ≤ edges (1 + n) + 3000) (come : edges (1 + n) + 1099 ≤ element_at edges k - 1000)
     (soon : element_at edges k - 1000 ≤ edges (1 + n) + 98000) (are : (i : ℕ) → i < 2 → pulses_on i (polls k) ≡ sent i k) (newer older : List Call) (all : newer ++ older ≡ polls k) (truth : AreTrueOver (IsTrueLately 450 rules noon edges) 1 (Tick (element_at edges k - 1000) ∷ newer) older) where
   well : IsWellHeard (IsTrueLately 450 rules noon edges) noon edges device start (1 + n) (Tick (element_at edges k - 1000) ∷ newer) older
   well = record {
@@ -126,6 +125,6 @@ order = order_is start of.Three (upto 405) refl
 -- so its last tick announces
 announced : Announces edges device 4 (at 43204) (upto 405)
 announced =
-    announces (IsTrueLately 450 rules noon edges) noon edges device start (begins made.limits made.rules made.clock made.table made.lines start made.fresh) is_device (inr true_table)
-    (λ now end pulses claim is_true frame soon. true_lately (within_of 450) rules noon 100 edges now end pulses claim is_device.steady is_true frame soon)
+    announces (IsTrueLately 450 rules noon edges) noon edges device start (begins made.rules made.clock made.table made.lines start made.fresh) is_device (inr true_table)
+    (λ now half end pulses claim is_true frame soon. true_by_any clock rules noon 100 edges half now end pulses claim is_device.steady is_true frame soon)
     refl 1 (omega arith) (omega arith) [] start (λ i. tt) (omega arith) (upto 405) four_seconds order (at 43204) second_4

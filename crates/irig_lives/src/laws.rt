@@ -16,7 +16,7 @@ ghost use Rattle.irig_timekeeper.specs.Rule.{against_table, step_behind};
 ghost use Rattle.irig_time.specs.TimelineFaults.{IsTimeline};
 ghost use Rattle.irig_time.specs.Tables.{TableValue};
 ghost use Rattle.irig_vote.specs.Vote.{f_of};
-ghost use Rattle.irig_port.specs.Limits.{told_within};
+ghost use Rattle.irig_port.specs.Limits.{quality_in, told_within};
 ghost use Rattle.irig_port.specs.Hearing.{heard_at, IsHearing};
 ghost use Rattle.irig_lines.specs.Edges.{IsQuartz, IsNear, IsTrueNear};
 ghost use Rattle.irig_lines.specs.Lines.{IsTrueLately, KnowsBegin, IsFrameOf, IfKept, IsAnyEnd, HasJustCome};
@@ -36,9 +36,10 @@ ghost use Rattle.irig_timekeeper.specs.Healing.{HasHealed};
 ghost use Rattle.irig_timekeeper.specs.Measures.{IsMeasured};
 ghost use Rattle.irig_lines.specs.Rates.{rate_of};
 ghost use Rattle.irig_lines.specs.Intervals.{by_vote, carried, cut, contradicts, LiesBetween, AreNear};
-ghost use Rattle.irig_lines.specs.Exactness.{most_drift_us, end_off_us, window_us, vote_us, most_vote_us, most_held_us};
+ghost use Rattle.irig_lines.specs.Exactness.{most_drift_us, end_off_us, window_us, most_vote_us, most_held_us};
+ghost use Rattle.irig_lines.specs.Widths.{vote_us};
 
-use irig_lines::{Anchor, ClockRules, Interval, KeptClaim, KeptFrame, Lines, Rate, Vote, Within};
+use irig_lines::{Anchor, ClockRules, Interval, KeptClaim, KeptFrame, Lines, Rate, Vote};
 use irig_port::Limits;
 use irig_reader::{Cause, ReaderRules};
 use irig_time::{Claim, Rules, UtcSecond};
@@ -60,15 +61,16 @@ pub fn counting_is_right()
 /// What a line keeps is an even frame of its pulses: none at first, and a pulse more goes on, as a
 /// timekeeper hears it, whether its port was emptied before or not.
 pub fn lines_keep_frames()
-    ensures kept { (limits : Option Limits) (rules : Rules) (clock : ClockRules)
+    ensures kept { (rules : Rules) (clock : ClockRules)
         (frame : Option KeptFrame) (heard : List Symbol) (s : Sync) (pulses : List Pulse)
         (begin now time width : ℕ) → IsHearing heard s pulses now → KnowsBegin begin pulses
-        → IfKept IsAnyEnd clock.within.us clock.drift_us rules (claim_kept clock.within.us frame) pulses
+        → IfKept IsAnyEnd clock rules (claim_kept clock frame) pulses
         → IsAfter pulses time → IsSoon now time
-        → IfKept IsAnyEnd clock.within.us clock.drift_us rules (claim_kept clock.within.us (frame_behind
+        → IfKept IsAnyEnd clock rules (claim_kept clock (frame_behind
         clock (place_of s (time % 2 ^ 32) width) begin (time % 2 ^ 32)
-        (told_within limits rules
-        (heard_at (place_of s (time % 2 ^ 32) width) heard width)) frame))
+        (told_within (Some clock.limits.limits) rules
+        (heard_at (place_of s (time % 2 ^ 32) width) heard width))
+        (quality_in (heard_at (place_of s (time % 2 ^ 32) width) heard width)) frame))
         (pulse_at time width ∷ pulses) }
     // In a frame the line knows when the pulse rose that began it.
     ensures begun { (heard : List Symbol) (s : Sync) (pulses : List Pulse)
@@ -83,46 +85,46 @@ pub fn lines_keep_frames()
 /// second before an edge, and the frame ends as near it as the line's pulses do to their places, but
 /// for the drift of an element.
 pub fn kept_frames_are_true()
-    ensures { (within : Within) (rules : Rules) (t : TimelineValue) (d now end : ℕ)
+    ensures { (clock : ClockRules) (rules : Rules) (t : TimelineValue) (d half now end : ℕ)
         (edges : ℕ → ℕ) (pulses : List Pulse) (claim : Claim) → IsQuartz d edges
-        → IsTrueLately within.us rules t edges now pulses → IsFrameOf within.us d rules claim end pulses
-        → now ≤ end + 100000
-        → IsTrueNear t edges (end_off_us within.us d) (end_off_us within.us d) end claim }
+        → IsTrueLately clock.within.us rules t edges now pulses
+        → IsFrameOf clock rules claim half end pulses → now ≤ end + 100000
+        → IsTrueNear t edges (end_off_us clock.within.us d) (end_off_us clock.within.us d) end claim }
 {}
 
 /// A vote is true whenever it is told: if at most f lines were untrue in the last 1.2 s, what lines
 /// agree on is the true claim of the second before an edge, and the edge on which they agree lies no
-/// further from it than the bound that is told, and has come, at most 100 ms ago. What a tick then
+/// further from it than the bound that is told, and has come, at most 103 ms ago. What a tick then
 /// announces by the vote is the second that begins there: wherever the device stood, and whenever
 /// it was called before.
 pub fn votes_are_true()
     ensures vote { (t : TimelineValue) (edges : ℕ → ℕ) (k : Keeping) (now : ℕ)
         (pulses : ℕ → List Pulse) (vote : Vote) → IsQuartz k.clock.drift_us edges
-        → AreHeardTruly (IsTrueLately k.clock.within.us k.rules t edges now) k.clock.within.us
-        k.clock.drift_us k.rules (f_of k.clock.redundancy) now k.state.lines pulses
+        → AreHeardTruly (IsTrueLately k.clock.within.us k.rules t edges now) k.clock
+        k.rules (f_of k.clock.redundancy) now k.state.lines pulses
         → vote_at k (now % 2 ^ 32) ≡ Some vote → IsTrueVote t edges 0 0 now vote }
     ensures second { (t : TimelineValue) (edges : ℕ → ℕ) (k : Keeping) (now : ℕ)
         (pulses : ℕ → List Pulse) (beat : Beat) (u : UtcSecond) → IsQuartz k.clock.drift_us edges
         → IsTimeline t
-        → AreHeardTruly (IsTrueLately k.clock.within.us k.rules t edges now) k.clock.within.us
-        k.clock.drift_us k.rules (f_of k.clock.redundancy) now k.state.lines pulses
+        → AreHeardTruly (IsTrueLately k.clock.within.us k.rules t edges now) k.clock
+        k.rules (f_of k.clock.redundancy) now k.state.lines pulses
         → answer_at k (now % 2 ^ 32) ≡ Some beat → beat.report.cause ≡ Cause.Voted
         → beat.report.announce ≡ Some u → IsToldTruly t edges beat.bound_us beat.bound_us now beat u }
     // So it is by any counter, whatever the setup says of it: the edge lies no further off than that of
     // a vote by such a counter.
     ensures any_counter { (t : TimelineValue) (d : ℕ) (edges : ℕ → ℕ) (k : Keeping) (now : ℕ)
         (pulses : ℕ → List Pulse) (beat : Beat) (u : UtcSecond) → IsQuartz d edges → IsTimeline t
-        → AreHeardTruly (IsTrueLately k.clock.within.us k.rules t edges now) k.clock.within.us
-        k.clock.drift_us k.rules (f_of k.clock.redundancy) now k.state.lines pulses
+        → AreHeardTruly (IsTrueLately k.clock.within.us k.rules t edges now) k.clock
+        k.rules (f_of k.clock.redundancy) now k.state.lines pulses
         → answer_at k (now % 2 ^ 32) ≡ Some beat → beat.report.cause ≡ Cause.Voted
-        → beat.report.announce ≡ Some u → IsToldTruly t edges (vote_us k.clock.within.us d)
-        (vote_us k.clock.within.us d) now beat u }
+        → beat.report.announce ≡ Some u → IsToldTruly t edges (vote_us k.clock d)
+        (vote_us k.clock d) now beat u }
     // Nor further off than the bound that is told, if the drift of an element is by that counter, and
     // not by the setup: 1 us more at most.
     ensures any_bound { (t : TimelineValue) (d : ℕ) (edges : ℕ → ℕ) (k : Keeping) (now : ℕ)
         (pulses : ℕ → List Pulse) (beat : Beat) (u : UtcSecond) → IsQuartz d edges → IsTimeline t
-        → AreHeardTruly (IsTrueLately k.clock.within.us k.rules t edges now) k.clock.within.us
-        k.clock.drift_us k.rules (f_of k.clock.redundancy) now k.state.lines pulses
+        → AreHeardTruly (IsTrueLately k.clock.within.us k.rules t edges now) k.clock
+        k.rules (f_of k.clock.redundancy) now k.state.lines pulses
         → answer_at k (now % 2 ^ 32) ≡ Some beat → beat.report.cause ≡ Cause.Voted
         → beat.report.announce ≡ Some u → IsToldTruly t edges
         (beat.bound_us + element_drift d - element_drift k.clock.drift_us)
@@ -134,15 +136,14 @@ pub fn votes_are_true()
 /// setup says, and its leap table is true or its holdover at most 57 seconds. What a tick announces
 /// is T(m), for an edge m from which the edge that is told lies no further than the bound that is
 /// told: at most that of a vote, and the drift of as many edges as a holdover has lasted, which is
-/// less than half a second. The edge that is told has come, less than 1.005 s before the tick.
+/// less than half a second. The edge that is told has come, less than 1.006 s before the tick.
 pub fn a_device_tells_the_truth()
     ensures life { (t : TimelineValue) (edges : ℕ → ℕ) (made : Made) (start now : ℕ)
         (calls : List Call) (beat : Beat) (u : UtcSecond)
         → LivesTruly (IsTrueLately made.clock.within.us) t edges made start (Tick now ∷ calls)
         → answer_at (life_of made calls) (now % 2 ^ 32) ≡ Some beat
         → beat.report.announce ≡ Some u
-        → IsToldInHoldover t edges 0 0 made.clock.within.us made.clock.drift_us
-        made.clock.reader_rules.holdover now beat u }
+        → IsToldInHoldover t edges 0 0 made.clock now beat u }
     // In order: what a later tick announces is a later second, so that none is announced twice.
     ensures order { (t : TimelineValue) (edges : ℕ → ℕ) (made : Made) (start before now : ℕ)
         (earlier later : List Call) (beat then : Beat) (u v : UtcSecond)
@@ -177,8 +178,8 @@ pub fn a_device_tells_the_truth()
         → now ≤ tick + 1800000000
         → IsOnTrack t edges 0 0 k.clock.drift_us last k.clock.reader_rules k.table tick
         k.state.reader k.state.bound_us k.state.edge_us
-        → AreHeardTruly (IsTrueLately k.clock.within.us k.rules t edges now) k.clock.within.us
-        k.clock.drift_us k.rules (f_of k.clock.redundancy) now k.state.lines pulses
+        → AreHeardTruly (IsTrueLately k.clock.within.us k.rules t edges now) k.clock
+        k.rules (f_of k.clock.redundancy) now k.state.lines pulses
         → IsOnTrack t edges 0 0 k.clock.drift_us last k.clock.reader_rules k.table now
         (after_tick k (now % 2 ^ 32)).state.reader (after_tick k (now % 2 ^ 32)).state.bound_us
         (after_tick k (now % 2 ^ 32)).state.edge_us }
@@ -267,7 +268,7 @@ pub fn what_strays_is_not_held()
 {}
 
 /// In order, whatever lines carry and however the counter drifts: the edges that are told lie half
-/// a second apart at least, and none lies ahead of its tick, nor 1.005 s behind it.
+/// a second apart at least, and none lies ahead of its tick, nor 1.006 s behind it.
 pub fn edges_lie_apart()
     ensures { (made : Made) (start before now : ℕ) (earlier later : List Call) (beat then : Beat)
         → AreInOrder start made.clock.redundancy (Tick now ∷ (later ++ (Tick before ∷ earlier)))
@@ -293,8 +294,7 @@ pub fn a_device_heals()
         → answer_at (life_of made earlier) (mend % 2 ^ 32) ≡ Some beat
         → answer_at (life_of made (later ++ (Tick mend ∷ earlier))) (now % 2 ^ 32) ≡ Some then
         → then.report.announce ≡ Some u
-        → IsToldInHoldover t edges 0 0 made.clock.within.us made.clock.drift_us
-        made.clock.reader_rules.holdover now then u }
+        → IsToldInHoldover t edges 0 0 made.clock now then u }
     // What a later tick announces is a later second.
     ensures order { (t : TimelineValue) (edges : ℕ → ℕ) (made : Made) (start before now : ℕ)
         (earlier later : List Call) (beat then : Beat) (u v : UtcSecond)
@@ -339,20 +339,20 @@ pub fn a_device_heals()
 
 /// No f lines can keep a device from a vote: if more than f lines keep frames of one claim whose
 /// edges may lie at the last time at which that of one of them may, and a tick comes when the frames of the
-/// true lines have ended, as long ago as a pulse of theirs may lie off and 99 ms at most, it has a
-/// vote, whatever the others keep.
+/// true lines have ended, as long ago as two of their edges may lie apart, less what lines are off, and
+/// 100 ms at most, it has a vote, whatever the others keep.
 pub fn enough_lines_vote()
     ensures agree { (clock : ClockRules) (lines : Lines) (i : ℕ) (first : KeptClaim) → i < 5
-        → claim_kept clock.within.us (line_at lines i).frame ≡ Some first
-        → f_of clock.redundancy < count_by (agrees first) (all_kept clock.within.us lines)
+        → claim_kept clock (line_at lines i).frame ≡ Some first
+        → f_of clock.redundancy < count_by (agrees first) (all_kept clock lines)
         → (vote : Vote) × (agreed clock lines ≡ Some vote) }
     ensures come { (t : TimelineValue) (edges : ℕ → ℕ) (k : Keeping) (now : ℕ)
         (pulses : ℕ → List Pulse) (vote : Vote) → IsQuartz k.clock.drift_us edges
-        → (heard : AreHeardTruly (IsTrueLately k.clock.within.us k.rules t edges now) k.clock.within.us
-        k.clock.drift_us k.rules (f_of k.clock.redundancy) now k.state.lines pulses)
+        → (heard : AreHeardTruly (IsTrueLately k.clock.within.us k.rules t edges now) k.clock
+        k.rules (f_of k.clock.redundancy) now k.state.lines pulses)
         → ((i : ℕ) → i < 5 → heard.untrue i ≡ false
-        → IfKept (HasJustCome k.clock.within.us now) k.clock.within.us k.clock.drift_us k.rules
-        (claim_kept k.clock.within.us (line_at k.state.lines i).frame) (pulses i))
+        → IfKept (HasJustCome k.clock now) k.clock k.rules
+        (claim_kept k.clock (line_at k.state.lines i).frame) (pulses i))
         → agreed k.clock (settled (now % 2 ^ 32) k.state.lines) ≡ Some vote
         → vote_at k (now % 2 ^ 32) ≡ Some vote }
 {}
@@ -386,7 +386,7 @@ pub fn beats_are_votes()
 {}
 
 /// Waiting is right: if lines agree on an edge, a tick after as long as a device says, or later, by
-/// 98 ms behind that edge, has that vote, which answers or sets the edge right.
+/// 94 ms behind that edge, has that vote, which answers or sets the edge right.
 /// Without one it counts an edge by the own counter. A device says 0 only if a tick at once does
 /// so.
 pub fn waiting_is_right()
@@ -395,8 +395,8 @@ pub fn waiting_is_right()
         → AreInOrder start made.clock.redundancy (Tick then ∷ calls)
         → agreed (life_of made calls).clock
         (settled (now % 2 ^ 32) (life_of made calls).state.lines) ≡ Some vote
-        → vote.edge_us ≡ edge % 2 ^ 32 → edge ≤ now + 15000 → now ≤ edge + 98000
-        → now + wait_at (life_of made calls) (now % 2 ^ 32) ≤ then → then ≤ edge + 98000
+        → vote.edge_us ≡ edge % 2 ^ 32 → edge ≤ now + 17000 → now ≤ edge + 94000
+        → now + wait_at (life_of made calls) (now % 2 ^ 32) ≤ then → then ≤ edge + 94000
         → vote_at (life_of made calls) (then % 2 ^ 32) ≡ Some vote }
     ensures counts { (e edge tick now more : ℕ) → IsEdgeAt e edge tick → tick ≤ now
         → now + wait_by (now % 2 ^ 32) (Some e) None + more ≤ tick + 1800000000
@@ -404,7 +404,7 @@ pub fn waiting_is_right()
     ensures waits { (e edge tick now : ℕ) → IsEdgeAt e edge tick → tick ≤ now
         → now ≤ tick + 1800000000 → edges_own (Some e) (now % 2 ^ 32) ≡ 0
         → (1 ≤ wait_by (now % 2 ^ 32) (Some e) None)
-        × (wait_by (now % 2 ^ 32) (Some e) None ≤ 1005000) }
+        × (wait_by (now % 2 ^ 32) (Some e) None ≤ 1006000) }
 {}
 
 /// A stamp names the instant of its event: of every life, as of `a_device_tells_the_truth`, a stamp

@@ -20,7 +20,7 @@ ghost use Rattle.irig_timekeeper.specs.Life.Call.{Tick};
 ghost use Rattle.irig_timekeeper.specs.Rows.{AreToldLast};
 ghost use Rattle.irig_lines.specs.Exactness.{end_off_us, fault_early_us, fault_late_us, most_drift_us, most_vote_us};
 
-use irig_lines::Within;
+use irig_lines::{ClockRules, Within};
 use irig_reader::{Cause, ReaderRules};
 use irig_time::{Claim, Rules, UtcSecond};
 use irig_timekeeper::{Beat, Stamp};
@@ -34,12 +34,13 @@ use irig_timekeeper::{Beat, Stamp};
 pub fn lines_with_faults_tell_truly()
     // A frame that ended at most 100 ms ago claims the true second before an edge, and ends near
     // that edge.
-    ensures kept { (within : Within) (rules : Rules) (t : TimelineValue) (d now end : ℕ)
-        (edges : ℕ → ℕ) (pulses : List Pulse) (claim : Claim) → IsQuartz d edges
-        → IsTrueButForFaults within.us rules t edges now pulses
-        → IsFrameOf within.us d rules claim end pulses → now ≤ end + 100000
-        → IsTrueNear t edges (end_off_us within.us d + fault_early_us within.us d)
-        (end_off_us within.us d + fault_late_us within.us d) end claim }
+    ensures kept { (clock : ClockRules) (rules : Rules) (t : TimelineValue) (half now end : ℕ)
+        (edges : ℕ → ℕ) (pulses : List Pulse) (claim : Claim) → IsQuartz clock.drift_us edges
+        → IsTrueButForFaults clock.within.us rules t edges now pulses
+        → IsFrameOf clock rules claim half end pulses → now ≤ end + 100000
+        → IsTrueNear t edges (end_off_us clock.within.us clock.drift_us
+        + fault_early_us clock.within.us clock.drift_us) (end_off_us clock.within.us clock.drift_us
+        + fault_late_us clock.within.us clock.drift_us) end claim }
     // So a device tells the truth all its life: the edge that it tells lies no further off than its
     // bound, and so much more before the true one and behind it.
     ensures life { (t : TimelineValue) (edges : ℕ → ℕ) (made : Made) (start now : ℕ)
@@ -48,8 +49,7 @@ pub fn lines_with_faults_tell_truly()
         → answer_at (life_of made calls) (now % 2 ^ 32) ≡ Some beat
         → beat.report.announce ≡ Some u
         → IsToldInHoldover t edges (fault_early_us made.clock.within.us made.clock.drift_us)
-        (fault_late_us made.clock.within.us made.clock.drift_us) made.clock.within.us
-        made.clock.drift_us made.clock.reader_rules.holdover now beat u }
+        (fault_late_us made.clock.within.us made.clock.drift_us) made.clock now beat u }
     // Some of its lines may have faults while others lose any pulses.
     ensures either { (t : TimelineValue) (edges : ℕ → ℕ) (made : Made) (start now : ℕ)
         (calls : List Call) (beat : Beat) (u : UtcSecond)
@@ -57,8 +57,7 @@ pub fn lines_with_faults_tell_truly()
         → answer_at (life_of made calls) (now % 2 ^ 32) ≡ Some beat
         → beat.report.announce ≡ Some u
         → IsToldInHoldover t edges (fault_early_us made.clock.within.us made.clock.drift_us)
-        (fault_late_us made.clock.within.us made.clock.drift_us) made.clock.within.us
-        made.clock.drift_us made.clock.reader_rules.holdover now beat u }
+        (fault_late_us made.clock.within.us made.clock.drift_us) made.clock now beat u }
     // In order: what a later tick announces is a later second.
     ensures order { (t : TimelineValue) (edges : ℕ → ℕ) (made : Made) (start before now : ℕ)
         (earlier later : List Call) (beat then : Beat) (u v : UtcSecond)

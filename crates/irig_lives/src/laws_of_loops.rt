@@ -26,7 +26,7 @@ pub fn a_polling_device_announces()
         (calls ++ before) }
 {}
 
-/// A device that ticks when `wait` says, or up to 95 ms later, announces so too: each tick comes so
+/// A device that ticks when `wait` says, or up to 94 ms later, announces so too: each tick comes so
 /// soon behind each time that it named since the tick before, when it was asked behind each tick
 /// and behind each frame's last pulse. Its calls are made one after another, each pulse told when
 /// it has ended, but for 3 ms.
@@ -35,7 +35,7 @@ pub fn a_waiting_device_announces()
         (calls before : List Call) (u : UtcSecond)
         → ComeInARow (IsTrueLately made.clock.within.us) t edges made start m calls before
         → FollowsTruth t made.clock.prefers_frames made.table
-        → late ≤ 95000 → GoesByWait late (device_of made) calls before
+        → late ≤ 94000 → GoesByWait late (device_of made) calls before
         → AreMadeInTurn start calls before
         → IsSecond t (m + 1 + made.clock.reader_rules.lock_after) u
         → Announces edges (device_of made) (m + 1 + made.clock.reader_rules.lock_after) u

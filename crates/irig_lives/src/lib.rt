@@ -18,7 +18,7 @@ pub use laws::{
     what_strays_is_not_held, what_strays_is_seen,
 };
 pub use laws_of_calls::conditions_compute;
-pub use laws_of_clocks::clocks_off_tell_truly;
+pub use laws_of_clocks::{clocks_off_tell_truly, quality_is_in_the_bound};
 pub use laws_of_faults::lines_with_faults_tell_truly;
 pub use laws_of_leaps::a_right_table_guards_its_leaps;
 pub use laws_of_limits::{a_false_table_misleads, a_majority_misleads};

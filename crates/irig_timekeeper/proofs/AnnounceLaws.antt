@@ -19,7 +19,8 @@ use Rattle.irig_timekeeper.specs.declared.clock.Beat.{Beat}
 use Rattle.irig_lines.specs.declared.setup.ClockRules.{ClockRules}
 use Rattle.irig_timekeeper.specs.declared.clock.ClockState.{ClockState}
 use Rattle.irig_lines.specs.Edges.{IsNear}
-use Rattle.irig_lines.specs.Exactness.{vote_us, most_vote_us}
+use Rattle.irig_lines.specs.Exactness.{most_vote_us}
+use Rattle.irig_lines.specs.Widths.{vote_us}
 use Rattle.irig_lines.specs.Counting.{edges_to_vote, edges_own}
 use Rattle.irig_timekeeper.specs.Rule.{missed, against_table, step_behind}
 use Rattle.irig_lines.specs.Steps.{is_pulse, settled, agreed, if_come}
@@ -128,7 +129,7 @@ pub record IsServed (IsTrue : ℕ → List Pulse → Type 0) (t : TimelineValue)
   pub are : calls ≡ Tick now ∷ others
   pub early : last_tick start (others ++ before) ≤ edges m + 3000
   pub soon : now ≤ edges m + 98000
-  pub comes : ((edges m + vote_us new.clock.within.us new.clock.drift_us ≤ now) × ComesWhole t edges new m (others ++ before)) ⊎ ((edges m ≤ now + 15000) × ((v : Vote) × (vote_at (after_calls new (others ++ before)) (now % 2 ^ 32) ≡ Some v)))
+  pub comes : ((edges m + vote_us new.clock new.clock.drift_us ≤ now) × ComesWhole t edges new m (others ++ before)) ⊎ ((edges m ≤ now + 17000) × ((v : Vote) × (vote_at (after_calls new (others ++ before)) (now % 2 ^ 32) ≡ Some v)))
   pub truth : AreTrueOver IsTrue (f_of new.clock.redundancy) calls before
 
 -- so many in a row
@@ -147,7 +148,7 @@ heard_serve IsTrue t edges new start m (suc n) calls before heard =
       heard_serve IsTrue t edges new start m n heard.1 before heard.4,
     )
 
-module _ (IsTrue : ℕ → List Pulse → Type 0) (t : TimelineValue) (edges : ℕ → ℕ) (new : Keeping) (start : ℕ) (begun : AreLinesAt new new (λ i. []) start start) (is : IsDevice t new.clock.drift_us edges new.clock.reader_rules new.table) (follows : FollowsTruth t new.clock.prefers_frames new.table) (truly : TellAlwaysTruly IsTrue new.clock.within.us new.clock.drift_us new.rules t edges 0 0) where
+module _ (IsTrue : ℕ → List Pulse → Type 0) (t : TimelineValue) (edges : ℕ → ℕ) (new : Keeping) (start : ℕ) (begun : AreLinesAt new new (λ i. []) start start) (is : IsDevice t new.clock.drift_us edges new.clock.reader_rules new.table) (follows : FollowsTruth t new.clock.prefers_frames new.table) (truly : TellAlwaysTruly IsTrue new.clock new.rules t edges 0 0) where
   abbrev state : List Call → ClockState
   state calls = (after_calls new calls).state
 
@@ -202,7 +203,7 @@ module _ (IsTrue : ℕ → List Pulse → Type 0) (t : TimelineValue) (edges : �
         reads = same.reader ∙ v.reads;
       }
 
-  voted_waits : (m : ℕ) (votes : List (Option Claim)) (now : ℕ) (calls : List Call) → AreInOrder start new.clock.redundancy (Tick now ∷ calls) → vote_at (after_calls new calls) (now % 2 ^ 32) ≡ None → (v : IsVotedAt m votes calls) → now < v.V + 1005000 → IsVotedAt m votes (Tick now ∷ calls)
+  voted_waits : (m : ℕ) (votes : List (Option Claim)) (now : ℕ) (calls : List Call) → AreInOrder start new.clock.redundancy (Tick now ∷ calls) → vote_at (after_calls new calls) (now % 2 ^ 32) ≡ None → (v : IsVotedAt m votes calls) → now < v.V + 1006000 → IsVotedAt m votes (Tick now ∷ calls)
   voted_waits m votes now calls order none v soon =
       let count = own_count (last_tick start calls) now order.0 (omega (arith, order.1)) v.e v.V v.at in
       let waits : own_come v.V now ≡ 0 = omega (arith, soon) in
@@ -219,7 +220,7 @@ module _ (IsTrue : ℕ → List Pulse → Type 0) (t : TimelineValue) (edges : �
       }
 
   -- two votes do not come in one second
-  far_apart : (V now : ℕ) (calls : List Call) → AreInOrder start new.clock.redundancy (Tick now ∷ calls) → IsSetByVote new start begun V calls → (v : Vote) → vote_at (after_calls new calls) (now % 2 ^ 32) ≡ Some v → (V' : ℕ) → IsEdgeAt v.edge_us V' now → V + 889000 ≤ V'
+  far_apart : (V now : ℕ) (calls : List Call) → AreInOrder start new.clock.redundancy (Tick now ∷ calls) → IsSetByVote new start begun V calls → (v : Vote) → vote_at (after_calls new calls) (now % 2 ^ 32) ≡ Some v → (V' : ℕ) → IsEdgeAt v.edge_us V' now → V + 885000 ≤ V'
   far_apart V now calls order set v voted V' at =
       votes_apart new start begun set.earlier set.later set.before now set.v v V V'
       (subst (λ (c : List Call). AreInOrder start new.clock.redundancy (Tick now ∷ c)) set.are order) set.voted set.at
@@ -240,7 +241,7 @@ module _ (IsTrue : ℕ → List Pulse → Type 0) (t : TimelineValue) (edges : �
   record IsVoteOf (m now : ℕ) (v : Vote) : Type 0 where
     V : ℕ
     at : IsEdgeAt v.edge_us V now
-    close : now ≤ V + 100000
+    close : now ≤ V + 103000
     near : IsNear edges most_vote_us most_vote_us m V
     claim : truth_at t (m - 1) ≡ Some v.claim
 
@@ -352,7 +353,7 @@ module _ (IsTrue : ℕ → List Pulse → Type 0) (t : TimelineValue) (edges : �
   -- ---- over the calls of a second
 
   Waits : ℕ → List (Option Claim) → List Call → List Call → Type 0
-  Waits m votes later older = IsVotedAt m votes (later ++ older) × HaveNoVotes new (edges (m + 1) - 15000) later older
+  Waits m votes later older = IsVotedAt m votes (later ++ older) × HaveNoVotes new (edges (m + 1) - 17000) later older
 
   Goes : ℕ → List (Option Claim) → List Call → List Call → Type 0
   Goes m votes later older = IsVotedAt (m + 1) (truth_at t m ∷ votes) (later ++ older) × IsReported (m + 1) (truth_at t m) votes later older
@@ -385,9 +386,9 @@ module _ (IsTrue : ℕ → List Pulse → Type 0) (t : TimelineValue) (edges : �
           inr (next.voted_at, record { now = now; x = []; y = later; are = refl; soon = omega (arith, early); beat = next.beat; answer = next.answer; report = next.report })
 
   -- the last tick of a second has a vote, if none has
-  has_one : (m : ℕ) → 1 ≤ m → (older : List Call) (told : ℕ) → HaveRisen told older → told + 11000 < edges m → (others : List Call) (now : ℕ) → AreInOrder start new.clock.redundancy (Tick now ∷ (others ++ older)) → HaveNoVotes new (edges m - 15000) others older
-      → AreTrueLately IsTrue f now (others ++ older) → now ≤ edges m + 98000 → ((edges m + vote_us new.clock.within.us new.clock.drift_us ≤ now) × ComesWhole t edges new m (others ++ older)) ⊎ ((edges m ≤ now + 15000) × ((v : Vote) × (vote_at (after_calls new (others ++ older)) (now % 2 ^ 32) ≡ Some v)))
-      → (edges m ≤ now + 15000) × ((v : Vote) × (vote_at (after_calls new (others ++ older)) (now % 2 ^ 32) ≡ Some v))
+  has_one : (m : ℕ) → 1 ≤ m → (older : List Call) (told : ℕ) → HaveRisen told older → told + 11000 < edges m → (others : List Call) (now : ℕ) → AreInOrder start new.clock.redundancy (Tick now ∷ (others ++ older)) → HaveNoVotes new (edges m - 17000) others older
+      → AreTrueLately IsTrue f now (others ++ older) → now ≤ edges m + 98000 → ((edges m + vote_us new.clock new.clock.drift_us ≤ now) × ComesWhole t edges new m (others ++ older)) ⊎ ((edges m ≤ now + 17000) × ((v : Vote) × (vote_at (after_calls new (others ++ older)) (now % 2 ^ 32) ≡ Some v)))
+      → (edges m ≤ now + 17000) × ((v : Vote) × (vote_at (after_calls new (others ++ older)) (now % 2 ^ 32) ≡ Some v))
   has_one m some older told risen past others now order none lately soon (inr voted) = voted
   has_one m some older told risen past others now order none lately soon (inl come) =
       let whole = come.1 in (
@@ -433,7 +434,7 @@ module _ (IsTrue : ℕ → List Pulse → Type 0) (t : TimelineValue) (edges : �
             let led = leads (after_calls new calls) step.0 step.1 (same_clock calls now order) (same_table calls now order) before in
             record { votes = led.votes; reads = step.2 ∙ led.reads }
 
-    walk_first : (m : ℕ) (older later : List Call) → AreInOrder start new.clock.redundancy (later ++ older) → AreTrueOver IsTrue f later older → last_tick start (later ++ older) ≤ edges m + 3000 → HaveNoVotes new (edges m - 15000) later older ⊎ IsFirstVoted m (later ++ older)
+    walk_first : (m : ℕ) (older later : List Call) → AreInOrder start new.clock.redundancy (later ++ older) → AreTrueOver IsTrue f later older → last_tick start (later ++ older) ≤ edges m + 3000 → HaveNoVotes new (edges m - 17000) later older ⊎ IsFirstVoted m (later ++ older)
     walk_first m older [] order truth early = inl tt
     walk_first m older (Hear port rise width ∷ later) order truth early = elim (walk_first m older later order.2 truth early) [
       | inl none ↦ inl none
@@ -446,9 +447,9 @@ module _ (IsTrue : ℕ → List Pulse → Type 0) (t : TimelineValue) (edges : �
       | inl none ↦ by none (vote_at (after_calls new (later ++ older)) (now % 2 ^ 32)) refl
     ]
       where
-        by : HaveNoVotes new (edges m - 15000) later older → (o : Option Vote) → vote_at (after_calls new (later ++ older)) (now % 2 ^ 32) ≡ o → HaveNoVotes new (edges m - 15000) (Tick now ∷ later) older ⊎ IsFirstVoted m (Tick now ∷ (later ++ older))
+        by : HaveNoVotes new (edges m - 17000) later older → (o : Option Vote) → vote_at (after_calls new (later ++ older)) (now % 2 ^ 32) ≡ o → HaveNoVotes new (edges m - 17000) (Tick now ∷ later) older ⊎ IsFirstVoted m (Tick now ∷ (later ++ older))
         by none None e = inl (λ _. e, none)
-        by none (Some v) e = elim (cases_lt (now + 15000) (edges m)) [
+        by none (Some v) e = elim (cases_lt (now + 17000) (edges m)) [
           | inl before ↦ inl (λ from. absurd (omega (arith, from, before)), none)
           | inr behind ↦
               let vote = vote_of m now (later ++ older) order truth.0 (omega (arith, behind)) (omega (arith, early)) v e in

@@ -10,7 +10,7 @@ use Rattle.irig_timekeeper.specs.declared.clock.Beat.{Beat}
 use Rattle.irig_lines.specs.declared.setup.ClockRules.{ClockRules}
 use Rattle.irig_timekeeper.specs.declared.clock.ClockState.{ClockState}
 use Rattle.irig_vote.specs.Vote.{f_of}
-use Rattle.irig_lines.specs.Exactness.{window_us, vote_us}
+use Rattle.irig_lines.specs.Widths.{reach_us, vote_us}
 use Rattle.irig_lines.specs.Counting.{edges_to_vote, edges_own}
 use Rattle.irig_timekeeper.specs.Rule.{missed, against_table}
 use Rattle.irig_lines.specs.Steps.{is_pulse, all_kept, ends_by, ends_from, ends_near, begins_near, last_behind, first_before, less_behind, less_before, least_behind, least_before, agreed, settled}
@@ -45,12 +45,12 @@ before_low window f x all (y ∷ ys) so_far =
     let one = no_more (begins_near window x y && nat_lt f (count_by (ends_from x (first_before x y)) all)) (first_before x y) so_far in
     omega (arith, rest, one)
 
-pub vote_bound : (c : ClockRules) (lines : Lines) (v : Vote) → agreed c lines ≡ Some v → v.bound_us ≤ vote_us c.within.us c.drift_us
+pub vote_bound : (c : ClockRules) (lines : Lines) (v : Vote) → agreed c lines ≡ Some v → v.bound_us ≤ vote_us c c.drift_us
 vote_bound c lines v e =
     let first = agreed_first c lines v e in
-    let all = all_kept c.within.us lines in
-    let behind = behind_low (window_us c.within.us) (f_of c.redundancy) first.0 all all (window_us c.within.us) in
-    let before = before_low (window_us c.within.us) (f_of c.redundancy) first.0 all all (window_us c.within.us) in
+    let all = all_kept c lines in
+    let behind = behind_low (reach_us c) (f_of c.redundancy) first.0 all all (reach_us c) in
+    let before = before_low (reach_us c) (f_of c.redundancy) first.0 all all (reach_us c) in
     let bound = ap (λ (x : Vote). x.bound_us) first.2 in
     omega (arith, bound, behind, before)
 
@@ -59,8 +59,8 @@ vote_bound c lines v e =
 -- the last vote's bound is no more than a vote's, and so is what is told, but for the drift of the edges
 -- that the holdover has lasted
 pub record HasBound (c : ClockRules) (new : ClockState) (answer : Option Beat) : Type 0 where
-  pub voted : new.bound_us ≤ vote_us c.within.us c.drift_us
-  pub bound : (b : Beat) → answer ≡ Some b → b.bound_us ≤ vote_us c.within.us c.drift_us + lasted b.report.lock * c.drift_us
+  pub voted : new.bound_us ≤ vote_us c c.drift_us
+  pub bound : (b : Beat) → answer ≡ Some b → b.bound_us ≤ vote_us c c.drift_us + lasted b.report.lock * c.drift_us
   pub few : (b : Beat) → answer ≡ Some b → lasted b.report.lock ≤ c.reader_rules.holdover
 
 module _ (k : Keeping) (clock : ℕ) where
@@ -68,7 +68,7 @@ module _ (k : Keeping) (clock : ℕ) where
   s = settled_at k.clock k.state clock
 
   abbrev most : ℕ
-  most = vote_us k.clock.within.us k.clock.drift_us
+  most = vote_us k.clock k.clock.drift_us
 
   -- whether it tells an edge or not
   either : (test : Bool) (waits tells : ClockState) (against : Bool) (step : Step) (n edge voted : ℕ) → voted ≤ most → waits.bound_us ≡ voted → tells.bound_us ≡ voted → lasted step.report.lock ≤ k.clock.reader_rules.holdover
@@ -103,19 +103,19 @@ module _ (k : Keeping) (clock : ℕ) where
 
 -- ---- a life
 
-module _ (new : Keeping) (begins : new.state.bound_us ≤ vote_us new.clock.within.us new.clock.drift_us) where
+module _ (new : Keeping) (begins : new.state.bound_us ≤ vote_us new.clock new.clock.drift_us) where
   same_clock : (calls : List Call) → (after_calls new calls).clock ≡ new.clock
   same_clock [] = refl
   same_clock (Hear port rise width ∷ calls) = elim (cases_Bool (is_pulse width)) [ inl narrow ↦ rw narrow (same_clock calls) | inr wide ↦ rw wide (same_clock calls) ]
   same_clock (Tick now ∷ calls) = same_clock calls
 
   -- what a tick behind such calls leaves, if the last vote's bound was no more
-  tick_so : (calls : List Call) (clock : ℕ) → (after_calls new calls).state.bound_us ≤ vote_us new.clock.within.us new.clock.drift_us → HasBound new.clock (after_tick (after_calls new calls) clock).state (answer_at (after_calls new calls) clock)
+  tick_so : (calls : List Call) (clock : ℕ) → (after_calls new calls).state.bound_us ≤ vote_us new.clock new.clock.drift_us → HasBound new.clock (after_tick (after_calls new calls) clock).state (answer_at (after_calls new calls) clock)
   tick_so calls clock =
-      subst (λ (c : ClockRules). (after_calls new calls).state.bound_us ≤ vote_us c.within.us c.drift_us → HasBound c (after_tick (after_calls new calls) clock).state (answer_at (after_calls new calls) clock)) (same_clock calls)
+      subst (λ (c : ClockRules). (after_calls new calls).state.bound_us ≤ vote_us c c.drift_us → HasBound c (after_tick (after_calls new calls) clock).state (answer_at (after_calls new calls) clock)) (same_clock calls)
       (tick_bound (after_calls new calls) clock)
 
-  pub life_bound : (calls : List Call) → (after_calls new calls).state.bound_us ≤ vote_us new.clock.within.us new.clock.drift_us
+  pub life_bound : (calls : List Call) → (after_calls new calls).state.bound_us ≤ vote_us new.clock new.clock.drift_us
   life_bound [] = begins
   life_bound (Hear port rise width ∷ calls) = elim (cases_Bool (is_pulse width)) [ inl narrow ↦ rw narrow (life_bound calls) | inr wide ↦ rw wide (life_bound calls) ]
   life_bound (Tick now ∷ calls) = (tick_so calls (now % 2 ^ 32) (life_bound calls)).voted

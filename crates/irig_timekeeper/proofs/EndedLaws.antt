@@ -47,7 +47,7 @@ pub record IsEndedAt (t : TimelineValue) (edges : ℕ → ℕ) (edge : ℕ) (a :
   pub n : ℕ
   pub told : ℕ
   pub is : IsEndedTruly t edges a n told
-  pub here : IsNear edges 490899 490899 (n + 1) edge
+  pub here : IsNear edges 492899 492899 (n + 1) edge
   pub before : IfBefore t edges n earlier
 
 abbrev pub IfEndedAt : TimelineValue → (ℕ → ℕ) → ℕ → (ended before : Option Announced) → Type 0
@@ -75,7 +75,7 @@ module _ (d : ℕ) (edges : ℕ → ℕ) (quartz : IsQuartz d edges) where
       omega (arith, rise, less)
 
   -- the same one
-  close : (i j x y : ℕ) → IsNear edges 490899 490899 i x → IsNear edges 899 899 j y → x ≤ y + 500000 → y ≤ x + 500000 → i ≡ j
+  close : (i j x y : ℕ) → IsNear edges 492899 492899 i x → IsNear edges 2899 2899 j y → x ≤ y + 500000 → y ≤ x + 500000 → i ≡ j
   close i j x y at at' near near' = elim (cases_order i j) [
     | inl same ↦ same
     | inr (inl less) ↦ absurd (omega (arith, up_one i j less, at.most, at'.least, near'))
@@ -83,7 +83,7 @@ module _ (d : ℕ) (edges : ℕ → ℕ) (quartz : IsQuartz d edges) where
   ]
 
   -- the next one
-  near_next : (b i j x y : ℕ) → IsNear edges 490899 490899 i x → IsNear edges b b j y → x + b + 490899 < y → y + b + 490899 < x + 1999800 → j ≡ i + 1
+  near_next : (b i j x y : ℕ) → IsNear edges 492899 492899 i x → IsNear edges b b j y → x + b + 492899 < y → y + b + 492899 < x + 1999800 → j ≡ i + 1
   near_next b i j x y at at' more less = elim (cases_order j (i + 1)) [
     | inl same ↦ same
     | inr (inl before) ↦ elim (cases_order j i) [
@@ -100,7 +100,7 @@ pub second_one : (t : TimelineValue) (m n : ℕ) (u : UtcSecond) → IsSecond t 
 second_one t m n u a b = omega (arith, a.sum, b.sum)
 
 module _ (t : TimelineValue) (edges : ℕ → ℕ) (c : ClockRules) (table : TableValue) (is : IsDevice t c.drift_us edges c.reader_rules table) (tick now : ℕ) (order : tick ≤ now) (soon : now ≤ tick + 1800000000) where
-  low_bound : (voted lasts : ℕ) → voted ≤ 899 → lasts ≤ c.reader_rules.holdover → voted + lasts * c.drift_us ≤ 490899
+  low_bound : (voted lasts : ℕ) → voted ≤ 2899 → lasts ≤ c.reader_rules.holdover → voted + lasts * c.drift_us ≤ 492899
   low_bound voted lasts small few =
       let most = mul-le-mul_left c.drift_us (let h : lasts ≤ c.reader_rules.holdover + 2 = omega (arith, few) in h) in
       omega (arith, small, most, is.short)
@@ -110,7 +110,7 @@ module _ (t : TimelineValue) (edges : ℕ → ℕ) (c : ClockRules) (table : Tab
     edge_now : IsEdgeAt v.edge_us vote.edge now
     edge_now = record { clock = vote.clock; come = vote.come; soon = omega (arith, vote.soon) }
 
-    near_now : IsNear edges 899 899 (vote.truth.second + 1) vote.edge
+    near_now : IsNear edges 2899 2899 (vote.truth.second + 1) vote.edge
     near_now = record { least = omega (arith, vote.truth.near.least, vote.small); most = omega (arith, vote.truth.near.most, vote.small) }
 
     second_voted : IsSecond t vote.truth.second v.claim.at
@@ -127,8 +127,8 @@ module _ (t : TimelineValue) (edges : ℕ → ℕ) (c : ClockRules) (table : Tab
         let ended = h.2 in
         let count : edges_between h.0 vote.edge ≡ 0 = sym (voted_count tick now order soon e h.0 h.1 v.edge_us vote.edge edge_now vote.soon) ∙ none in
         let same : ended.n + 1 ≡ vote.truth.second + 1 = close c.drift_us edges is.steady (ended.n + 1) (vote.truth.second + 1) h.0 vote.edge ended.here near_now (omega (arith, count, h.1.come, order, vote.soon)) (omega (arith, count)) in
-        let here : IsNear edges 490899 490899 (vote.truth.second + 1) vote.edge = record { least = omega (arith, near_now.least); most = omega (arith, near_now.most) } in
-        (vote.edge, edge_now, record { n = ended.n; told = ended.told; is = ended.is; here = subst (λ (m : ℕ). IsNear edges 490899 490899 m vote.edge) (sym same) here; before = ended.before })
+        let here : IsNear edges 492899 492899 (vote.truth.second + 1) vote.edge = record { least = omega (arith, near_now.least); most = omega (arith, near_now.most) } in
+        (vote.edge, edge_now, record { n = ended.n; told = ended.told; is = ended.is; here = subst (λ (m : ℕ). IsNear edges 492899 492899 m vote.edge) (sym same) here; before = ended.before })
 
     -- one that it counts
     before_voted : (o : Option ℕ) (ended before : Option Announced) → EndedBy t edges tick o ended before → edges_to_vote o v.edge_us ≡ 1 → IfBefore t edges vote.truth.second ended
@@ -137,7 +137,7 @@ module _ (t : TimelineValue) (edges : ℕ → ℕ) (c : ClockRules) (table : Tab
     before_voted (Some e) (Some a) before h one =
         let ended = h.2 in
         let count : edges_between h.0 vote.edge ≡ 1 = sym (voted_count tick now order soon e h.0 h.1 v.edge_us vote.edge edge_now vote.soon) ∙ one in
-        let next = near_next c.drift_us edges is.steady 899 (ended.n + 1) (vote.truth.second + 1) h.0 vote.edge ended.here near_now (omega (arith, count)) (omega (arith, count)) in
+        let next = near_next c.drift_us edges is.steady 2899 (ended.n + 1) (vote.truth.second + 1) h.0 vote.edge ended.here near_now (omega (arith, count)) (omega (arith, count)) in
         (ended.n, ended.told, omega (arith, next), ended.is)
 
     voted : (o : Option ℕ) (ended before : Option Announced) (lock : Lock) → EndedBy t edges tick o ended before → lasted lock ≤ c.reader_rules.holdover → (n : ℕ) → n ≡ edges_to_vote o v.edge_us → 1 ≤ n
@@ -169,7 +169,7 @@ module _ (t : TimelineValue) (edges : ℕ → ℕ) (c : ClockRules) (table : Tab
 
   -- what was told truly by it, of a reader that stood at the second before
   alone_one : (e edge : ℕ) (at : IsEdgeAt e edge tick) (ended before : Option Announced) → IfEndedAt t edges edge ended before → (n : ℕ) → n ≡ edges_own (Some e) (now % 2 ^ 32) → n ≡ 1 → (second : UtcSecond) (w m bound told : ℕ) → IsSecond t w second → m ≡ w + 1
-      → own_edge (Some e) n ≡ told % 2 ^ 32 → IsNear edges bound bound m told → told ≤ now → now < told + 1005000 → bound ≤ 490899
+      → own_edge (Some e) n ≡ told % 2 ^ 32 → IsNear edges bound bound m told → told ≤ now → now < told + 1006000 → bound ≤ 492899
       → EndedBy t edges now (Some (own_edge (Some e) n)) (Some (record { second = second; edge_us = own_edge (Some e) n; bound_us = bound })) (cond (n - 1 == 0) ended None)
   alone_one e edge at ended before h n same one second w m bound told truth next clock near come late small =
       let count : n ≡ own_come edge now = same ∙ own_count tick now order soon e edge at in
@@ -188,7 +188,7 @@ module _ (t : TimelineValue) (edges : ℕ → ℕ) (c : ClockRules) (table : Tab
         },
       )
     where
-      by_clock : (e x y : ℕ) → e ≡ x % 2 ^ 32 → e ≡ y % 2 ^ 32 → x ≤ y + 1005000 → y ≤ x + 1005000 → x ≡ y
+      by_clock : (e x y : ℕ) → e ≡ x % 2 ^ 32 → e ≡ y % 2 ^ 32 → x ≤ y + 1006000 → y ≤ x + 1006000 → x ≡ y
       by_clock e x y p q near near' = omega (arith, p, q, near, near')
 
       known : (ended : Option Announced) → IfEndedAt t edges edge ended before → told ≡ edge + 1000000 → IsNear edges bound bound (w + 1) told → IfBefore t edges w ended
@@ -282,7 +282,7 @@ module _ (t : TimelineValue) (edges : ℕ → ℕ) where
 -- ---- a life
 
 module _ (IsTrue : ℕ → List Pulse → Type 0) (t : TimelineValue) (edges : ℕ → ℕ) (new : Keeping) (start : ℕ) (begins : AreLinesAt new new (λ i. []) start start) (is : IsDevice t new.clock.drift_us edges new.clock.reader_rules new.table)
-    (truly : TellAlwaysTruly IsTrue new.clock.within.us new.clock.drift_us new.rules t edges 0 0) where
+    (truly : TellAlwaysTruly IsTrue new.clock new.rules t edges 0 0) where
   -- where it stands, and which seconds ended
   record StandsAndEnds (calls : List Call) : Type 0 where
     track : IsTrack IsTrue t edges 0 0 new start begins 0 (last_tick start calls) (after_calls new calls)

@@ -1,7 +1,7 @@
 -- A tick has a vote if more than f lines keep the frame that ends at an edge, whatever the others keep.
-use Rattle.std.specs.Prelude.{◌&&◌, count_by, nat_le}
+use Rattle.std.specs.Prelude.{◌&&◌, count_by}
 use Rattle.std.specs.List.{range_with_len}
-use Rattle.std.proofs.Common.{◌≡◌, ◌∙◌, ℕ, zero, suc, ◌+◌, ◌-◌, ◌*◌, ◌%◌, ◌^◌, ◌<◌, ◌≤◌, Bool, true, false, cond, List, [], ◌∷◌, Option, Some, refl, sym, ap, subst, arith, inl, inr}
+use Rattle.std.proofs.Common.{◌≡◌, ◌∙◌, ℕ, zero, suc, ◌+◌, ◌-◌, ◌*◌, ◌%◌, ◌^◌, ◌<◌, ◌≤◌, Bool, true, false, cond, List, [], ◌∷◌, Option, Some, refl, sym, ap, subst, arith, inl, inr, None}
 use Rattle.std.proofs.lemmas.Bool.{cases_Bool, cases_lt, lt-ltb}
 use Rattle.std.proofs.lemmas.List.Sums.{sum_by-cons}
 use Rattle.irig_sync.specs.Sync.{clock_gap}
@@ -17,8 +17,9 @@ use Rattle.irig_lines.specs.declared.lines.Lines.{Lines}
 use Rattle.irig_lines.specs.declared.lines.Vote.{Vote}
 use Rattle.irig_lines.specs.declared.setup.ClockRules.{ClockRules}
 use Rattle.irig_lines.specs.Edges.{IsQuartz}
-use Rattle.irig_lines.specs.Exactness.{half_us, window_us, vote_us}
-use Rattle.irig_lines.proofs.PartLaws.{agree_by_ends}
+use Rattle.irig_lines.specs.Widths.{vote_us}
+use Rattle.irig_lines.proofs.PartLaws.{is_agreeing, half_kept}
+use Rattle.irig_lines.proofs.WidthLaws.{widest_few, reach_few}
 use Rattle.irig_lines.specs.Steps.{line_at, settled, claim_kept, all_kept, agrees, agreed, if_come}
 use Rattle.irig_timekeeper.specs.Keeping.{Keeping, vote_at}
 use Rattle.irig_timekeeper.specs.Truth.{AreHeardTruly}
@@ -149,8 +150,8 @@ pub both_true : (a b : Bool) → a ≡ true → b ≡ true → (a && b) ≡ true
 both_true true b p q = q
 both_true false b p q = absurd cc
 
-near_gap : (window x y : ℕ) → window ≤ 898 → x ≤ y → y ≤ x + window → clock_gap (x % 2 ^ 32) (y % 2 ^ 32) ≤ window
-near_gap window x y narrow order near = omega (arith, order, near, narrow)
+near_gap : (x y h l : ℕ) → h ≤ 1449 → l ≤ 1449 → y ≤ x + h + l → x + h ≤ y + l → l ≤ y → clock_gap ((y % 2 ^ 32 + 2 ^ 32 - l) % 2 ^ 32) ((x % 2 ^ 32 + h) % 2 ^ 32) ≤ 2 * l
+near_gap x y h l narrow narrow' near order some = omega (arith, narrow, narrow', order, near, some)
 
 -- edges that lie less than a second apart are one
 pub one_edge : (d : ℕ) (edges : ℕ → ℕ) → IsQuartz d edges → (i j : ℕ) → edges i < edges j + 999900 → edges j < edges i + 999900 → i ≡ j
@@ -178,77 +179,85 @@ module _ (t : TimelineValue) (edges : ℕ → ℕ) (new : Keeping) (quartz : IsQ
   abbrev lines : Lines
   lines = (after_calls new calls).state.lines
 
-  abbrev window : ℕ
-  window = window_us new.clock.within.us
-
   abbrev f : ℕ
   f = f_of new.clock.redundancy
 
-  abbrev ends : ℕ → ℕ
-  ends i = whole_of (pulses_on i calls)
+  half_of : Option KeptClaim → ℕ
+  half_of None = 0
+  half_of (Some y) = y.half_us
 
-  first : IsLeast whole ends 0 5
-  first = least_of whole ends 0 5 (omega (arith, many))
+  -- the last times
+  lasts : ℕ → ℕ
+  lasts i = whole_of (pulses_on i calls) + half_of (claim_kept new.clock (line_at lines i).frame)
+
+  first : IsLeast whole lasts 0 5
+  first = least_of whole lasts 0 5 (omega (arith, many))
 
   abbrev claim_of : (i : ℕ) (small : i < 5) → whole i ≡ true → KeptClaim
-  claim_of i small is = record { claim = (keeps i small is).claim; end_us = (keeps i small is).end % 2 ^ 32; half_us = half_us new.clock.within.us }
+  claim_of i small is = record { claim = (keeps i small is).claim; end_us = (keeps i small is).end % 2 ^ 32; half_us = (keeps i small is).half }
 
-  pub kept : (i : ℕ) (small : i < 5) (is : whole i ≡ true) → claim_kept new.clock.within.us (line_at (settled clock lines) i).frame ≡ Some (claim_of i small is)
+  pub kept : (i : ℕ) (small : i < 5) (is : whole i ≡ true) → claim_kept new.clock (line_at (settled clock lines) i).frame ≡ Some (claim_of i small is)
   kept i small is =
       let k = keeps i small is in
-      ap (claim_kept new.clock.within.us) (frame_settled clock lines i small)
-      ∙ stays_kept _ clock (line_at lines i).frame (claim_of i small is) k.keeps (in_time k.end now (ahead i small is) (omega (arith, k.least, upto, quartz.few, new.clock.within.few)))
+      ap (claim_kept new.clock) (frame_settled clock lines i small)
+      ∙ stays_kept new.clock clock (line_at lines i).frame (claim_of i small is) k.keeps (in_time k.end now (ahead i small is) (omega (arith, k.least, upto, quartz.few, new.clock.within.few)))
 
-  -- all of them agree with the one that ends first
-  agree : (i j : ℕ) (small : i < 5) (low : j < 5) (is : whole i ≡ true) (so : whole j ≡ true) → ends i ≤ ends j → agrees (claim_of i small is) (claim_kept new.clock.within.us (line_at (settled clock lines) j).frame) ≡ true
+  last : (i : ℕ) (small : i < 5) (is : whole i ≡ true) → lasts i ≡ whole_of (pulses_on i calls) + (keeps i small is).half
+  unfolding lasts half_of
+  last i small is = ap (λ (o : Option KeptClaim). whole_of (pulses_on i calls) + half_of o) (keeps i small is).keeps
+
+  -- all of them agree with the one whose last time comes first
+  agree : (i j : ℕ) (small : i < 5) (low : j < 5) (is : whole i ≡ true) (so : whole j ≡ true) → lasts i ≤ lasts j → agrees (claim_of i small is) (claim_kept new.clock (line_at (settled clock lines) j).frame) ≡ true
   agree i j small low is so order =
       let k = keeps i small is in
       let l = keeps j low so in
+      let few = widest_few new.clock in
       let same : m ≡ m - 1 + 1 = omega (arith, some) in
       let one = subst (λ (x : ℕ). IsTrueClaim t x k.claim) same k.truth in
       let other = subst (λ (x : ℕ). IsTrueClaim t x l.claim) same l.truth in
       subst (λ (o : Option KeptClaim). agrees (claim_of i small is) o ≡ true) (sym (kept j low so))
-      (agree_by_ends new.clock.within.us (claim_of i small is) (claim_of j low so) new.clock.within.few refl refl (omega arith) (omega arith) (same_truth t (m - 1) k.claim l.claim one other)
-      (near_gap window k.end l.end (omega (arith, new.clock.within.few)) (omega (arith, order, k.is, l.is)) (omega (arith, k.close_least, l.close_most))))
+      (is_agreeing (claim_of i small is) (claim_of j low so) (same_truth t (m - 1) k.claim l.claim one other)
+      (near_gap k.end l.end k.half l.half (omega (arith, k.half_of.1, few)) (omega (arith, l.half_of.1, few)) (omega (arith, k.close_least, l.close_most, k.half_of.0, l.half_of.0)) (omega (arith, order, last i small is, last j low so, k.is, l.is)) (omega (arith, l.least, past, l.half_of.1, few, quartz.few, new.clock.within.few))))
 
   pub some_agree : (v : Vote) × (agreed new.clock (settled clock lines) ≡ Some v)
   some_agree =
       let here : 0 + first.i ≡ first.i = omega arith in
       let is : whole first.i ≡ true = subst (λ (j : ℕ). whole j ≡ true) here first.at in
       let x : KeptClaim = claim_of first.i first.low is in
-      let all = more_of whole (λ j. agrees x (claim_kept new.clock.within.us (line_at (settled clock lines) j).frame)) 0 5 (λ j low so. agree_at x first.i first.low is refl j low so) in
-      one_is_agreed new.clock (settled clock lines) first.i x first.low (kept first.i first.low is) (lt-ltb f (count_by (agrees x) (all_kept new.clock.within.us (settled clock lines))) (omega (arith, many, all)))
+      let all = more_of whole (λ j. agrees x (claim_kept new.clock (line_at (settled clock lines) j).frame)) 0 5 (λ j low so. agree_at x first.i first.low is refl j low so) in
+      one_is_agreed new.clock (settled clock lines) first.i x first.low (kept first.i first.low is) (lt-ltb f (count_by (agrees x) (all_kept new.clock (settled clock lines))) (omega (arith, many, all)))
     where
-      agree_at : (x : KeptClaim) (i : ℕ) (small : i < 5) (is : whole i ≡ true) → i ≡ first.i → (j : ℕ) → j < 5 → whole (0 + j) ≡ true → agrees (claim_of i small is) (claim_kept new.clock.within.us (line_at (settled clock lines) (0 + j)).frame) ≡ true
+      agree_at : (x : KeptClaim) (i : ℕ) (small : i < 5) (is : whole i ≡ true) → i ≡ first.i → (j : ℕ) → j < 5 → whole (0 + j) ≡ true → agrees (claim_of i small is) (claim_kept new.clock (line_at (settled clock lines) (0 + j)).frame) ≡ true
       agree_at x i small is same j low so =
           let there : 0 + j ≡ j = omega arith in
           let here : 0 + first.i ≡ i = omega (arith, same) in
           let so' : whole j ≡ true = subst (λ (k : ℕ). whole k ≡ true) there so in
           let least = first.least j low so in
-          let e1 : ends (0 + first.i) ≡ ends i = ap ends here in
-          let e2 : ends (0 + j) ≡ ends j = ap ends there in
-          subst (λ (k : ℕ). agrees (claim_of i small is) (claim_kept new.clock.within.us (line_at (settled clock lines) k).frame) ≡ true) (sym there)
+          let e1 : lasts (0 + first.i) ≡ lasts i = ap lasts here in
+          let e2 : lasts (0 + j) ≡ lasts j = ap lasts there in
+          subst (λ (k : ℕ). agrees (claim_of i small is) (claim_kept new.clock (line_at (settled clock lines) k).frame) ≡ true) (sym there)
           (agree i j small low is so' (omega (arith, least, e1, e2)))
 
-module _ (IsTrue : ℕ → List Pulse → Type 0) (t : TimelineValue) (edges : ℕ → ℕ) (new : Keeping) (quartz : IsQuartz new.clock.drift_us edges) (start : ℕ) (begun : AreLinesAt new new (λ i. []) start start) (truly : TellAlwaysTruly IsTrue new.clock.within.us new.clock.drift_us new.rules t edges 0 0)
+module _ (IsTrue : ℕ → List Pulse → Type 0) (t : TimelineValue) (edges : ℕ → ℕ) (new : Keeping) (quartz : IsQuartz new.clock.drift_us edges) (start : ℕ) (begun : AreLinesAt new new (λ i. []) start start) (truly : TellAlwaysTruly IsTrue new.clock new.rules t edges 0 0)
     (m : ℕ) (some : 1 ≤ m) (older : List Call) (told : ℕ) (risen : HaveRisen told older) (past : told + 11000 < edges m) (calls : List Call) (now : ℕ) (order : AreInOrder start new.clock.redundancy (Tick now ∷ calls)) (upto : now ≤ edges m + 98000)
     (whole : ℕ → Bool) (many : f_of new.clock.redundancy < count_by whole (range_with_len 0 5)) (keeps : (i : ℕ) (small : i < 5) → whole i ≡ true → Keeps t edges new quartz start begun i small m older told risen past calls) where
   abbrev heard_lines : Lines
   heard_lines = (after_calls new calls).state.lines
 
   abbrev IsHeard : Type 0
-  IsHeard = AreHeardTruly (IsTrue now) new.clock.within.us new.clock.drift_us new.rules (f_of new.clock.redundancy) now heard_lines (λ i. pulses_on i calls)
+  IsHeard = AreHeardTruly (IsTrue now) new.clock new.rules (f_of new.clock.redundancy) now heard_lines (λ i. pulses_on i calls)
 
   -- what a true line keeps then ends at this edge
-  ready : edges m + vote_us new.clock.within.us new.clock.drift_us ≤ now → (h : IsHeard) → AreReady (IsTrue now) new.rules t new.clock new.clock.drift_us edges quartz 0 0 (omega arith) now heard_lines (λ i. pulses_on i calls) (truly now) h
+  ready : edges m + vote_us new.clock new.clock.drift_us ≤ now → (h : IsHeard) → AreReady (IsTrue now) new.rules t new.clock new.clock.drift_us edges quartz 0 0 (omega arith) now heard_lines (λ i. pulses_on i calls) (truly now) h
   ready from h i low right y end is frame ahead soon keeps =
-      let near = truly now end (pulses_on i calls) y.claim (h.true_lines i low right) frame soon in
-      let few = new.clock.within.few in
-      let same : near.second + 1 ≡ m = one_edge new.clock.drift_us edges quartz (near.second + 1) m (omega (arith, near.near.least, ahead, upto, few, quartz.few)) (omega (arith, near.near.most, soon, from, few, quartz.few)) in
+      let near = truly now y.half_us end (pulses_on i calls) y.claim (h.true_lines i low right) frame soon in
+      let few = reach_few new.clock in
+      let half = half_kept new.clock (line_at heard_lines i).frame y keeps in
+      let same : near.second + 1 ≡ m = one_edge new.clock.drift_us edges quartz (near.second + 1) m (omega (arith, near.near.least, ahead, upto, few, half.1, quartz.few)) (omega (arith, near.near.most, soon, from, few, half.1, quartz.few)) in
       let here : edges (near.second + 1) ≡ edges m = ap edges same in
-      (omega (arith, near.near.most, here, from), omega (arith, near.near.least, here, upto, few, quartz.few))
+      (omega (arith, near.near.most, here, from, half.1), soon)
 
-  pub has_vote : edges m + vote_us new.clock.within.us new.clock.drift_us ≤ now → AreTrueLately IsTrue (f_of new.clock.redundancy) now calls → (v : Vote) × (vote_at (after_calls new calls) (now % 2 ^ 32) ≡ Some v)
+  pub has_vote : edges m + vote_us new.clock new.clock.drift_us ≤ now → AreTrueLately IsTrue (f_of new.clock.redundancy) now calls → (v : Vote) × (vote_at (after_calls new calls) (now % 2 ^ 32) ≡ Some v)
   has_vote from lately =
       let h = heard_truly IsTrue t edges 0 0 new start begun calls now order lately in
       let v = some_agree t edges new quartz start begun m some older told risen past calls now upto whole many keeps (λ i small is. (let k = keeps i small is in omega (arith, k.is, ended t edges new quartz start begun i small m older told risen past calls now order))) in

@@ -10,7 +10,7 @@ use Rattle.irig_sync.proofs.LineLaws.{place_at_time}
 use Rattle.irig_time.specs.declared.rules.Rules.{Rules}
 use Rattle.irig_time.specs.Timelines.{TimelineValue}
 use Rattle.irig_port.specs.declared.told.Told.{Told}
-use Rattle.irig_port.specs.Limits.{told_within}
+use Rattle.irig_port.specs.Limits.{told_within, quality_in}
 use Rattle.irig_vote.specs.Vote.{f_of}
 use Rattle.irig_lines.specs.declared.lines.KeptFrame.{KeptFrame}
 use Rattle.irig_lines.specs.declared.lines.Line.{Line}
@@ -19,7 +19,7 @@ use Rattle.irig_lines.specs.declared.setup.ClockRules.{ClockRules}
 use Rattle.irig_timekeeper.specs.declared.clock.ClockState.{ClockState}
 use Rattle.irig_lines.specs.Edges.{IsQuartz}
 use Rattle.irig_lines.specs.Counting.{is_late, edges_own}
-use Rattle.irig_lines.specs.Lines.{IsTrueLately, rise_before, KnowsBegin, IsLastBefore}
+use Rattle.irig_lines.specs.Lines.{IsTrueLately, rise_before, KnowsBegin, IsLastBefore, AreEven}
 use Rattle.irig_lines.specs.Steps.{is_pulse, is_even, frame_behind, line_at, line_heard, still_kept, settled, taken, is_uneven, frames_of, are_uneven}
 use Rattle.irig_timekeeper.specs.Clock.{vote_of_lines, is_unsteady}
 use Rattle.irig_timekeeper.specs.Keeping.{Keeping, heard_then, after_pulse, after_tick}
@@ -69,9 +69,9 @@ on_time_in (suc (suc n)) p [] at = absurd (alone_first p n at)
 on_time_in (suc (suc n)) p (q ∷ ps) at = let next = next_in_frame p q ps n at in (next.0, on_time_in (suc n) q ps next.1)
 
 -- a frame's last pulse
-whole_heard : (c : ClockRules) (begin place rise width : ℕ) (told : Told) (o : Option KeptFrame) (pulses : List Pulse) (tick now : ℕ) → KnowsBegin begin pulses → place ≡ place_after (pulse_at rise width ∷ pulses) → rise ≤ now + 4000 → tick ≤ rise + 500000
-    → IfWhole c o pulses tick now → IfWhole c (frame_behind c place begin (rise % 2 ^ 32) told o) (pulse_at rise width ∷ pulses) tick now
-whole_heard c begin place rise width told o pulses tick now begins is risen near before = elim (cases_Bool (place == 100)) [
+whole_heard : (c : ClockRules) (begin place rise width : ℕ) (told : Told) (quality : ℕ) (o : Option KeptFrame) (pulses : List Pulse) (tick now : ℕ) → KnowsBegin begin pulses → place ≡ place_after (pulse_at rise width ∷ pulses) → rise ≤ now + 4000 → tick ≤ rise + 500000
+    → IfWhole c o pulses tick now → IfWhole c (frame_behind c place begin (rise % 2 ^ 32) told quality o) (pulse_at rise width ∷ pulses) tick now
+whole_heard c begin place rise width told quality o pulses tick now begins is risen near before = elim (cases_Bool (place == 100)) [
   | inr inside ↦ rw inside (whole_more c o (pulse_at rise width) pulses tick now before)
   | inl whole ↦
       let at : place_after (pulse_at rise width ∷ pulses) ≡ 100 = sym is ∙ eqb-true place 100 whole in
@@ -105,15 +105,19 @@ whole_settles c (Some frame) pulses tick now half w = elim (cases_Bool (is_late 
 
 -- ---- of a true line
 
-module _ (c : ClockRules) (rules : Rules) (t : TimelineValue) (edges : ℕ → ℕ) (quartz : IsQuartz c.drift_us edges) (tick now : ℕ) (half : now + 504000 < tick + 1800000000) where
-  pub true_is_even : (o : Option KeptFrame) (pulses : List Pulse) → IsTrueLately c.within.us rules t edges now pulses → IfWhole c o pulses tick now → is_uneven (still_kept (now % 2 ^ 32) o) ≡ false
+-- at any time the frames of such a line are even
+abbrev pub AreEvenAlways : (ℕ → List Pulse → Type 0) → (within d : ℕ) → Type 0
+AreEvenAlways IsTrue within d = (now end : ℕ) (pulses : List Pulse) → IsTrue now pulses → (late : ℕ) → AreOnTime 100 (drop late pulses) → IsLastBefore end (drop late pulses) → now ≤ end + 100000 → AreEven within d (drop late pulses)
+
+module _ (IsTrue : ℕ → List Pulse → Type 0) (c : ClockRules) (few : c.drift_us ≤ 100) (evenly : AreEvenAlways IsTrue c.within.us c.drift_us) (tick now : ℕ) (half : now + 504000 < tick + 1800000000) where
+  true_is_even : (o : Option KeptFrame) (pulses : List Pulse) → IsTrue now pulses → IfWhole c o pulses tick now → is_uneven (still_kept (now % 2 ^ 32) o) ≡ false
   true_is_even None pulses is w = refl
   true_is_even (Some frame) pulses is w = elim (cases_Bool (is_late frame.end_us (now % 2 ^ 32))) [
     | inl late ↦ rw late refl
     | inr in_time ↦
         let soon = kept_soon c frame pulses tick now half w in_time in
-        let rose = frame_is_even c.within rules t c.drift_us edges quartz now (w.rise + 10000) pulses is w.late w.on_time w.last (omega (arith, soon)) in
-        let even = w.even ∙ even_by c (rise_before 99 (drop w.late pulses)) (rise_before 0 (drop w.late pulses)) (omega (arith, quartz.few)) rose.0 rose.1 in
+        let rose = evenly now (w.rise + 10000) pulses is w.late w.on_time w.last (omega (arith, soon)) in
+        let even = w.even ∙ even_by c (rise_before 99 (drop w.late pulses)) (rise_before 0 (drop w.late pulses)) few rose.0 rose.1 in
         rw (in_time, even) refl
   ]
 
@@ -138,14 +142,15 @@ module _ (new : Keeping) (start : ℕ) (begins : AreLinesAt new new (λ i. []) s
         let risen = has_risen port rise width (now + 4000) calls order.2 narrow in
         let soon : IsSoon l.told rise = line_soon rise l risen order.1 (after, (order.3.1 narrow).1) in
         let place : place_of line.sync (rise % 2 ^ 32) width ≡ place_after (pulse_at rise width ∷ pulses) = place_at_time line.sync pulses l.told rise width l.hearing.sync after soon in
-        let told : Told = told_within k.limits k.rules (heard_then k i (rise % 2 ^ 32) width) in
-        let own : line_at (after_pulse k port (rise % 2 ^ 32) width).state.lines i ≡ line_heard k.clock line (rise % 2 ^ 32) width told =
-        subst (λ (j : ℕ). line_at (after_pulse k j (rise % 2 ^ 32) width).state.lines i ≡ line_heard k.clock line (rise % 2 ^ 32) width told) at (rw narrow (line_same k.state.lines i _ small)) in
-        let frame : frame_behind new.clock (place_of line.sync (rise % 2 ^ 32) width) line.begin_us (rise % 2 ^ 32) told line.frame ≡ (line_at (after_pulse k port (rise % 2 ^ 32) width).state.lines i).frame =
-        ap (λ (c : ClockRules). frame_behind c (place_of line.sync (rise % 2 ^ 32) width) line.begin_us (rise % 2 ^ 32) told line.frame) (sym all.same.clock) ∙ ap (λ (x : Line). x.frame) (sym own) in
+        let told : Told = told_within (Some k.clock.limits.limits) k.rules (heard_then k i (rise % 2 ^ 32) width) in
+        let says : ℕ = quality_in (heard_then k i (rise % 2 ^ 32) width) in
+        let own : line_at (after_pulse k port (rise % 2 ^ 32) width).state.lines i ≡ line_heard k.clock line (rise % 2 ^ 32) width told says =
+        subst (λ (j : ℕ). line_at (after_pulse k j (rise % 2 ^ 32) width).state.lines i ≡ line_heard k.clock line (rise % 2 ^ 32) width told says) at (rw narrow (line_same k.state.lines i _ small)) in
+        let frame : frame_behind new.clock (place_of line.sync (rise % 2 ^ 32) width) line.begin_us (rise % 2 ^ 32) told says line.frame ≡ (line_at (after_pulse k port (rise % 2 ^ 32) width).state.lines i).frame =
+        ap (λ (c : ClockRules). frame_behind c (place_of line.sync (rise % 2 ^ 32) width) line.begin_us (rise % 2 ^ 32) told says line.frame) (sym all.same.clock) ∙ ap (λ (x : Line). x.frame) (sym own) in
         subst (λ (ps : List Pulse). IfWhole new.clock (line_at (after_pulse k port (rise % 2 ^ 32) width).state.lines i).frame ps (last_tick start calls) now) (sym (own_pulses i port rise width calls narrow same))
         (subst (λ (o : Option KeptFrame). IfWhole new.clock o (pulse_at rise width ∷ pulses) (last_tick start calls) now) frame
-        (whole_heard new.clock line.begin_us (place_of line.sync (rise % 2 ^ 32) width) rise width told line.frame pulses (last_tick start calls) now l.begins place risen (order.3.1 narrow).1 before))
+        (whole_heard new.clock line.begin_us (place_of line.sync (rise % 2 ^ 32) width) rise width told says line.frame pulses (last_tick start calls) now l.begins place risen (order.3.1 narrow).1 before))
 
     wide_heard : (port rise width : ℕ) (calls : List Call) (tick now : ℕ) → is_pulse width ≡ false → IfWhole new.clock (kept_by calls) (pulses_on i calls) tick now → IfWhole new.clock (kept_by (Hear port rise width ∷ calls)) (pulses_on i (Hear port rise width ∷ calls)) tick now
     unfolding kept_by
@@ -206,20 +211,20 @@ module _ (new : Keeping) (start : ℕ) (begins : AreLinesAt new new (λ i. []) s
         ]
 
   -- at a tick at which at most f lines are untrue the counter is not found unsteady
-  module _ (t : TimelineValue) (edges : ℕ → ℕ) (quartz : IsQuartz new.clock.drift_us edges) where
-    few_uneven : (calls : List Call) (now : ℕ) → AreInOrder start new.clock.redundancy (Tick now ∷ calls) → AreTrueLately (IsTrueLately new.clock.within.us new.rules t edges) (f_of new.clock.redundancy) now calls
+  module _ (IsTrue : ℕ → List Pulse → Type 0) (slow : new.clock.drift_us ≤ 100) (evenly : AreEvenAlways IsTrue new.clock.within.us new.clock.drift_us) where
+    few_uneven : (calls : List Call) (now : ℕ) → AreInOrder start new.clock.redundancy (Tick now ∷ calls) → AreTrueLately IsTrue (f_of new.clock.redundancy) now calls
         → are_uneven new.clock (settled (now % 2 ^ 32) (after_calls new calls).state.lines) ≡ false
     unfolding kept_by
     few_uneven calls now order lately =
         let even : (i : ℕ) → i < 5 → lately.untrue i ≡ false → is_uneven (still_kept (now % 2 ^ 32) (line_at (after_calls new calls).state.lines i).frame) ≡ false =
-        λ i low right. true_is_even new.clock new.rules t edges quartz (last_tick start calls) now order.1 _ (pulses_on i calls) (lately.true_lines i low right) (whole_after i low calls now order) in
+        λ i low right. true_is_even IsTrue new.clock slow evenly (last_tick start calls) now order.1 _ (pulses_on i calls) (lately.true_lines i low right) (whole_after i low calls now order) in
         let few = as_few lately.untrue 0 (frames_of (settled (now % 2 ^ 32) (after_calls new calls).state.lines)) (even 0 (omega arith), (even 1 (omega arith), (even 2 (omega arith), (even 3 (omega arith), (even 4 (omega arith), tt))))) in
         no_more (f_of new.clock.redundancy) (count_by is_uneven (frames_of (settled (now % 2 ^ 32) (after_calls new calls).state.lines))) (omega (arith, few, lately.few))
       where
         no_more : (f n : ℕ) → n ≤ f → nat_lt f n ≡ false
         no_more f n low = grind (arith, low)
 
-    pub stays_steady : (calls : List Call) (now : ℕ) → AreInOrder start new.clock.redundancy (Tick now ∷ calls) → AreTrueLately (IsTrueLately new.clock.within.us new.rules t edges) (f_of new.clock.redundancy) now calls
+    pub stays_steady : (calls : List Call) (now : ℕ) → AreInOrder start new.clock.redundancy (Tick now ∷ calls) → AreTrueLately IsTrue (f_of new.clock.redundancy) now calls
         → is_unsteady (after_calls new calls).clock (after_calls new calls).state (now % 2 ^ 32) ≡ false
     stays_steady calls now order lately =
         let s : ClockState = (after_calls new calls).state in

@@ -24,10 +24,12 @@ use Rattle.irig_time.specs.Carries.{Carries}
 use Rattle.irig_time.specs.Timelines.{TimelineValue}
 use Rattle.irig_port.proofs.FaultLaws.{odd_place, first_odd, second_odd, odd_at, misplaced, marker_at}
 use Rattle.irig_lines.specs.declared.within.Within.{Within}
+use Rattle.irig_lines.specs.declared.setup.ClockRules.{ClockRules}
 use Rattle.irig_lines.specs.Exactness.{end_off_us, fault_early_us, fault_late_us}
 use Rattle.irig_lines.specs.Edges.{IsQuartz, IsTrueNear}
-use Rattle.irig_lines.specs.Lines.{rise_before, AreEven, IsLastBefore, IsFrameOf, StandButForOne, IsCheckedLineOf, RoseBefore, HasOneFaultInPlace, RoseLately, IsTrueButForFaults, IsTrueOrFaulty}
-use Rattle.irig_lines.proofs.LineLaws.{clock_of, true_lately}
+use Rattle.irig_lines.specs.Lines.{rise_before, AreEven, IsLastBefore, StandButForOne, IsCheckedLineOf, RoseBefore, HasOneFaultInPlace, RoseLately, IsTrueButForFaults, IsTrueOrFaulty}
+use Rattle.irig_lines.proofs.LineLaws.{clock_of, true_by_any}
+use Rattle.irig_lines.proofs.WidthLaws.{half_least}
 use Rattle.irig_timekeeper.proofs.LifeLaws.{TellAlwaysTruly}
 
 -- ---- one of some pulses
@@ -453,24 +455,25 @@ module _ (within : Within) (rules : Rules) (t : TimelineValue) (d : ℕ) (edges 
   ended line now end [] claim checked few on at carries even soon = absurd at
   ended line now end (p ∷ ps) claim checked few on at carries even soon = framed line end p ps claim checked (few (lately now 99 p ps on (omega (arith, at, soon)))) on carries at even
 
-  pub faults_are_true : (now end : ℕ) (pulses : List Pulse) (claim : Claim) → IsTrueButForFaults within.us rules t edges now pulses → IsFrameOf within.us d rules claim end pulses → now ≤ end + 100000 → IsNearEdge end claim
-  faults_are_true now end pulses claim is frame soon = ended is.line now end (drop frame.late pulses) claim is.is_line (is.few frame.late) frame.on_time frame.last frame.carries frame.even soon
+  pub faults_are_true : (now end : ℕ) (pulses : List Pulse) (claim : Claim) → IsTrueButForFaults within.us rules t edges now pulses → (late : ℕ) → AreOnTime 100 (drop late pulses) → IsLastBefore end (drop late pulses) → Carries rules (symbols_of_last 100 (drop late pulses)) claim → AreEven within.us d (drop late pulses) → now ≤ end + 100000 → IsNearEdge end claim
+  faults_are_true now end pulses claim is late on last carries even soon = ended is.line now end (drop late pulses) claim is.is_line (is.few late) on last carries even soon
 
 -- so they tell truly, but for so much more before an edge and behind it
-pub faults_tell_truly : (within : Within) (rules : Rules) (t : TimelineValue) (d : ℕ) (edges : ℕ → ℕ) → IsQuartz d edges → TellAlwaysTruly (IsTrueButForFaults within.us rules t edges) within.us d rules t edges (fault_early_us within.us d) (fault_late_us within.us d)
-faults_tell_truly within rules t d edges steady now end pulses claim is frame soon =
-    let near = faults_are_true within rules t d edges steady now end pulses claim is frame soon in
+pub faults_tell_truly : (c : ClockRules) (rules : Rules) (t : TimelineValue) (edges : ℕ → ℕ) → IsQuartz c.drift_us edges → TellAlwaysTruly (IsTrueButForFaults c.within.us rules t edges) c rules t edges (fault_early_us c.within.us c.drift_us) (fault_late_us c.within.us c.drift_us)
+faults_tell_truly c rules t edges steady now half end pulses claim is frame soon =
+    let near = faults_are_true c.within rules t c.drift_us edges steady now end pulses claim is frame.late frame.on_time frame.last frame.carries frame.even soon in
+    let least = half_least c half _ frame.says in
     record {
       second = near.second;
-      near = record { least = omega (arith, near.near.least); most = omega (arith, near.near.most) };
+      near = record { least = omega (arith, near.near.least, least); most = omega (arith, near.near.most, least) };
       truth = near.truth;
     }
 
 -- the same of lines of which any pulses may be lost, or which may have faults
-pub either_tells_truly : (within : Within) (rules : Rules) (t : TimelineValue) (d : ℕ) (edges : ℕ → ℕ) → IsQuartz d edges → TellAlwaysTruly (IsTrueOrFaulty within.us rules t edges) within.us d rules t edges (fault_early_us within.us d) (fault_late_us within.us d)
-either_tells_truly within rules t d edges steady now end pulses claim (inr is) frame soon = faults_tell_truly within rules t d edges steady now end pulses claim is frame soon
-either_tells_truly within rules t d edges steady now end pulses claim (inl is) frame soon =
-    let near = true_lately within rules t d edges now end pulses claim steady is frame soon in
+pub either_tells_truly : (c : ClockRules) (rules : Rules) (t : TimelineValue) (edges : ℕ → ℕ) → IsQuartz c.drift_us edges → TellAlwaysTruly (IsTrueOrFaulty c.within.us rules t edges) c rules t edges (fault_early_us c.within.us c.drift_us) (fault_late_us c.within.us c.drift_us)
+either_tells_truly c rules t edges steady now half end pulses claim (inr is) frame soon = faults_tell_truly c rules t edges steady now half end pulses claim is frame soon
+either_tells_truly c rules t edges steady now half end pulses claim (inl is) frame soon =
+    let near = true_by_any c rules t c.drift_us edges half now end pulses claim steady is frame soon in
     record {
       second = near.second;
       near = record { least = omega (arith, near.near.least); most = omega (arith, near.near.most) };

@@ -12,13 +12,12 @@ use Rattle.irig_sync.proofs.LineLaws.{marks, step_at, on_time_is, place_at_time}
 use Rattle.irig_sync.proofs.EdgeLaws.{next_apart}
 use Rattle.irig_sync.specs.Sync.{clock_gap}
 use Rattle.irig_sync.specs.Lines.{pulse_at, IsAfter, IsSoon, symbols_of_last}
-use Rattle.irig_port.specs.declared.limits.Limits.{Limits}
 use Rattle.irig_time.specs.declared.rules.Rules.{Rules}
 use Rattle.irig_time.specs.declared.claim.Claim.{Claim}
 use Rattle.irig_time.specs.Timelines.{TimelineValue, IsTrueClaim}
 use Rattle.irig_port.specs.declared.told.Told.{Told}
 use Rattle.irig_port.specs.declared.told.Told.TheVariants as tells
-use Rattle.irig_port.specs.Limits.{told_within}
+use Rattle.irig_port.specs.Limits.{told_within, quality_in}
 use Rattle.irig_port.specs.Hearing.{heard_at, heard_of_last}
 use Rattle.irig_port.proofs.RunLaws.{holds_place}
 use Rattle.irig_lines.specs.declared.setup.ClockRules.{ClockRules}
@@ -41,7 +40,9 @@ use Rattle.irig_timekeeper.proofs.LifeLaws.{AreLinesAt, IsLineAt, line_soon, lin
 use Rattle.irig_lines.proofs.WholeLaws.{begin_here, whole_of, AreSorted, whole_here, not_whole, whole_apart, whole_by}
 use Rattle.irig_timekeeper.proofs.OrderLaws.{five, own_pulse, others_pulse}
 use Rattle.irig_lines.specs.Edges.{IsQuartz}
-use Rattle.irig_lines.specs.Exactness.{half_us, end_off_us, uneven_us}
+use Rattle.irig_lines.specs.Exactness.{end_off_us, uneven_us}
+use Rattle.irig_lines.specs.Widths.{half_us, widest_us}
+use Rattle.irig_lines.proofs.WidthLaws.{half_most}
 use Rattle.irig_timekeeper.specs.Announcing.{LeavesTheFirst, IsWhole}
 use Rattle.irig_lines.proofs.LineLaws.{clock_of}
 
@@ -144,9 +145,12 @@ rise_in line edges within (suc n) j (p ∷ ps) rest less are =
     let next : suc n + j ≡ suc (n + j) = omega arith in
     rise_in line edges within n j ps rest (omega (arith, less)) (subst (λ (k : ℕ). ArePulsesBefore line edges within k ps) next are.1)
 
-pub ends_whole : (within : Within) (limits : Option Limits) (rules : Rules) (t : TimelineValue) (d : ℕ) (edges : ℕ → ℕ) (m : ℕ) (pulses : List Pulse) → IsQuartz d edges → (w : IsWhole within.us limits rules t edges m pulses) → EndsWhole within.us d edges m pulses
-ends_whole within limits rules t d edges m pulses quartz w = of w.frame w.parts w.hundred w.are
+pub ends_whole : (c : ClockRules) (rules : Rules) (t : TimelineValue) (d : ℕ) (edges : ℕ → ℕ) (m : ℕ) (pulses : List Pulse) → IsQuartz d edges → (w : IsWhole c rules t edges m pulses) → EndsWhole c.within.us d edges m pulses
+ends_whole c rules t d edges m pulses quartz w = of w.frame w.parts w.hundred w.are
   where
+    within : Within
+    within = c.within
+
     of : (frame : List Pulse) → pulses ≡ frame ++ w.earlier → length frame ≡ 100 → ArePulsesBefore w.line edges within.us (100 * w.f + 100) frame → EndsWhole within.us d edges m pulses
     of [] parts hundred are = absurd cc
     of (p ∷ ps) parts hundred are =
@@ -212,10 +216,10 @@ end_told tells.Silence end half y e = absurd cc
 end_told (tells.Fault f) end half y e = absurd cc
 end_told (tells.Poor q) end half y e = absurd cc
 
-pub stays_kept : (within : ℕ) (clock : ℕ) (frame : Option KeptFrame) (y : KeptClaim) → claim_kept within frame ≡ Some y → is_late y.end_us clock ≡ false → claim_kept within (still_kept clock frame) ≡ Some y
-stays_kept within clock None y e late = absurd cc
-stays_kept within clock (Some x) y e late =
-    let same : is_late x.end_us clock ≡ false = ap (λ (end : ℕ). is_late end clock) (end_told x.told x.end_us (half_us within) y (claim_of_even _ x y e).1) ∙ late in
+pub stays_kept : (c : ClockRules) (clock : ℕ) (frame : Option KeptFrame) (y : KeptClaim) → claim_kept c frame ≡ Some y → is_late y.end_us clock ≡ false → claim_kept c (still_kept clock frame) ≡ Some y
+stays_kept c clock None y e late = absurd cc
+stays_kept c clock (Some x) y e late =
+    let same : is_late x.end_us clock ≡ false = ap (λ (end : ℕ). is_late end clock) (end_told x.told x.end_us (half_us c x.quality) y (claim_of_even c x y e).1) ∙ late in
     rw same e
 
 -- no tick of these calls, which came behind those, has a vote from this time on
@@ -238,14 +242,16 @@ settles k clock e = of (vote_at k clock) e
 
 module _ (t : TimelineValue) (edges : ℕ → ℕ) (new : Keeping) (quartz : IsQuartz new.clock.drift_us edges) (start : ℕ) (begun : AreLinesAt new new (λ i. []) start start) (i : ℕ) (small : i < 5) (m : ℕ) (older : List Call) (told : ℕ) (risen : HaveRisen told older) (past : told + 11000 < edges m) where
   abbrev kept_claim : List Call → Option KeptClaim
-  kept_claim calls = claim_kept new.clock.within.us (line_at (after_calls new calls).state.lines i).frame
+  kept_claim calls = claim_kept new.clock (line_at (after_calls new calls).state.lines i).frame
 
   -- the line keeps the whole frame
   pub record Keeps (calls : List Call) : Type 0 where
     pub claim : Claim
     pub truth : IsTrueClaim t m claim
     pub end : ℕ
-    pub keeps : kept_claim calls ≡ Some (record { claim = claim; end_us = end % 2 ^ 32; half_us = half_us new.clock.within.us })
+    pub half : ℕ
+    pub keeps : kept_claim calls ≡ Some (record { claim = claim; end_us = end % 2 ^ 32; half_us = half })
+    pub half_of : (new.clock.within.us - 1 ≤ half) × (half ≤ widest_us new.clock)
     pub least : edges m ≤ end + end_off_us new.clock.within.us new.clock.drift_us
     pub most : end ≤ edges m + end_off_us new.clock.within.us new.clock.drift_us
     pub close_least : ends_at edges m ≤ end + (new.clock.within.us - 1)
@@ -262,6 +268,8 @@ module _ (t : TimelineValue) (edges : ℕ → ℕ) (new : Keeping) (quartz : IsQ
     claim = k.claim;
     truth = k.truth;
     end = k.end;
+    half = k.half;
+    half_of = k.half_of;
     keeps = same ∙ k.keeps;
     least = k.least;
     most = k.most;
@@ -272,7 +280,7 @@ module _ (t : TimelineValue) (edges : ℕ → ℕ) (new : Keeping) (quartz : IsQ
 
   -- the hundredth
   module _ (port rise width : ℕ) (calls : List Call) (now : ℕ) (order : AreInOrder start new.clock.redundancy (Tick now ∷ (Hear port rise width ∷ calls))) (narrow : is_pulse width ≡ true) (same : (i == port) ≡ true)
-      (w : IsWhole new.clock.within.us new.limits new.rules t edges m (pulses_on i (Hear port rise width ∷ calls))) (ends : EndsWhole new.clock.within.us new.clock.drift_us edges m (pulses_on i (Hear port rise width ∷ calls))) where
+      (w : IsWhole new.clock new.rules t edges m (pulses_on i (Hear port rise width ∷ calls))) (ends : EndsWhole new.clock.within.us new.clock.drift_us edges m (pulses_on i (Hear port rise width ∷ calls))) where
     abbrev k : Keeping
     k = after_calls new calls
 
@@ -331,15 +339,15 @@ module _ (t : TimelineValue) (edges : ℕ → ℕ) (new : Keeping) (quartz : IsQ
         ∙ holds_place (suc (length pulses)) (p ∷ pulses) (omega (arith, hundred)) (omega (arith, hundred, long))
         ∙ ap (λ (n : ℕ). symbols_of_last n (p ∷ pulses)) hundred
 
-    tells_it : told_within k.limits k.rules (heard_then k i (rise % 2 ^ 32) width) ≡ tells.Claim w.claim
+    tells_it : told_within (Some k.clock.limits.limits) k.rules (heard_then k i (rise % 2 ^ 32) width) ≡ tells.Claim w.claim
     tells_it =
-        ap (λ (r : Rules). told_within k.limits r (heard_then k i (rise % 2 ^ 32) width)) all.same.rules
-        ∙ ap (λ (l : Option Limits). told_within l new.rules (heard_then k i (rise % 2 ^ 32) width)) all.same.limits
-        ∙ ap (told_within new.limits new.rules) (heard ∙ ap (symbols_of_last 100) (sym on)) ∙ w.tells
+        ap (λ (r : Rules). told_within (Some k.clock.limits.limits) r (heard_then k i (rise % 2 ^ 32) width)) all.same.rules
+        ∙ ap (λ (c : ClockRules). told_within (Some c.limits.limits) new.rules (heard_then k i (rise % 2 ^ 32) width)) all.same.clock
+        ∙ ap (told_within (Some new.clock.limits.limits) new.rules) (heard ∙ ap (symbols_of_last 100) (sym on)) ∙ w.tells
 
-    own_line : line_at (after_pulse k port (rise % 2 ^ 32) width).state.lines i ≡ line_heard k.clock line (rise % 2 ^ 32) width (told_within k.limits k.rules (heard_then k i (rise % 2 ^ 32) width))
+    own_line : line_at (after_pulse k port (rise % 2 ^ 32) width).state.lines i ≡ line_heard k.clock line (rise % 2 ^ 32) width (told_within (Some k.clock.limits.limits) k.rules (heard_then k i (rise % 2 ^ 32) width)) (quality_in (heard_then k i (rise % 2 ^ 32) width))
     own_line =
-        subst (λ (j : ℕ). line_at (after_pulse k j (rise % 2 ^ 32) width).state.lines i ≡ line_heard k.clock line (rise % 2 ^ 32) width (told_within k.limits k.rules (heard_then k i (rise % 2 ^ 32) width))) at
+        subst (λ (j : ℕ). line_at (after_pulse k j (rise % 2 ^ 32) width).state.lines i ≡ line_heard k.clock line (rise % 2 ^ 32) width (told_within (Some k.clock.limits.limits) k.rules (heard_then k i (rise % 2 ^ 32) width)) (quality_in (heard_then k i (rise % 2 ^ 32) width))) at
         (rw narrow (line_same k.state.lines i _ small))
 
     -- it is even
@@ -352,10 +360,10 @@ module _ (t : TimelineValue) (edges : ℕ → ℕ) (new : Keeping) (quartz : IsQ
         subst (λ (c : ClockRules). is_even c line.begin_us (rise % 2 ^ 32) ≡ true) (sym all.same.clock)
         (ap (λ (b : ℕ). is_even new.clock b (rise % 2 ^ 32)) begin ∙ even_by new.clock (rise_before 99 (p ∷ pulses)) rise quartz.few rose.0 rose.1)
 
-    kept_then : (c : ClockRules) (begin place rise : ℕ) (told : Told) (frame : Option KeptFrame) (claim : Claim) → place ≡ 100 → told ≡ tells.Claim claim → is_even c begin (rise % 2 ^ 32) ≡ true → claim_kept new.clock.within.us (frame_behind c place begin (rise % 2 ^ 32) told frame) ≡ Some (record { claim = claim; end_us = (rise + 10000) % 2 ^ 32; half_us = half_us new.clock.within.us })
-    kept_then c begin place rise told frame claim whole says even =
+    kept_then : (c : ClockRules) (begin place rise : ℕ) (told : Told) (quality : ℕ) (frame : Option KeptFrame) (claim : Claim) → place ≡ 100 → told ≡ tells.Claim claim → is_even c begin (rise % 2 ^ 32) ≡ true → claim_kept new.clock (frame_behind c place begin (rise % 2 ^ 32) told quality frame) ≡ Some (record { claim = claim; end_us = (rise + 10000) % 2 ^ 32; half_us = half_us new.clock quality })
+    kept_then c begin place rise told quality frame claim whole says even =
         let wrap : (rise % 2 ^ 32 + 10000) % 2 ^ 32 ≡ (rise + 10000) % 2 ^ 32 = omega arith in
-        rw (whole, says, even) (ap (λ (end : ℕ). Some (record { claim = claim; end_us = end; half_us = half_us new.clock.within.us })) wrap)
+        rw (whole, says, even) (ap (λ (end : ℕ). Some (record { claim = claim; end_us = end; half_us = half_us new.clock quality })) wrap)
 
     keeps_whole : Keeps (Hear port rise width ∷ calls)
     keeps_whole =
@@ -364,7 +372,9 @@ module _ (t : TimelineValue) (edges : ℕ → ℕ) (new : Keeping) (quartz : IsQ
           claim = w.claim;
           truth = w.truth;
           end = rise + 10000;
-          keeps = ap (λ (x : Line). claim_kept new.clock.within.us x.frame) own_line ∙ kept_then k.clock line.begin_us (place_of line.sync (rise % 2 ^ 32) width) rise (told_within k.limits k.rules (heard_then k i (rise % 2 ^ 32) width)) line.frame w.claim (place ∙ hundred) tells_it even;
+          half = half_us new.clock (quality_in (heard_then k i (rise % 2 ^ 32) width));
+          half_of = (omega arith, half_most new.clock (quality_in (heard_then k i (rise % 2 ^ 32) width)));
+          keeps = ap (λ (x : Line). claim_kept new.clock x.frame) own_line ∙ kept_then k.clock line.begin_us (place_of line.sync (rise % 2 ^ 32) width) rise (told_within (Some k.clock.limits.limits) k.rules (heard_then k i (rise % 2 ^ 32) width)) (quality_in (heard_then k i (rise % 2 ^ 32) width)) line.frame w.claim (place ∙ hundred) tells_it even;
           least = omega (arith, rises, ends.least);
           most = omega (arith, rises, ends.most);
           close_least = omega (arith, rises, ends.close_least);
@@ -373,7 +383,7 @@ module _ (t : TimelineValue) (edges : ℕ → ℕ) (new : Keeping) (quartz : IsQ
         }
 
   -- what is too wide is no pulse
-  passes_wide : (port rise width : ℕ) (calls : List Call) → is_pulse width ≡ false → claim_kept new.clock.within.us (line_at (after_pulse (after_calls new calls) port rise width).state.lines i).frame ≡ kept_claim calls
+  passes_wide : (port rise width : ℕ) (calls : List Call) → is_pulse width ≡ false → claim_kept new.clock (line_at (after_pulse (after_calls new calls) port rise width).state.lines i).frame ≡ kept_claim calls
   passes_wide port rise width calls wide = rw wide refl
 
   -- a tick without a vote
@@ -386,7 +396,9 @@ module _ (t : TimelineValue) (edges : ℕ → ℕ) (new : Keeping) (quartz : IsQ
         claim = k.claim;
         truth = k.truth;
         end = k.end;
-        keeps = ap (claim_kept new.clock.within.us) lines ∙ stays_kept _ clock (line_at (after_calls new calls).state.lines i).frame (record { claim = k.claim; end_us = k.end % 2 ^ 32; half_us = half_us new.clock.within.us }) k.keeps late;
+        half = k.half;
+        half_of = k.half_of;
+        keeps = ap (claim_kept new.clock) lines ∙ stays_kept new.clock clock (line_at (after_calls new calls).state.lines i).frame (record { claim = k.claim; end_us = k.end % 2 ^ 32; half_us = k.half }) k.keeps late;
         least = k.least;
         most = k.most;
         close_least = k.close_least;
@@ -411,7 +423,9 @@ module _ (t : TimelineValue) (edges : ℕ → ℕ) (new : Keeping) (quartz : IsQ
           claim = k.claim;
           truth = k.truth;
           end = k.end;
-          keeps = ap (claim_kept new.clock.within.us) (own_pulse (after_calls new calls) port i (rise % 2 ^ 32) width small narrow at (λ ends. inside (sym place ∙ ends))) ∙ k.keeps;
+          half = k.half;
+          half_of = k.half_of;
+          keeps = ap (claim_kept new.clock) (own_pulse (after_calls new calls) port i (rise % 2 ^ 32) width small narrow at (λ ends. inside (sym place ∙ ends))) ∙ k.keeps;
           least = k.least;
           most = k.most;
           close_least = k.close_least;
@@ -421,7 +435,7 @@ module _ (t : TimelineValue) (edges : ℕ → ℕ) (new : Keeping) (quartz : IsQ
 
   -- the frame was told, and then so many pulses
   abbrev pub Whole : ℕ → List Pulse → Type 0
-  Whole late pulses = IsWhole new.clock.within.us new.limits new.rules t edges m (drop late pulses)
+  Whole late pulses = IsWhole new.clock new.rules t edges m (drop late pulses)
 
   drop_more : (late : ℕ) (p : Pulse) (ps : List Pulse) → drop (suc late) (p ∷ ps) ≡ drop late ps
   drop_more late p ps = refl
@@ -434,10 +448,10 @@ module _ (t : TimelineValue) (edges : ℕ → ℕ) (new : Keeping) (quartz : IsQ
   -- what was told before rose too early to be its last
   pub not_before : (late : ℕ) (ps : List Pulse) → AreSorted ps → IsAfter ps told → ¬ Whole late ps
   not_before zero ps sorted after w =
-      let ends = ends_whole new.clock.within new.limits new.rules t new.clock.drift_us edges m ps quartz w in
+      let ends = ends_whole new.clock new.rules t new.clock.drift_us edges m ps quartz w in
       absurd (let rose = subst (λ (x : List Pulse). IsAfter x told) ends.are after in omega (arith, rose, ends.least, past, quartz.few, new.clock.within.few))
   not_before (suc late) [] sorted after w =
-      let ends = ends_whole new.clock.within new.limits new.rules t new.clock.drift_us edges m [] quartz w in
+      let ends = ends_whole new.clock new.rules t new.clock.drift_us edges m [] quartz w in
       absurd (let none = ends.are in cc)
   not_before (suc late) (p ∷ ps) sorted after w = not_before late ps sorted.1 (earlier ps p.rise sorted.0 after) w
     where
@@ -445,7 +459,7 @@ module _ (t : TimelineValue) (edges : ℕ → ℕ) (new : Keeping) (quartz : IsQ
       earlier [] rise after on = tt
       earlier (q ∷ qs) rise after on = omega (arith, after, on)
 
-  pub whole_kept : (later : List Call) (now : ℕ) → AreInOrder start new.clock.redundancy (Tick now ∷ (later ++ older)) → HaveNoVotes new (edges m - 15000) later older → now ≤ edges m + 98000 → (late : ℕ) → Whole late (pulses_on i (later ++ older)) → Keeps (later ++ older)
+  pub whole_kept : (later : List Call) (now : ℕ) → AreInOrder start new.clock.redundancy (Tick now ∷ (later ++ older)) → HaveNoVotes new (edges m - 17000) later older → now ≤ edges m + 98000 → (late : ℕ) → Whole late (pulses_on i (later ++ older)) → Keeps (later ++ older)
   whole_kept [] now order none upto late w = absurd (not_before late (pulses_on i older) ((lines_after new start begun older now order).lines i small).sorted (risen i) w)
   whole_kept (Tick time ∷ later) now order none upto late w =
       let before = whole_kept later time order.3 none.1 (omega (arith, order.0, upto)) late w in
@@ -456,7 +470,7 @@ module _ (t : TimelineValue) (edges : ℕ → ℕ) (new : Keeping) (quartz : IsQ
         let same = others_pulses i port rise width (later ++ older) other in
         let before = whole_kept later now (unheard start new.clock.redundancy port rise width now (later ++ older) order) none upto late (subst (Whole late) same w) in
         let line = others_pulse (after_calls new (later ++ older)) port i (rise % 2 ^ 32) width (omega (arith, order.3.0, five new.clock.redundancy)) small (eqb-false i port other) in
-        passes (Hear port rise width) (later ++ older) (ap (λ (x : Line). claim_kept new.clock.within.us x.frame) line) same before
+        passes (Hear port rise width) (later ++ older) (ap (λ (x : Line). claim_kept new.clock x.frame) line) same before
     | inl same ↦ elim (cases_Bool (is_pulse width)) [
       | inr wide ↦
           let none_more = no_pulse i port rise width (later ++ older) wide in
@@ -467,7 +481,7 @@ module _ (t : TimelineValue) (edges : ℕ → ℕ) (new : Keeping) (quartz : IsQ
   ]
     where
       by : is_pulse width ≡ true → (i == port) ≡ true → (late : ℕ) → Whole late (pulses_on i (Hear port rise width ∷ (later ++ older))) → ((late : ℕ) → Whole late (pulses_on i (later ++ older)) → Keeps (later ++ older)) → Keeps (Hear port rise width ∷ (later ++ older))
-      by narrow same zero w kept = keeps_whole port rise width (later ++ older) now order narrow same w (ends_whole new.clock.within new.limits new.rules t new.clock.drift_us edges m _ quartz w)
+      by narrow same zero w kept = keeps_whole port rise width (later ++ older) now order narrow same w (ends_whole new.clock new.rules t new.clock.drift_us edges m _ quartz w)
       by narrow same (suc late) w kept =
           let on = own_pulses i port rise width (later ++ older) narrow same in
           let before = kept late (subst (λ (ps : List Pulse). Whole (suc late) ps) on w) in

@@ -16,7 +16,7 @@ use Rattle.irig_lines.specs.declared.setup.ClockRules.{ClockRules}
 use Rattle.irig_lines.specs.Counting.{edges_to_vote, edges_own}
 use Rattle.irig_lines.specs.Lines.{IsTrueLately}
 use Rattle.irig_lines.specs.Steps.{agreed, settled, if_come}
-use Rattle.irig_lines.proofs.LineLaws.{true_lately}
+use Rattle.irig_lines.proofs.LineLaws.{true_by_any}
 use Rattle.irig_timekeeper.specs.declared.clock.Beat.{Beat}
 use Rattle.irig_timekeeper.specs.declared.clock.ClockState.{ClockState}
 use Rattle.irig_timekeeper.specs.Rule.{against_table, step_behind, missed}
@@ -107,10 +107,10 @@ never_against t edges made start now calls b right lives answer = told_of_vote k
     of : (o : Option Vote) → vote_at k (now % 2 ^ 32) ≡ o → against_table k.table (claim_voted o) ≡ false
     of None e = refl
     of (Some v) e =
-        let begun = begins made.limits made.rules made.clock made.table made.lines start made.fresh in
+        let begun = begins made.rules made.clock made.table made.lines start made.fresh in
         let l = lines_after (device_of made) start begun calls now lives.order in
         let h = heard_truly (IsTrueLately made.clock.within.us made.rules t edges) t edges 0 0 (device_of made) start begun calls now lives.order lives.truth.0 in
         let vote = vote_is_true (IsTrueLately made.clock.within.us made.rules t edges now) made.rules t made.clock edges lives.is.steady 0 0 (omega arith) now (life_of made calls).state.lines (λ i. pulses_on i calls)
-        (λ end pulses claim is_true frame soon. true_lately made.clock.within made.rules t made.clock.drift_us edges now end pulses claim lives.is.steady is_true frame soon) h v
+        (λ half end pulses claim is_true frame soon. true_by_any made.clock made.rules t made.clock.drift_us edges half now end pulses claim lives.is.steady is_true frame soon) h v
         (ap (λ (c : ClockRules). if_come (now % 2 ^ 32) (agreed c (settled (now % 2 ^ 32) (life_of made calls).state.lines))) (sym l.same.clock) ∙ e) in
         ap (λ (x : TableValue). against_table x (Some v.claim)) l.same.table ∙ true_agrees t made.table vote.truth.second v.claim right vote.truth.truth

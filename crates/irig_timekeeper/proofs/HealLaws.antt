@@ -28,7 +28,7 @@ use Rattle.irig_timekeeper.specs.declared.clock.Beat.{Beat}
 use Rattle.irig_lines.specs.declared.setup.ClockRules.{ClockRules}
 use Rattle.irig_timekeeper.specs.declared.clock.ClockState.{ClockState}
 use Rattle.irig_lines.specs.Lines.{IfKept}
-use Rattle.irig_lines.specs.Exactness.{window_us, vote_us}
+use Rattle.irig_lines.specs.Widths.{reach_us, vote_us}
 use Rattle.irig_lines.specs.Counting.{edges_to_vote, edges_own}
 use Rattle.irig_timekeeper.specs.Rule.{missed, against_table, step_checked}
 use Rattle.irig_lines.specs.Steps.{is_pulse, line_at, claim_kept, all_kept, still_kept, settled, agreed, if_come}
@@ -53,18 +53,18 @@ use Rattle.irig_timekeeper.proofs.CheckedSteps.{checked_cases}
 IsMarked : KeptClaim → Type 0
 IsMarked y = IsMarkedLate y.claim
 
-kept_marked : (EndsSo : ℕ → Type 0) (within d : ℕ) (rules : Rules) (kept : Option KeptClaim) (pulses : List Pulse) (y : KeptClaim) → IfKept EndsSo within d rules kept pulses → kept ≡ Some y → IsMarked y
+kept_marked : (EndsSo : ℕ → Type 0) (c : ClockRules) (rules : Rules) (kept : Option KeptClaim) (pulses : List Pulse) (y : KeptClaim) → IfKept EndsSo c rules kept pulses → kept ≡ Some y → IsMarked y
 unfolding IsMarked
-kept_marked EndsSo within d rules None pulses y h e = absurd cc
-kept_marked EndsSo within d rules (Some x) pulses y h e =
+kept_marked EndsSo c rules None pulses y h e = absurd cc
+kept_marked EndsSo c rules (Some x) pulses y h e =
     let same : x ≡ y = cc in
     subst (λ (v : KeptClaim). IsMarkedLate v.claim) same (claim_marked _ _ _ x.claim h.2.carries.claims)
 
-module _ (c : ClockRules) (EndsSo : List Pulse → ℕ → Type 0) (rules : Rules) (lines : Lines) (pulses : ℕ → List Pulse) (kept : (i : ℕ) → i < 5 → IfKept (EndsSo (pulses i)) c.within.us c.drift_us rules (claim_kept c.within.us (line_at lines i).frame) (pulses i)) where
-  marked_at : (clock i : ℕ) → i < 5 → (y : KeptClaim) → claim_kept c.within.us (still_kept clock (line_at lines i).frame) ≡ Some y → IsMarked y
-  marked_at clock i low y e = kept_marked (EndsSo (pulses i)) c.within.us c.drift_us rules (claim_kept c.within.us (line_at lines i).frame) (pulses i) y (kept i low) (still _ clock (line_at lines i).frame y e).0
+module _ (c : ClockRules) (EndsSo : List Pulse → ℕ → Type 0) (rules : Rules) (lines : Lines) (pulses : ℕ → List Pulse) (kept : (i : ℕ) → i < 5 → IfKept (EndsSo (pulses i)) c rules (claim_kept c (line_at lines i).frame) (pulses i)) where
+  marked_at : (clock i : ℕ) → i < 5 → (y : KeptClaim) → claim_kept c (still_kept clock (line_at lines i).frame) ≡ Some y → IsMarked y
+  marked_at clock i low y e = kept_marked (EndsSo (pulses i)) c rules (claim_kept c (line_at lines i).frame) (pulses i) y (kept i low) (still c clock (line_at lines i).frame y e).0
 
-  each_marked : (clock : ℕ) → EachKept IsMarked (all_kept c.within.us (settled clock lines))
+  each_marked : (clock : ℕ) → EachKept IsMarked (all_kept c (settled clock lines))
   each_marked clock =
       one_more IsMarked _ _ (marked_at clock 0 (omega arith))
       (one_more IsMarked _ _ (marked_at clock 1 (omega arith))
@@ -75,10 +75,10 @@ module _ (c : ClockRules) (EndsSo : List Pulse → ℕ → Type 0) (rules : Rule
   vote_marked : (clock : ℕ) (v : Vote) → if_come clock (agreed c (settled clock lines)) ≡ Some v → IsMarkedLate v.claim
   unfolding IsMarked
   vote_marked clock v e =
-      let all = all_kept c.within.us (settled clock lines) in
+      let all = all_kept c (settled clock lines) in
       let first = agreed_first c (settled clock lines) v (come clock (agreed c (settled clock lines)) v e).0 in
       let claims = ap (λ (x : Vote). x.claim) first.2 in
-      subst IsMarkedLate (sym claims) (is_one IsMarked (window_us c.within.us) (f_of c.redundancy) all all first.0 (each_marked clock) first.1).1
+      subst IsMarkedLate (sym claims) (is_one IsMarked (reach_us c) (f_of c.redundancy) all all first.0 (each_marked clock) first.1).1
 
 -- ---- and so a reader heard of one there
 
@@ -209,7 +209,7 @@ module _ (t : TimelineValue) (edges : ℕ → ℕ) (early late : ℕ) (k : Keepi
       (subst (λ (x : TableValue). Heals k.clock x) same.table (heals_here heard vote voted answer))
 
 module _ (IsTrue : ℕ → List Pulse → Type 0) (t : TimelineValue) (edges : ℕ → ℕ) (early late : ℕ) (new : Keeping) (start : ℕ) (begins : AreLinesAt new new (λ i. []) start start) (heard : IfHold new.state.reader HasHeardLate)
-    (is : IsDevice t new.clock.drift_us edges new.clock.reader_rules new.table) (room : early + late ≤ 3002) (truly : TellAlwaysTruly IsTrue new.clock.within.us new.clock.drift_us new.rules t edges early late) where
+    (is : IsDevice t new.clock.drift_us edges new.clock.reader_rules new.table) (room : early + late ≤ 3002) (truly : TellAlwaysTruly IsTrue new.clock new.rules t edges early late) where
   pub mended : (earlier : List Call) (mend : ℕ) (v : Vote) (b : Beat) → AreInOrder start new.clock.redundancy (Tick mend ∷ earlier) → AreTrueLately IsTrue (f_of new.clock.redundancy) mend earlier
       → vote_at (after_calls new earlier) (mend % 2 ^ 32) ≡ Some v → answer_at (after_calls new earlier) (mend % 2 ^ 32) ≡ Some b
       → Mends t new.clock.drift_us edges early late new.clock.reader_rules new.table mend (after_calls new (Tick mend ∷ earlier)).state b
@@ -221,11 +221,11 @@ module _ (IsTrue : ℕ → List Pulse → Type 0) (t : TimelineValue) (edges : �
       (ap (λ (c : ClockRules). if_come (mend % 2 ^ 32) (agreed c (settled (mend % 2 ^ 32) k.state.lines))) (sym l.same.clock) ∙ voted) in
       heals t edges early late k mend v b new l.same (late_life new start begins heard earlier order.3) vote voted answer is
 
-  pub healed : new.state.bound_us ≤ vote_us new.clock.within.us new.clock.drift_us → (earlier later : List Call) (mend now : ℕ) (v : Vote) (b then : Beat) (u : UtcSecond) → AreInOrder start new.clock.redundancy (Tick now ∷ (later ++ (Tick mend ∷ earlier)))
+  pub healed : new.state.bound_us ≤ vote_us new.clock new.clock.drift_us → (earlier later : List Call) (mend now : ℕ) (v : Vote) (b then : Beat) (u : UtcSecond) → AreInOrder start new.clock.redundancy (Tick now ∷ (later ++ (Tick mend ∷ earlier)))
       → AreTrueLately IsTrue (f_of new.clock.redundancy) mend earlier → AreTrueOver IsTrue (f_of new.clock.redundancy) (Tick now ∷ later) (Tick mend ∷ earlier)
       → vote_at (after_calls new earlier) (mend % 2 ^ 32) ≡ Some v → answer_at (after_calls new earlier) (mend % 2 ^ 32) ≡ Some b
       → answer_at (after_calls new (later ++ (Tick mend ∷ earlier))) (now % 2 ^ 32) ≡ Some then → then.report.announce ≡ Some u
-      → IsToldInHoldover t edges early late new.clock.within.us new.clock.drift_us new.clock.reader_rules.holdover now then u
+      → IsToldInHoldover t edges early late new.clock now then u
   healed low earlier later mend now v b then u order lately truth voted answer answers says =
       let ordered = order_before start new.clock.redundancy later (Tick mend ∷ earlier) order.3 in
       let base = (mended earlier mend v b ordered lately voted answer).track in

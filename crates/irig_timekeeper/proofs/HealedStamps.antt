@@ -8,7 +8,6 @@ use Rattle.irig_time.specs.declared.second.UtcSecond.{UtcSecond}
 use Rattle.irig_time.specs.declared.rules.Rules.{Rules}
 use Rattle.irig_time.specs.Timelines.{TimelineValue}
 use Rattle.irig_time.specs.Tables.{TableValue}
-use Rattle.irig_port.specs.declared.limits.Limits.{Limits}
 use Rattle.irig_vote.specs.Vote.{f_of}
 use Rattle.irig_lines.specs.declared.lines.Lines.{Lines}
 use Rattle.irig_lines.specs.declared.lines.Vote.{Vote}
@@ -68,11 +67,11 @@ says_last edge bound (Some w) u e = (record { second = w; edge_us = edge; bound_
 
 -- ---- a device
 
-module _ (limits : Option Limits) (rules : Rules) (clock : ClockRules) (table : TableValue) (lines : Lines) (start : ℕ) (fresh : AreNewLines lines) (IsTrue : ℕ → List Pulse → Type 0) (t : TimelineValue) (edges : ℕ → ℕ) (early late more : ℕ)
-    (is : IsDevice t clock.drift_us edges clock.reader_rules table) (room : early + late ≤ 3002) (low : early ≤ more) (high : late ≤ more) (truly : TellAlwaysTruly IsTrue clock.within.us clock.drift_us rules t edges early late)
+module _ (rules : Rules) (clock : ClockRules) (table : TableValue) (lines : Lines) (start : ℕ) (fresh : AreNewLines lines) (IsTrue : ℕ → List Pulse → Type 0) (t : TimelineValue) (edges : ℕ → ℕ) (early late more : ℕ)
+    (is : IsDevice t clock.drift_us edges clock.reader_rules table) (room : early + late ≤ 3002) (low : early ≤ more) (high : late ≤ more) (truly : TellAlwaysTruly IsTrue clock rules t edges early late)
     (earlier : List Call) (mend : ℕ) (v : Vote) (b : Beat) (lately : AreTrueLately IsTrue (f_of clock.redundancy) mend earlier) where
   abbrev new : Keeping
-  new = new_keeping limits rules clock table lines
+  new = new_keeping rules clock table lines
 
   abbrev base : List Call
   base = Tick mend ∷ earlier
@@ -102,12 +101,12 @@ module _ (limits : Option Limits) (rules : Rules) (clock : ClockRules) (table : 
   split last A a was = was
 
   module _ (order : AreInOrder start clock.redundancy (Tick mend ∷ earlier)) (voted : vote_at (after_calls new earlier) (mend % 2 ^ 32) ≡ Some v) (answer : answer_at (after_calls new earlier) (mend % 2 ^ 32) ≡ Some b) where
-    tells_mend : TellsSo limits rules clock table lines start fresh Told earlier mend
+    tells_mend : TellsSo rules clock table lines start fresh Told earlier mend
     tells_mend =
-        tells_truly limits rules clock table lines start fresh t edges early late is earlier mend
-        (λ x u told announces. ((mended IsTrue t edges early late new start (begins limits rules clock table lines start fresh) tt is room truly earlier mend v x order lately voted told).told u announces).told)
+        tells_truly rules clock table lines start fresh t edges early late is earlier mend
+        (λ x u told announces. ((mended IsTrue t edges early late new start (begins rules clock table lines start fresh) tt is room truly earlier mend v x order lately voted told).told u announces).told)
 
-    turns_old : (edge : ℕ) → IsEdgeAt b.edge_us edge mend → (a : Announced) → (state limits rules clock table lines start fresh base).before ≡ Some a → IsToldBefore AnyEdge IsToldAnyhow edge a → Before (state limits rules clock table lines start fresh base).last edge a
+    turns_old : (edge : ℕ) → IsEdgeAt b.edge_us edge mend → (a : Announced) → (state rules clock table lines start fresh base).before ≡ Some a → IsToldBefore AnyEdge IsToldAnyhow edge a → Before (state rules clock table lines start fresh base).last edge a
     unfolding Before
     turns_old edge at a kept was =
         let k : Keeping = after_calls new earlier in
@@ -116,25 +115,25 @@ module _ (limits : Option Limits) (rules : Rules) (clock : ClockRules) (table : 
         let last = says_last b.edge_us b.bound_us b.report.announce said.0 said.1 in
         inr (record { old = was; at = at; said = said; beside = (last.0, left.0 ∙ last.1) })
 
-    at_mend : IfStamps limits rules clock table lines start fresh Put Told Before base (state limits rules clock table lines start fresh base).edge_us
+    at_mend : IfStamps rules clock table lines start fresh Put Told Before base (state rules clock table lines start fresh base).edge_us
     at_mend =
         let any : Option Announced → ℕ → Announced → Type 0 = λ last A a. Unit {0} in
-        let were = stamps limits rules clock table lines start fresh AnyEdge IsToldAnyhow any (λ last edge a was. tt) earlier order.3 (tell_anyhow limits rules clock table lines start fresh t edges is earlier) in
-        beat_stamps limits rules clock table lines start fresh Put Told Before earlier mend order AnyEdge (λ x e V at. tt) IsToldAnyhow any b answer tells_mend turns_old were
+        let were = stamps rules clock table lines start fresh AnyEdge IsToldAnyhow any (λ last edge a was. tt) earlier order.3 (tell_anyhow rules clock table lines start fresh t edges is earlier) in
+        beat_stamps rules clock table lines start fresh Put Told Before earlier mend order AnyEdge (λ x e V at. tt) IsToldAnyhow any b answer tells_mend turns_old were
 
-    tell_since : (later : List Call) → AreInOrder start clock.redundancy (later ++ base) → AreTrueOver IsTrue (f_of clock.redundancy) later base → TellSo limits rules clock table lines start fresh Put Told later base
+    tell_since : (later : List Call) → AreInOrder start clock.redundancy (later ++ base) → AreTrueOver IsTrue (f_of clock.redundancy) later base → TellSo rules clock table lines start fresh Put Told later base
     tell_since [] ordered truth = tt
     tell_since (Hear port rise width ∷ later) ordered truth = tell_since later ordered.2 truth
     tell_since (Tick now ∷ later) ordered truth = (
-      tells_truly limits rules clock table lines start fresh t edges early late is (later ++ base) now
-          (λ x u told announces. ((tick_since IsTrue t edges early late new start (begins limits rules clock table lines start fresh) tt is room truly earlier mend v b lately voted answer later now ordered truth.0 truth.1).told x u told announces).told),
-      puts_truly limits rules clock table lines start fresh t edges early late is IsTrue room truly (later ++ base) now ordered truth.0,
+      tells_truly rules clock table lines start fresh t edges early late is (later ++ base) now
+          (λ x u told announces. ((tick_since IsTrue t edges early late new start (begins rules clock table lines start fresh) tt is room truly earlier mend v b lately voted answer later now ordered truth.0 truth.1).told x u told announces).told),
+      puts_truly rules clock table lines start fresh t edges early late is IsTrue room truly (later ++ base) now ordered truth.0,
       tell_since later ordered.3 truth.1,
     )
 
     module _ (V time now : ℕ) (at : IsEdgeAt b.edge_us V mend) (when : (V ≤ time) ⊎ (b.report.announce ≡ None)) (past : time ≤ now) (young : now ≤ time + 1800000000) where
       -- an event that comes behind the vote's edge is no longer stamped by what came before
-      gone : (last : Option Announced) (A tick : ℕ) (a : Announced) → now < tick + 1800000000 → tick < A + 1505000 → ((x : Announced) → last ≡ Some x → Told A x) → IsOld last A a → (stamp : Stamp) → stamp_by last 0 (time % 2 ^ 32) ≡ None → ¬ (stamp_by (Some a) (next_us last (Some a)) (time % 2 ^ 32) ≡ Some stamp)
+      gone : (last : Option Announced) (A tick : ℕ) (a : Announced) → now < tick + 1800000000 → tick < A + 1509000 → ((x : Announced) → last ≡ Some x → Told A x) → IsOld last A a → (stamp : Stamp) → stamp_by last 0 (time % 2 ^ 32) ≡ None → ¬ (stamp_by (Some a) (next_us last (Some a)) (time % 2 ^ 32) ≡ Some stamp)
       gone last A tick a soon near tells old stamp none says = elim when [
         | inr silent ↦ let both : None ≡ Some old.said.0 = sym silent ∙ old.said.1 in cc
         | inl behind ↦
@@ -146,7 +145,7 @@ module _ (limits : Option Limits) (rules : Rules) (clock : ClockRules) (table : 
             two_ways x.edge_us x.bound_us A V a.edge_us a.bound_us old.old.edge tick soon near same behind told.clock old.old.told.clock old.old.told.small old.old.order old.old.soon far serves.near
       ]
         where
-          two_ways : (x bound A V y small old tick : ℕ) → now < tick + 1800000000 → tick < A + 1505000 → A ≡ V → V ≤ time → x ≡ A % 2 ^ 32 → y ≡ old % 2 ^ 32 → small ≤ most_vote_us + most_held_us → old + 500000 ≤ A → A < old + 1802000000
+          two_ways : (x bound A V y small old tick : ℕ) → now < tick + 1800000000 → tick < A + 1509000 → A ≡ V → V ≤ time → x ≡ A % 2 ^ 32 → y ≡ old % 2 ^ 32 → small ≤ most_vote_us + most_held_us → old + 500000 ≤ A → A < old + 1802000000
               → 1000000 + bound < clock_gap x (time % 2 ^ 32) → (clock_gap y (time % 2 ^ 32) ≤ 1000000 + small) ⊎ ((clock_gap y (time % 2 ^ 32) < clock_gap y x) × (clock_gap y x < 1500000)) → ⊥
           two_ways x bound A V y small old tick soon near same behind at_x at_y few apart later far close =
               let gap : clock_gap x (time % 2 ^ 32) + A ≡ time = omega (arith, soon, near, same, behind, at_x, past) in
@@ -165,10 +164,10 @@ module _ (limits : Option Limits) (rules : Rules) (clock : ClockRules) (table : 
               let calls : List Call = later ++ base in
               let ahead : last_tick start calls ≤ now = ordered.0 in
               let soon : now < last_tick start calls + 1800000000 = omega (arith, ordered.1) in
-              let are = stamps_on limits rules clock table lines start fresh Put Told Before made base at_mend later ordered.3 (tell_since later ordered.3 truth) in
-              stamped_by limits rules clock table lines start fresh t edges early late is more low high calls time now ahead soon past young Before
-              (λ A a come near last was stamp none says. elim (split (state limits rules clock table lines start fresh calls).last A a was) [
-                | inl told ↦ by_earlier limits rules clock table lines start fresh t edges early late is more low high calls time now ahead soon past young room A a come near (state limits rules clock table lines start fresh calls).last last told stamp says
+              let are = stamps_on rules clock table lines start fresh Put Told Before made base at_mend later ordered.3 (tell_since later ordered.3 truth) in
+              stamped_by rules clock table lines start fresh t edges early late is more low high calls time now ahead soon past young Before
+              (λ A a come near last was stamp none says. elim (split (state rules clock table lines start fresh calls).last A a was) [
+                | inl told ↦ by_earlier rules clock table lines start fresh t edges early late is more low high calls time now ahead soon past young room A a come near (state rules clock table lines start fresh calls).last last told stamp says
                 | inr old ↦ absurd (gone _ A (last_tick start calls) a soon near last old stamp none says)
               ])
-              (state limits rules clock table lines start fresh calls).edge_us are stamp e
+              (state rules clock table lines start fresh calls).edge_us are stamp e

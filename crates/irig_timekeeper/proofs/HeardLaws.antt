@@ -1,11 +1,11 @@
 -- Whether a pulse came on a line within a second before the last tick.
 use Rattle.std.specs.Prelude.{◌==◌, ◌&&◌, not, nat_lt}
-use Rattle.std.proofs.Common.{◌≡◌, ◌∙◌, ℕ, ◌+◌, ◌-◌, ◌%◌, ◌^◌, ◌<◌, ◌≤◌, Bool, true, false, cond, List, [], ◌∷◌, refl, sym, ap, subst, arith, inl, inr}
+use Rattle.std.proofs.Common.{◌≡◌, ◌∙◌, ℕ, ◌+◌, ◌-◌, ◌%◌, ◌^◌, ◌<◌, ◌≤◌, Bool, true, false, cond, List, [], ◌∷◌, refl, sym, ap, subst, arith, inl, inr, Some}
 use Rattle.std.proofs.lemmas.Bool.{cases_Bool, cases_lt, eqb-true, eqb-false, ltb-true, ltb-false}
 use Rattle.irig_sync.specs.declared.sync.Sync.{Sync}
 use Rattle.irig_sync.specs.Sync.{clock_gap, is_idle, idle_of}
 use Rattle.irig_sync.specs.Lines.{Pulse, pulse_at, IsAfter, IsIdle}
-use Rattle.irig_port.specs.Limits.{told_within}
+use Rattle.irig_port.specs.Limits.{told_within, quality_in}
 use Rattle.irig_reader.proofs.FedLaws.{at_most_five}
 use Rattle.irig_lines.specs.declared.lines.Line.{Line}
 use Rattle.irig_lines.specs.declared.lines.Lines.{Lines}
@@ -114,13 +114,13 @@ module _ (new : Keeping) (start i : ℕ) (small : i < 5) where
     own narrow same =
         let at : i ≡ port = eqb-true i port same in
         let near : last_tick start calls ≤ rise + 500000 = (order.1 narrow).1 in
-        let more : IsHeardAt (line_heard k.clock (line_at k.state.lines i) (rise % 2 ^ 32) width (told_within k.limits k.rules (heard_then k i (rise % 2 ^ 32) width))) (pulse_at rise width ∷ pulses_on i calls) (last_tick start calls) = record {
+        let more : IsHeardAt (line_heard k.clock (line_at k.state.lines i) (rise % 2 ^ 32) width (told_within (Some k.clock.limits.limits) k.rules (heard_then k i (rise % 2 ^ 32) width)) (quality_in (heard_then k i (rise % 2 ^ 32) width))) (pulse_at rise width ∷ pulses_on i calls) (last_tick start calls) = record {
           knows = refl;
           lately = λ e. omega (arith, near);
           idle = λ e. absurd cc;
         } in
-        let is : there ≡ line_heard k.clock (line_at k.state.lines i) (rise % 2 ^ 32) width (told_within k.limits k.rules (heard_then k i (rise % 2 ^ 32) width)) =
-        subst (λ (j : ℕ). line_at (after_pulse k j (rise % 2 ^ 32) width).state.lines i ≡ line_heard k.clock (line_at k.state.lines i) (rise % 2 ^ 32) width (told_within k.limits k.rules (heard_then k i (rise % 2 ^ 32) width))) at (rw narrow (line_same k.state.lines i _ small)) in
+        let is : there ≡ line_heard k.clock (line_at k.state.lines i) (rise % 2 ^ 32) width (told_within (Some k.clock.limits.limits) k.rules (heard_then k i (rise % 2 ^ 32) width)) (quality_in (heard_then k i (rise % 2 ^ 32) width)) =
+        subst (λ (j : ℕ). line_at (after_pulse k j (rise % 2 ^ 32) width).state.lines i ≡ line_heard k.clock (line_at k.state.lines i) (rise % 2 ^ 32) width (told_within (Some k.clock.limits.limits) k.rules (heard_then k i (rise % 2 ^ 32) width)) (quality_in (heard_then k i (rise % 2 ^ 32) width))) at (rw narrow (line_same k.state.lines i _ small)) in
         subst (λ (ps : List Pulse). IsHeardAt there ps (last_tick start calls)) (sym (own_pulses i port rise width calls narrow same))
         (subst (λ (x : Line). IsHeardAt x (pulse_at rise width ∷ pulses_on i calls) (last_tick start calls)) (sym is) more)
 

@@ -8,11 +8,10 @@ use Rattle.irig_sync.specs.Sync.{clock_gap, place_of, is_idle, idle_of}
 use Rattle.irig_sync.specs.Lines.{Pulse, pulse_at, place_after, IsAfter, IsSoon}
 use Rattle.irig_sync.proofs.LineLaws.{place_at_time}
 use Rattle.irig_time.specs.declared.second.UtcSecond.{UtcSecond}
-use Rattle.irig_port.specs.declared.limits.Limits.{Limits}
 use Rattle.irig_time.specs.declared.rules.Rules.{Rules}
 use Rattle.irig_time.specs.Timelines.{TimelineValue}
 use Rattle.irig_time.specs.Tables.{TableValue}
-use Rattle.irig_port.specs.Limits.{told_within}
+use Rattle.irig_port.specs.Limits.{told_within, quality_in}
 use Rattle.irig_port.specs.Hearing.{heard_at, heard_of_last, IsHearing}
 use Rattle.irig_port.proofs.RunLaws.{hears, first_hears, idle_hears}
 use Rattle.irig_vote.specs.declared.redundancy.Redundancy.{Redundancy}
@@ -57,7 +56,7 @@ pub record IsLineAt (c : ClockRules) (rules : Rules) (heard : List Symbol) (line
   pub all : heard ≡ heard_of_last (length pulses) pulses
   pub sorted : AreSorted pulses
   pub begins : KnowsBegin line.begin_us pulses
-  pub kept : IfKept (IsEndAt pulses tick now) c.within.us c.drift_us rules (claim_kept c.within.us line.frame) pulses
+  pub kept : IfKept (IsEndAt pulses tick now) c rules (claim_kept c line.frame) pulses
   pub past : told ≤ now + 4000
   pub near : tick ≤ told + 500000
   pub last : (more time : ℕ) → tick ≤ time + more → IsAfter pulses time → told ≤ time + more
@@ -88,10 +87,10 @@ still_live heard s (p ∷ ps) told now h ahead near last = elim (cases_lt now p.
     not_idle g h = grind (arith, h)
 
 module _ (c : ClockRules) (rules : Rules) where
-  line_hears : (limits : Option Limits) (heard : List Symbol) (line : Line) (pulses : List Pulse) (tick now rise width : ℕ) → IsLineAt c rules heard line pulses tick now
+  line_hears : (heard : List Symbol) (line : Line) (pulses : List Pulse) (tick now rise width : ℕ) → IsLineAt c rules heard line pulses tick now
       → rise ≤ now + 4000 → now + 504000 < tick + 1800000000 → IsAfter pulses rise × (tick ≤ rise + 500000)
-      → IsLineAt c rules (heard_at (place_of line.sync (rise % 2 ^ 32) width) heard width) (line_heard c line (rise % 2 ^ 32) width (told_within limits rules (heard_at (place_of line.sync (rise % 2 ^ 32) width) heard width))) (pulse_at rise width ∷ pulses) tick now
-  line_hears limits heard line pulses tick now rise width l risen half in_order =
+      → IsLineAt c rules (heard_at (place_of line.sync (rise % 2 ^ 32) width) heard width) (line_heard c line (rise % 2 ^ 32) width (told_within (Some c.limits.limits) rules (heard_at (place_of line.sync (rise % 2 ^ 32) width) heard width)) (quality_in (heard_at (place_of line.sync (rise % 2 ^ 32) width) heard width))) (pulse_at rise width ∷ pulses) tick now
+  line_hears heard line pulses tick now rise width l risen half in_order =
       let soon : IsSoon l.told rise = line_soon rise l risen half in_order in
       let hearing = hears heard line.sync _ pulses l.told rise _ width _ refl refl l.hearing refl in_order.0 soon in
       let p : Pulse = pulse_at rise width in
@@ -104,7 +103,7 @@ module _ (c : ClockRules) (rules : Rules) where
         begins = begin_more line.begin_us _ p pulses l.begins place;
         kept = kept_more (IsEndAt pulses tick now) (IsEndAt (p ∷ pulses) tick now) c line.begin_us _
             (λ inside end e. (e.0, e.1, e.2 ∙ sym (not_whole p pulses (λ at. inside (place ∙ at)))))
-            limits rules line.frame _ rise width pulses hearing.run l.kept
+            rules line.frame _ rise width pulses hearing.run l.kept
             (λ at even. even_here c line.begin_us p pulses l.begins (sym place ∙ at) even)
             (λ at. (omega (arith, risen), omega (arith, in_order.1), sym (whole_here p pulses (sym place ∙ at))));
         past = risen;
@@ -119,30 +118,30 @@ module _ (c : ClockRules) (rules : Rules) where
     all = l.all;
     sorted = l.sorted;
     begins = l.begins;
-    kept = eased (IsEndAt pulses tick now) (IsEndAt pulses tick time) (λ end e. (omega (arith, e.0, on), e.1, e.2)) (claim_kept c.within.us line.frame) pulses l.kept;
+    kept = eased (IsEndAt pulses tick now) (IsEndAt pulses tick time) (λ end e. (omega (arith, e.0, on), e.1, e.2)) (claim_kept c line.frame) pulses l.kept;
     past = omega (arith, l.past, on);
     near = l.near;
     last = l.last;
   }
     where
-      eased : (EndsSo Ends : ℕ → Type 0) → ((end : ℕ) → EndsSo end → Ends end) → (kept : Option KeptClaim) (pulses : List Pulse) → IfKept EndsSo c.within.us c.drift_us rules kept pulses → IfKept Ends c.within.us c.drift_us rules kept pulses
+      eased : (EndsSo Ends : ℕ → Type 0) → ((end : ℕ) → EndsSo end → Ends end) → (kept : Option KeptClaim) (pulses : List Pulse) → IfKept EndsSo c rules kept pulses → IfKept Ends c rules kept pulses
       eased EndsSo Ends more None pulses h = tt
       eased EndsSo Ends more (Some kept) pulses h = (h.0, h.1, h.2, more h.0 h.3)
 
   -- at a tick
-  still_in_turn : (kept : Option KeptClaim) (pulses : List Pulse) (tick now : ℕ) → now + 504000 < tick + 1800000000 → IfKept (IsEndAt pulses tick now) c.within.us c.drift_us rules kept pulses → IfKept (IsInTurnOf now) c.within.us c.drift_us rules kept pulses
+  still_in_turn : (kept : Option KeptClaim) (pulses : List Pulse) (tick now : ℕ) → now + 504000 < tick + 1800000000 → IfKept (IsEndAt pulses tick now) c rules kept pulses → IfKept (IsInTurnOf now) c rules kept pulses
   still_in_turn None pulses tick now half h = tt
   still_in_turn (Some kept) pulses tick now half h = (h.0, h.1, h.2, (h.3.0, omega (arith, h.3.1, half)))
 
-  still_there : (frame : Option KeptFrame) (pulses : List Pulse) (tick now : ℕ) → now + 504000 < tick + 1800000000 → IfKept (IsEndAt pulses tick now) c.within.us c.drift_us rules (claim_kept c.within.us frame) pulses
-      → IfKept (IsEndAt pulses now now) c.within.us c.drift_us rules (claim_kept c.within.us (still_kept (now % 2 ^ 32) frame)) pulses
-  still_there frame pulses tick now half h = by (claim_kept c.within.us (still_kept (now % 2 ^ 32) frame)) refl
+  still_there : (frame : Option KeptFrame) (pulses : List Pulse) (tick now : ℕ) → now + 504000 < tick + 1800000000 → IfKept (IsEndAt pulses tick now) c rules (claim_kept c frame) pulses
+      → IfKept (IsEndAt pulses now now) c rules (claim_kept c (still_kept (now % 2 ^ 32) frame)) pulses
+  still_there frame pulses tick now half h = by (claim_kept c (still_kept (now % 2 ^ 32) frame)) refl
     where
-      by : (o : Option KeptClaim) → claim_kept c.within.us (still_kept (now % 2 ^ 32) frame) ≡ o → IfKept (IsEndAt pulses now now) c.within.us c.drift_us rules o pulses
+      by : (o : Option KeptClaim) → claim_kept c (still_kept (now % 2 ^ 32) frame) ≡ o → IfKept (IsEndAt pulses now now) c rules o pulses
       by None e = tt
       by (Some kept) e =
-          let was = still _ (now % 2 ^ 32) frame kept e in
-          let h' = subst (λ (o : Option KeptClaim). IfKept (IsEndAt pulses tick now) c.within.us c.drift_us rules o pulses) was.0 h in
+          let was = still c (now % 2 ^ 32) frame kept e in
+          let h' = subst (λ (o : Option KeptClaim). IfKept (IsEndAt pulses tick now) c rules o pulses) was.0 h in
           let soon = not_late h'.0 now h'.3.0 (omega (arith, h'.3.1, half)) (subst (λ (e : ℕ). is_late e (now % 2 ^ 32) ≡ false) h'.1 was.1) in
           (h'.0, h'.1, h'.2, (h'.3.0, omega (arith, soon), h'.3.2))
 
@@ -267,7 +266,6 @@ ticked k clock = of (vote_at k clock)
 
 pub record IsSameSetup (old new : Keeping) : Type 0 where
   pub rules : new.rules ≡ old.rules
-  pub limits : new.limits ≡ old.limits
   pub clock : new.clock ≡ old.clock
   pub table : new.table ≡ old.table
 
@@ -300,10 +298,10 @@ module _ (new k : Keeping) (calls : List Call) (tick now port rise width : ℕ) 
 
   module _ (low : port < 5) (risen : rise ≤ now + 4000) (half : now + 504000 < tick + 1800000000) (narrow : is_pulse width ≡ true) (in_order : IsAfter (pulses_on port calls) rise × (tick ≤ rise + 500000)) where
     abbrev there_line : Line
-    there_line = line_heard k.clock (line_at k.state.lines port) (rise % 2 ^ 32) width (told_within k.limits k.rules (heard_then k port (rise % 2 ^ 32) width))
+    there_line = line_heard k.clock (line_at k.state.lines port) (rise % 2 ^ 32) width (told_within (Some k.clock.limits.limits) k.rules (heard_then k port (rise % 2 ^ 32) width)) (quality_in (heard_then k port (rise % 2 ^ 32) width))
 
     there : IsLineAt k.clock k.rules (heard_then k port (rise % 2 ^ 32) width) there_line (pulse_at rise width ∷ pulses_on port calls) tick now
-    there = line_hears k.clock k.rules k.limits (heard_by k.heard port) (line_at k.state.lines port) (pulses_on port calls) tick now rise width (l.lines port low) risen half in_order
+    there = line_hears k.clock k.rules (heard_by k.heard port) (line_at k.state.lines port) (pulses_on port calls) tick now rise width (l.lines port low) risen half in_order
 
     on_it : (i : ℕ) → (i == port) ≡ true → pulse_at rise width ∷ pulses_on i calls ≡ pulses_on i (Hear port rise width ∷ calls)
     on_it i same = rw (same, narrow) refl
@@ -333,7 +331,7 @@ module _ (new k : Keeping) (calls : List Call) (tick now port rise width : ℕ) 
     one_more =
         let more : one_pulse_more k port (rise % 2 ^ 32) width ≡ after_pulse k port (rise % 2 ^ 32) width = rw narrow refl in
         subst (λ (x : Keeping). AreLinesAt new x (λ i. pulses_on i (Hear port rise width ∷ calls)) tick now) more (record {
-          same = record { rules = l.same.rules; limits = l.same.limits; clock = l.same.clock; table = l.same.table };
+          same = record { rules = l.same.rules; clock = l.same.clock; table = l.same.table };
           lines = then;
         })
 
@@ -341,7 +339,7 @@ module _ (new k : Keeping) (calls : List Call) (tick now port rise width : ℕ) 
 lines_tick : (new k : Keeping) (calls : List Call) (tick now : ℕ) → AreLinesAt new k (λ i. pulses_on i calls) tick now → tick ≤ now → now + 504000 < tick + 1800000000
     → AreLinesAt new (after_tick k (now % 2 ^ 32)) (λ i. pulses_on i (Tick now ∷ calls)) now now
 lines_tick new k calls tick now l order half = record {
-  same = record { rules = l.same.rules; limits = l.same.limits; clock = l.same.clock; table = l.same.table };
+  same = record { rules = l.same.rules; clock = l.same.clock; table = l.same.table };
   lines = λ i low.
       let settles = line_ticks k.clock k.rules (heard_by k.heard i) (line_at k.state.lines i) (pulses_on i calls) tick now (l.lines i low) order half in
       elim (ticked k (now % 2 ^ 32)) [
@@ -404,16 +402,16 @@ lines_after new start begins (Tick time ∷ calls) now order =
 
 -- at any time such a line's frames claim the true second before an edge, and end as near it as a true
 -- line's do, and at most so much earlier or later
-abbrev pub TellAlwaysTruly : (ℕ → List Pulse → Type 0) → (within d : ℕ) → Rules → TimelineValue → (ℕ → ℕ) → (early late : ℕ) → Type 0
-TellAlwaysTruly IsTrue within d rules t edges early late = (now : ℕ) → TellsTruly (IsTrue now) within d rules t edges early late now
+abbrev pub TellAlwaysTruly : (ℕ → List Pulse → Type 0) → ClockRules → Rules → TimelineValue → (ℕ → ℕ) → (early late : ℕ) → Type 0
+TellAlwaysTruly IsTrue c rules t edges early late = (now : ℕ) → TellsTruly (IsTrue now) c rules t edges early late now
 
 module _ (IsTrue : ℕ → List Pulse → Type 0) (t : TimelineValue) (edges : ℕ → ℕ) (early late : ℕ) where
   -- a tick, by the setup that a device was made with
   module _ (new k : Keeping) (M tick now : ℕ) (pulses : ℕ → List Pulse) (order : tick ≤ now) (soon : now ≤ tick + 1800000000) (room : early + late ≤ 3002) where
     abbrev TicksTruly : ClockRules → TableValue → Rules → Type 0
     TicksTruly c table rules =
-        TellsTruly (IsTrue now) c.within.us c.drift_us rules t edges early late now → IsDevice t c.drift_us edges c.reader_rules table → IsOnTrack t edges early late c.drift_us M c.reader_rules table tick k.state.reader k.state.bound_us k.state.edge_us
-        → AreHeardTruly (IsTrue now) c.within.us c.drift_us rules (f_of c.redundancy) now k.state.lines pulses
+        TellsTruly (IsTrue now) c rules t edges early late now → IsDevice t c.drift_us edges c.reader_rules table → IsOnTrack t edges early late c.drift_us M c.reader_rules table tick k.state.reader k.state.bound_us k.state.edge_us
+        → AreHeardTruly (IsTrue now) c rules (f_of c.redundancy) now k.state.lines pulses
         → KeepsTrue t c.drift_us edges early late M c.reader_rules table now (after_tick k (now % 2 ^ 32)).state (answer_at k (now % 2 ^ 32))
 
     ticks_truly : IsSameSetup new k → TicksTruly new.clock new.table new.rules
@@ -426,7 +424,7 @@ module _ (IsTrue : ℕ → List Pulse → Type 0) (t : TimelineValue) (edges : �
   module _ (new : Keeping) (start : ℕ) (begins : AreLinesAt new new (λ i. []) start start) where
     -- what its lines brought, at a tick
     pub heard_truly : (calls : List Call) (time : ℕ) → AreInOrder start new.clock.redundancy (Tick time ∷ calls) → AreTrueLately IsTrue (f_of new.clock.redundancy) time calls
-        → AreHeardTruly (IsTrue time) new.clock.within.us new.clock.drift_us new.rules (f_of new.clock.redundancy) time (after_calls new calls).state.lines (λ i. pulses_on i calls)
+        → AreHeardTruly (IsTrue time) new.clock new.rules (f_of new.clock.redundancy) time (after_calls new calls).state.lines (λ i. pulses_on i calls)
     heard_truly calls time order lately =
         let k : Keeping = after_calls new calls in
         let l = lines_after new start begins calls time order in
@@ -435,15 +433,15 @@ module _ (IsTrue : ℕ → List Pulse → Type 0) (t : TimelineValue) (edges : �
           few = lately.few;
           true_lines = lately.true_lines;
           kept = λ i low.
-              subst (λ (c : ClockRules). IfKept (IsInTurnOf time) c.within.us c.drift_us new.rules (claim_kept c.within.us (line_at k.state.lines i).frame) (pulses_on i calls)) l.same.clock
-              (subst (λ (x : Rules). IfKept (IsInTurnOf time) k.clock.within.us k.clock.drift_us x (claim_kept k.clock.within.us (line_at k.state.lines i).frame) (pulses_on i calls)) l.same.rules
-              (still_in_turn k.clock k.rules (claim_kept k.clock.within.us (line_at k.state.lines i).frame) (pulses_on i calls) (last_tick start calls) time order.1 (l.lines i low).kept));
+              subst (λ (c : ClockRules). IfKept (IsInTurnOf time) c new.rules (claim_kept c (line_at k.state.lines i).frame) (pulses_on i calls)) l.same.clock
+              (subst (λ (x : Rules). IfKept (IsInTurnOf time) k.clock x (claim_kept k.clock (line_at k.state.lines i).frame) (pulses_on i calls)) l.same.rules
+              (still_in_turn k.clock k.rules (claim_kept k.clock (line_at k.state.lines i).frame) (pulses_on i calls) (last_tick start calls) time order.1 (l.lines i low).kept));
         }
 
     abbrev pub IsTrack : ℕ → ℕ → Keeping → Type 0
     IsTrack M tick k = IsOnTrack t edges early late new.clock.drift_us M new.clock.reader_rules new.table tick k.state.reader k.state.bound_us k.state.edge_us
 
-    module _ (is : IsDevice t new.clock.drift_us edges new.clock.reader_rules new.table) (room : early + late ≤ 3002) (truly : TellAlwaysTruly IsTrue new.clock.within.us new.clock.drift_us new.rules t edges early late) where
+    module _ (is : IsDevice t new.clock.drift_us edges new.clock.reader_rules new.table) (room : early + late ≤ 3002) (truly : TellAlwaysTruly IsTrue new.clock new.rules t edges early late) where
       -- what a tick answers in a life
       pub tick_in : (M : ℕ) (calls : List Call) (now : ℕ) → AreInOrder start new.clock.redundancy (Tick now ∷ calls) → AreTrueLately IsTrue (f_of new.clock.redundancy) now calls → IsTrack M (last_tick start calls) (after_calls new calls)
           → KeepsTrue t new.clock.drift_us edges early late M new.clock.reader_rules new.table now (after_tick (after_calls new calls) (now % 2 ^ 32)).state (answer_at (after_calls new calls) (now % 2 ^ 32))
@@ -497,7 +495,7 @@ new_line c rules line start is = record {
   all = refl;
   sorted = tt;
   begins = λ n at. absurd (omega (arith, at));
-  kept = subst (λ (o : Option KeptFrame). IfKept (IsEndAt [] start start) c.within.us c.drift_us rules (claim_kept c.within.us o) []) (sym is.frame) tt;
+  kept = subst (λ (o : Option KeptFrame). IfKept (IsEndAt [] start start) c rules (claim_kept c o) []) (sym is.frame) tt;
   past = omega arith;
   near = omega arith;
   last = λ more time upto after. upto;
@@ -511,17 +509,17 @@ each_new lines fresh (suc (suc (suc zero))) low = fresh.d
 each_new lines fresh (suc (suc (suc (suc zero)))) low = fresh.e
 each_new lines fresh (suc (suc (suc (suc (suc i))))) low = absurd (omega (arith, low))
 
-module _ (limits : Option Limits) (rules : Rules) (clock : ClockRules) (table : TableValue) (lines : Lines) (start : ℕ) (fresh : AreNewLines lines) where
+module _ (rules : Rules) (clock : ClockRules) (table : TableValue) (lines : Lines) (start : ℕ) (fresh : AreNewLines lines) where
   abbrev new : Keeping
-  new = new_keeping limits rules clock table lines
+  new = new_keeping rules clock table lines
 
   pub begins : AreLinesAt new new (λ i. []) start start
   begins = record {
-    same = record { rules = refl; limits = refl; clock = refl; table = refl };
+    same = record { rules = refl; clock = refl; table = refl };
     lines = λ i low. moved clock rules rules _ _ _ _ _ _ start start refl (sym (nothing_by i low)) refl refl (new_line clock rules (line_at lines i) start (each_new lines fresh i low));
   }
 
-  module _ (IsTrue : ℕ → List Pulse → Type 0) (t : TimelineValue) (edges : ℕ → ℕ) (early late : ℕ) (is : IsDevice t clock.drift_us edges clock.reader_rules table) (room : early + late ≤ 3002) (truly : TellAlwaysTruly IsTrue clock.within.us clock.drift_us rules t edges early late) where
+  module _ (IsTrue : ℕ → List Pulse → Type 0) (t : TimelineValue) (edges : ℕ → ℕ) (early late : ℕ) (is : IsDevice t clock.drift_us edges clock.reader_rules table) (room : early + late ≤ 3002) (truly : TellAlwaysTruly IsTrue clock rules t edges early late) where
     -- where it stands, and what a tick answers
     pub ticks : (calls : List Call) (now : ℕ) → AreInOrder start clock.redundancy (Tick now ∷ calls) → AreTrueAtTicks IsTrue (f_of clock.redundancy) (Tick now ∷ calls)
         → KeepsTrue t clock.drift_us edges early late 0 clock.reader_rules table now (after_tick (after_calls new calls) (now % 2 ^ 32)).state (answer_at (after_calls new calls) (now % 2 ^ 32))
@@ -532,7 +530,7 @@ module _ (limits : Option Limits) (rules : Rules) (clock : ClockRules) (table : 
         tick_in IsTrue t edges early late new start begins is room truly 0 calls now order truth.0 (subst (λ (x : List Call). IsTrack IsTrue t edges early late new start begins 0 (last_tick start x) (after_calls new x)) none track)
 
     pub device_true : (calls : List Call) (now : ℕ) (b : Beat) (u : UtcSecond) → AreInOrder start clock.redundancy (Tick now ∷ calls) → AreTrueAtTicks IsTrue (f_of clock.redundancy) (Tick now ∷ calls)
-        → answer_at (after_calls new calls) (now % 2 ^ 32) ≡ Some b → b.report.announce ≡ Some u → IsToldInHoldover t edges early late clock.within.us clock.drift_us clock.reader_rules.holdover now b u
+        → answer_at (after_calls new calls) (now % 2 ^ 32) ≡ Some b → b.report.announce ≡ Some u → IsToldInHoldover t edges early late clock now b u
     device_true calls now b u order truth answer says =
         let has = answer_bound new (omega arith) calls (now % 2 ^ 32) in
         record { told = ((ticks calls now order truth).told b u answer says).told; bound = has.bound b answer; few = has.few b answer }

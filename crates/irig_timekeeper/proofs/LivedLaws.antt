@@ -8,13 +8,13 @@ use Rattle.irig_timekeeper.specs.Life.Call.{Hear, Tick}
 use Rattle.irig_timekeeper.proofs.LifeLaws.{IsSameSetup}
 
 pub as_made : (new : Keeping) (calls : List Call) → IsSameSetup new (after_calls new calls)
-as_made new [] = record { rules = refl; limits = refl; clock = refl; table = refl }
+as_made new [] = record { rules = refl; clock = refl; table = refl }
 as_made new (Hear port rise width ∷ calls) =
     let s = as_made new calls in
     elim (cases_Bool (is_pulse width)) [
-      | inl narrow ↦ rw narrow (record { rules = s.rules; limits = s.limits; clock = s.clock; table = s.table })
+      | inl narrow ↦ rw narrow (record { rules = s.rules; clock = s.clock; table = s.table })
       | inr wide ↦ rw wide s
     ]
 as_made new (Tick now ∷ calls) =
     let s = as_made new calls in
-    record { rules = s.rules; limits = s.limits; clock = s.clock; table = s.table }
+    record { rules = s.rules; clock = s.clock; table = s.table }

@@ -20,11 +20,12 @@ use Rattle.irig_timekeeper.specs.Life.{Made, device_of, Call, pulses_on, last_ti
 use Rattle.irig_timekeeper.specs.Life.Call.{Hear, Tick}
 use Rattle.irig_timekeeper.specs.Announcing.{IsWhole, ComesWhole, Announces}
 use Rattle.irig_timekeeper.specs.Loops.{ComeInARow, TicksEach, AreToldInTime, made_at, latest, AreMadeInTurn}
-use Rattle.irig_lines.proofs.LineLaws.{true_lately}
+use Rattle.irig_lines.proofs.LineLaws.{true_by_any}
 use Rattle.irig_lines.proofs.CountingLaws.{rises}
 use Rattle.irig_timekeeper.proofs.LifeLaws.{begins, AreLinesAt, TellAlwaysTruly, own_pulses, others_pulses, no_pulse, order_before}
 use Rattle.irig_timekeeper.proofs.FrameLaws.{ends_whole}
 use Rattle.irig_timekeeper.proofs.AnnounceLaws.{IsServed, AreServed, serves}
+use Rattle.irig_lines.proofs.WidthLaws.{reach_few}
 
 -- ---- claims of calls behind others, in parts
 
@@ -103,11 +104,11 @@ narrow_marker width e = of (nat_lt width 500) (nat_lt width 3500) (nat_lt width 
 
 module _ (t : TimelineValue) (d : ℕ) (edges : ℕ → ℕ) (quartz : IsQuartz d edges) (new : Keeping) (m : ℕ) where
   abbrev Whole : ℕ → List Pulse → Type 0
-  Whole late pulses = IsWhole new.clock.within.us new.limits new.rules t edges m (drop late pulses)
+  Whole late pulses = IsWhole new.clock new.rules t edges m (drop late pulses)
 
   -- the last pulse of one of them, which ends near the edge
   pub record IsLastOfOne (port rise width : ℕ) (calls : List Call) : Type 0 where
-    pub whole : IsWhole new.clock.within.us new.limits new.rules t edges m (pulses_on port (Hear port rise width ∷ calls))
+    pub whole : IsWhole new.clock new.rules t edges m (pulses_on port (Hear port rise width ∷ calls))
     pub small : port < 5
     pub narrow : is_pulse width ≡ true
     pub least : edges m ≤ rise + width + 3950
@@ -140,14 +141,14 @@ module _ (t : TimelineValue) (d : ℕ) (edges : ℕ → ℕ) (quartz : IsQuartz 
       on : pulses_on port (Hear port rise width ∷ calls) ≡ pulse_at rise width ∷ pulses_on port calls
       on = own_pulses port port rise width calls narrow (eq-eqb port port refl)
 
-      is_last : port < 5 → (w : IsWhole new.clock.within.us new.limits new.rules t edges m (pulse_at rise width ∷ pulses_on port calls)) → IsLastOfOne port rise width calls
+      is_last : port < 5 → (w : IsWhole new.clock new.rules t edges m (pulse_at rise width ∷ pulses_on port calls)) → IsLastOfOne port rise width calls
       is_last small w =
-          let ends = ends_whole new.clock.within new.limits new.rules t d edges m (pulse_at rise width ∷ pulses_on port calls) quartz w in
+          let ends = ends_whole new.clock new.rules t d edges m (pulse_at rise width ∷ pulses_on port calls) quartz w in
           let head : pulse_at rise width ≡ ends.p = (let e = ends.are in cc) in
           let rises : rise ≡ ends.p.rise = ap (λ (q : Pulse). q.rise) head in
           let marker = narrow_marker width (subst (λ (q : Pulse). is_marker q.width ≡ true) (sym head) ends.marker) in
           record {
-            whole = subst (IsWhole new.clock.within.us new.limits new.rules t edges m) (sym on) w;
+            whole = subst (IsWhole new.clock new.rules t edges m) (sym on) w;
             small = small;
             narrow = narrow;
             least = omega (arith, rises, ends.least, marker.0, new.clock.within.few, quartz.few);
@@ -246,7 +247,7 @@ module _ (IsTrue : ℕ → List Pulse → Type 0) (t : TimelineValue) (d : ℕ) 
       (serve (m + n) (omega (arith, some)) row.rest row.done row.on (subst (ComesWhole t edges new (m + n)) row.are (whole n (omega (arith, few)))) (subst (λ (c : List Call). edges (m + n) + 3000 ≤ last_tick start c) row.are (omega (arith, rise, last))))
 
   -- so the device announces the last
-  pub loop_announces : (begun : AreLinesAt new new (λ i. []) start start) (is : IsDevice t new.clock.drift_us edges new.clock.reader_rules new.table) (follows : FollowsTruth t new.clock.prefers_frames new.table) (truly : TellAlwaysTruly IsTrue new.clock.within.us new.clock.drift_us new.rules t edges 0 0) → new.state.reader ≡ state_of new.clock.reader_rules new.table [] → (m : ℕ) → 1 ≤ m → 1 ≤ new.clock.reader_rules.lock_after → (calls before : List Call)
+  pub loop_announces : (begun : AreLinesAt new new (λ i. []) start start) (is : IsDevice t new.clock.drift_us edges new.clock.reader_rules new.table) (follows : FollowsTruth t new.clock.prefers_frames new.table) (truly : TellAlwaysTruly IsTrue new.clock new.rules t edges 0 0) → new.state.reader ≡ state_of new.clock.reader_rules new.table [] → (m : ℕ) → 1 ≤ m → 1 ≤ new.clock.reader_rules.lock_after → (calls before : List Call)
       → AreServing IsTrue t edges new start Loop m calls before → ((n : ℕ) → n < new.clock.reader_rules.lock_after + 2 → ComesWhole t edges new (m + n) (calls ++ before)) → edges (m + 1 + new.clock.reader_rules.lock_after) + 3000 ≤ last_tick start (calls ++ before) → (u : UtcSecond) → IsSecond t (m + 1 + new.clock.reader_rules.lock_after) u
       → Announces edges new (m + 1 + new.clock.reader_rules.lock_after) u (calls ++ before)
   loop_announces begun is follows truly fresh m some enough calls before on whole last u second =
@@ -296,7 +297,7 @@ module _ (IsTrue : ℕ → List Pulse → Type 0) (t : TimelineValue) (edges : �
           are = refl;
           early = omega (arith, first.early);
           soon = omega (arith, first.early, polls.1.1.0, few);
-          comes = inl (omega (arith, first.come, new.clock.within.few, quartz.few), record { whole = told.whole; many = told.many; frames = told.frames });
+          comes = inl (omega (arith, first.come, reach_few new.clock, quartz.few), record { whole = told.whole; many = told.many; frames = told.frames });
           truth = truth.1;
         };
       }
@@ -311,8 +312,8 @@ polling_announces t edges made start m most calls before u come follows few each
     (Polls (IsTrueLately made.clock.within.us made.rules t edges) t edges new quartz start most few)
     (polls_split (IsTrueLately made.clock.within.us made.rules t edges) t edges new quartz start most few)
     (polls_serve (IsTrueLately made.clock.within.us made.rules t edges) t edges new quartz start most few)
-    (begins made.limits made.rules made.clock made.table made.lines start made.fresh) come.is follows
-    (λ now end pulses claim is_true frame soon. true_lately made.clock.within made.rules t made.clock.drift_us edges now end pulses claim quartz is_true frame soon)
+    (begins made.rules made.clock made.table made.lines start made.fresh) come.is follows
+    (λ now half end pulses claim is_true frame soon. true_by_any made.clock made.rules t made.clock.drift_us edges half now end pulses claim quartz is_true frame soon)
     refl m come.some come.locks calls before
     (record { told = come.told; risen = come.risen; ticked = come.ticked; past = come.past; order = come.order; truth = come.truth; loop = (told, each) })
     come.whole come.last u second

@@ -1,6 +1,6 @@
 -- Edges that are answered lie half a second apart, whatever lines carry: two votes share a line, whose
 -- frames lie apart.
-use Rattle.std.specs.Prelude.{◌==◌, count_by, nat_le}
+use Rattle.std.specs.Prelude.{◌==◌, count_by}
 use Rattle.std.specs.List.{range_with_len}
 use Rattle.std.proofs.Common.{◌≡◌, ◌∙◌, ◌⊎◌, ℕ, zero, suc, ◌+◌, ◌-◌, ◌*◌, ◌/◌, ◌%◌, ◌^◌, ◌<◌, ◌≤◌, Bool, true, false, cond, List, [], ◌∷◌, ◌++◌, drop, Option, Some, None, refl, sym, ap, subst, arith, inl, inr, append-nil}
 use Rattle.std.proofs.lemmas.Bool.{cases_Bool, eqb-true, eqb-false, ne_eqb, ltb-true, leb-true}
@@ -22,16 +22,17 @@ use Rattle.irig_lines.specs.declared.setup.ClockRules.{ClockRules}
 use Rattle.irig_timekeeper.specs.declared.clock.ClockState.{ClockState}
 use Rattle.irig_lines.specs.Lines.{IfKept}
 use Rattle.irig_lines.specs.Counting.{edges_between, edge_behind, is_late, has_come, edges_to_vote, edges_own}
-use Rattle.irig_lines.specs.Exactness.{half_us, window_us}
-use Rattle.irig_lines.specs.Steps.{is_pulse, line_at, claim_kept, still_kept, line_taken, settled, taken, all_kept, agrees, is_candidate, first_candidate, agreed}
+use Rattle.irig_lines.specs.Widths.{widest_us, reach_us}
+use Rattle.irig_lines.specs.Steps.{is_pulse, line_at, claim_kept, still_kept, line_taken, settled, taken, all_kept, first_us, last_us, agrees, is_candidate, first_candidate, agreed}
 use Rattle.irig_timekeeper.specs.Clock.{step_to, beat_by, after_vote, answer_to_vote, after_own, answer_alone, own_edge, clock_by, answer_by, settled_at}
 use Rattle.irig_timekeeper.specs.Keeping.{Keeping, vote_at, after_pulse, after_tick, answer_at}
 use Rattle.irig_timekeeper.specs.Truth.{IsEdgeAt, AreApartBeats}
 use Rattle.irig_timekeeper.specs.Life.{Call, after_calls, pulses_on, last_tick, AreInOrder}
 use Rattle.irig_timekeeper.specs.Life.Call.{Hear, Tick}
 use Rattle.irig_lines.proofs.AgreeLaws.{EachKept, is_one}
-use Rattle.irig_lines.proofs.PartLaws.{IsHalf, half_kept, one_more, ends_agree, IsVoteOf, agreed_first, vote_of, narrow}
-use Rattle.irig_timekeeper.proofs.VoteLaws.{still, come, frame_settled, not_late, last_late}
+use Rattle.irig_lines.proofs.PartLaws.{IsHalf, half_kept, one_more, agreeing_is, IsVoteOf, agreed_first, vote_of}
+use Rattle.irig_lines.proofs.WidthLaws.{widest_few, reach_few}
+use Rattle.irig_timekeeper.proofs.VoteLaws.{still, come, exact_time, frame_settled, not_late, last_late}
 use Rattle.irig_lines.proofs.WholeLaws.{whole_of, AreSorted, whole_here, not_whole, whole_apart}
 use Rattle.irig_timekeeper.proofs.TimeLaws.{own_count, still_edge, own_edge_at, voted_count, same_edge}
 use Rattle.irig_timekeeper.proofs.LifeLaws.{AreLinesAt, IsEndAt, line_soon, lines_after, order_before, ticked, line_takes, line_same, line_other, own_pulses, others_pulses, no_pulse, has_risen, unheard}
@@ -119,10 +120,10 @@ unfolding no_pulses
 drop_nothing zero = refl
 drop_nothing (suc n) = refl
 
-pub kept_of_nothing : (EndsSo : ℕ → Type 0) (within d : ℕ) (rules : Rules) (o : Option KeptClaim) (pulses : List Pulse) → pulses ≡ [] → IfKept EndsSo within d rules o pulses → o ≡ None
+pub kept_of_nothing : (EndsSo : ℕ → Type 0) (c : ClockRules) (rules : Rules) (o : Option KeptClaim) (pulses : List Pulse) → pulses ≡ [] → IfKept EndsSo c rules o pulses → o ≡ None
 unfolding no_pulses
-kept_of_nothing EndsSo within d rules None pulses e h = refl
-kept_of_nothing EndsSo within d rules (Some y) pulses e h =
+kept_of_nothing EndsSo c rules None pulses e h = refl
+kept_of_nothing EndsSo c rules (Some y) pulses e h =
     let none : drop h.2.late pulses ≡ [] = ap (drop h.2.late) e ∙ drop_nothing h.2.late in
     absurd (subst (AreOnTime 100) none h.2.on_time)
 
@@ -153,9 +154,9 @@ others_pulse k port i rise width low small other = elim (cases_Bool (is_pulse wi
 
 -- ---- what a line keeps behind a tick that took its frame ended a frame later
 
-module _ (new : Keeping) (start : ℕ) (begins : AreLinesAt new new (λ i. []) start start) (within : ℕ) (i : ℕ) (small : i < 5) where
+module _ (new : Keeping) (start : ℕ) (begins : AreLinesAt new new (λ i. []) start start) (c : ClockRules) (i : ℕ) (small : i < 5) where
   abbrev claim_at : List Call → Option KeptClaim
-  claim_at calls = claim_kept within (line_at (after_calls new calls).state.lines i).frame
+  claim_at calls = claim_kept c (line_at (after_calls new calls).state.lines i).frame
 
   abbrev whole_at : List Call → ℕ
   whole_at calls = whole_of (pulses_on i calls)
@@ -171,14 +172,14 @@ module _ (new : Keeping) (start : ℕ) (begins : AreLinesAt new new (λ i. []) s
       let before = since base none later time order.3 in
       record { grown = before.grown; later = λ y e. before.later y (kept_before (after_calls new (later ++ base)) (time % 2 ^ 32) y e) }
     where
-      kept_before : (k : Keeping) (clock : ℕ) (y : KeptClaim) → claim_kept within (line_at (after_tick k clock).state.lines i).frame ≡ Some y → claim_kept within (line_at k.state.lines i).frame ≡ Some y
+      kept_before : (k : Keeping) (clock : ℕ) (y : KeptClaim) → claim_kept c (line_at (after_tick k clock).state.lines i).frame ≡ Some y → claim_kept c (line_at k.state.lines i).frame ≡ Some y
       kept_before k clock y e = elim (ticked k clock) [
         | inl stays ↦
             let same : (line_at (after_tick k clock).state.lines i).frame ≡ still_kept clock (line_at k.state.lines i).frame = ap (λ (l : Lines). (line_at l i).frame) stays ∙ frame_settled clock k.state.lines i small in
-            (still _ clock (line_at k.state.lines i).frame y (ap (claim_kept within) (sym same) ∙ e)).0
+            (still c clock (line_at k.state.lines i).frame y (ap (claim_kept c) (sym same) ∙ e)).0
         | inr gives ↦
             let gone : line_taken (line_at (settled clock k.state.lines) i) ≡ line_at (after_tick k clock).state.lines i = line_takes (settled clock k.state.lines) i small ∙ ap (λ (l : Lines). line_at l i) (sym gives) in
-            absurd (let both : None ≡ Some y = ap (λ (l : Line). claim_kept within l.frame) gone ∙ e in cc)
+            absurd (let both : None ≡ Some y = ap (λ (l : Line). claim_kept c l.frame) gone ∙ e in cc)
       ]
   since base none (Hear port rise width ∷ later) now order =
       let calls : List Call = later ++ base in
@@ -190,7 +191,7 @@ module _ (new : Keeping) (start : ℕ) (begins : AreLinesAt new new (λ i. []) s
         | inr other ↦
             let apart = eqb-false i port other in
             let same = others_pulse k port i (rise % 2 ^ 32) width (omega (arith, order.3.0, five new.clock.redundancy)) small apart in
-            stays before (ap (λ (x : Line). claim_kept within x.frame) same) (ap whole_of (others_pulses i port rise width calls other))
+            stays before (ap (λ (x : Line). claim_kept c x.frame) same) (ap whole_of (others_pulses i port rise width calls other))
         | inl same ↦ elim (cases_Bool (is_pulse width)) [
           | inr wide ↦ stays before (rw wide refl) (ap whole_of (no_pulse i port rise width calls wide))
           | inl narrow ↦
@@ -211,7 +212,7 @@ module _ (new : Keeping) (start : ℕ) (begins : AreLinesAt new new (λ i. []) s
                 | inr inside ↦
                     let not_there : ¬ (place_after (p ∷ pulses) ≡ 100) = eqb-false (place_after (p ∷ pulses)) 100 inside in
                     let frame = own_pulse k port i (rise % 2 ^ 32) width small narrow at (λ ends. not_there (sym place ∙ ends)) in
-                    stays before (ap (claim_kept within) frame) (ap whole_of on ∙ not_whole p pulses not_there)
+                    stays before (ap (claim_kept c) frame) (ap whole_of on ∙ not_whole p pulses not_there)
               ]
         ]
       ]
@@ -224,9 +225,9 @@ module _ (new : Keeping) (start : ℕ) (begins : AreLinesAt new new (λ i. []) s
 
 -- ---- the lines that agree on an edge
 
-pub ranged : (EndsSo : ℕ → Type 0) (within d : ℕ) (rules : Rules) (o : Option KeptClaim) (pulses : List Pulse) (y : KeptClaim) → IfKept EndsSo within d rules o pulses → o ≡ Some y → y.end_us < 2 ^ 32
-ranged EndsSo within d rules None pulses y h e = absurd cc
-ranged EndsSo within d rules (Some x) pulses y h e =
+pub ranged : (EndsSo : ℕ → Type 0) (c : ClockRules) (rules : Rules) (o : Option KeptClaim) (pulses : List Pulse) (y : KeptClaim) → IfKept EndsSo c rules o pulses → o ≡ Some y → y.end_us < 2 ^ 32
+ranged EndsSo c rules None pulses y h e = absurd cc
+ranged EndsSo c rules (Some x) pulses y h e =
     let same : x ≡ y = cc in
     let low : x.end_us < 2 ^ 32 = omega (arith, h.1) in
     subst (λ (v : KeptClaim). v.end_us < 2 ^ 32) same low
@@ -243,23 +244,23 @@ takes k clock v e = of (vote_at k clock) e
     of None e = absurd cc
     of (Some x) e = either (edges_to_vote k.state.edge_us x.edge_us == 0) _ _ _ refl refl
 
--- the edge of a vote lies behind the end of its frame, and not further than the window
-pub record LiesBehind (window e end : ℕ) : Type 0 where
+-- the edge of a vote lies about the last time of the frame that makes it
+pub record LiesAbout (c : ClockRules) (e time : ℕ) : Type 0 where
   pub edge : ℕ
   pub clock : e ≡ edge % 2 ^ 32
-  pub least : end ≤ edge
-  pub most : edge ≤ end + window
+  pub least : time ≤ edge + widest_us c
+  pub most : edge ≤ time + widest_us c
 
-pub lies_behind : (c : ClockRules) (all : List (Option KeptClaim)) (v : Vote) (x : KeptClaim) → IsVoteOf c all v x → IsHalf c.within.us x → (end : ℕ) → x.end_us ≡ end % 2 ^ 32 → LiesBehind (window_us c.within.us) v.edge_us end
-lies_behind c all v x p half end at = record {
-  edge = end + half_us c.within.us + (p.before + p.behind) / 2 - p.before;
-  clock = ap (λ (z : Vote). z.edge_us) p.is ∙ wrapped x.end_us x.half_us p.before p.behind at half p.before_most;
+pub lies_about : (c : ClockRules) (all : List (Option KeptClaim)) (v : Vote) (x : KeptClaim) → IsVoteOf c all v x → (time : ℕ) → last_us x ≡ time % 2 ^ 32 → 3000 ≤ time → LiesAbout c v.edge_us time
+lies_about c all v x p time at some = record {
+  edge = time + (p.before + p.behind) / 2 - p.before;
+  clock = ap (λ (z : Vote). z.edge_us) p.is ∙ wrapped (last_us x) p.before p.behind at (omega (arith, p.before_most, reach_few c));
   least = omega (arith, p.before_most);
-  most = omega (arith, p.before_most, p.behind_most, c.within.few);
+  most = omega (arith, p.before_most, p.behind_most);
 }
   where
-    wrapped : (e half before behind : ℕ) → e ≡ end % 2 ^ 32 → half ≡ half_us c.within.us → before ≤ window_us c.within.us → ((e + half) % 2 ^ 32 + 2 ^ 32 - before + (before + behind) / 2) % 2 ^ 32 ≡ (end + half_us c.within.us + (before + behind) / 2 - before) % 2 ^ 32
-    wrapped e half before behind at is low = omega (arith, at, is, low, c.within.few)
+    wrapped : (e before behind : ℕ) → e ≡ time % 2 ^ 32 → before ≤ 2898 → (e + 2 ^ 32 - before + (before + behind) / 2) % 2 ^ 32 ≡ (time + (before + behind) / 2 - before) % 2 ^ 32
+    wrapped e before behind at low = omega (arith, at, low, some)
 
 module _ (new : Keeping) (start : ℕ) (begins : AreLinesAt new new (λ i. []) start start) where
   module _ (calls : List Call) (now : ℕ) (order : AreInOrder start new.clock.redundancy (Tick now ∷ calls)) where
@@ -275,42 +276,39 @@ module _ (new : Keeping) (start : ℕ) (begins : AreLinesAt new new (λ i. []) s
     abbrev pub f : ℕ
     f = f_of (after_calls new calls).clock.redundancy
 
-    abbrev pub within : ℕ
-    within = (after_calls new calls).clock.within.us
+    abbrev pub reach : ℕ
+    reach = reach_us (after_calls new calls).clock
 
-    abbrev pub window : ℕ
-    window = window_us (after_calls new calls).clock.within.us
-
-    few : window_us (after_calls new calls).clock.within.us ≤ 898
-    few = narrow (after_calls new calls).clock
+    few : widest_us (after_calls new calls).clock ≤ 1449
+    few = widest_few (after_calls new calls).clock
 
     -- what a line keeps
-    pub kept_by : (i : ℕ) → i < 5 → (y : KeptClaim) → claim_kept within (line_at (settled clock lines) i).frame ≡ Some y → (claim_kept within (line_at lines i).frame ≡ Some y) × (is_late y.end_us clock ≡ false)
-    kept_by i small y e = still _ clock (line_at lines i).frame y (ap (claim_kept within) (sym (frame_settled clock lines i small)) ∙ e)
+    pub kept_by : (i : ℕ) → i < 5 → (y : KeptClaim) → claim_kept rules (line_at (settled clock lines) i).frame ≡ Some y → (claim_kept rules (line_at lines i).frame ≡ Some y) × (is_late y.end_us clock ≡ false)
+    kept_by i small y e = still rules clock (line_at lines i).frame y (ap (claim_kept rules) (sym (frame_settled clock lines i small)) ∙ e)
 
     -- a frame on which more than f lines agree, and that one of them keeps
     pub record IsCandidateAt (x : KeptClaim) : Type 0 where
-      pub counts : is_candidate f x (all_kept within (settled clock lines)) ≡ true
+      pub counts : is_candidate f x (all_kept rules (settled clock lines)) ≡ true
       pub range : x.end_us < 2 ^ 32
       pub i : ℕ
       pub small : i < 5
-      pub keeps : claim_kept within (line_at (settled clock lines) i).frame ≡ Some x
+      pub keeps : claim_kept rules (line_at (settled clock lines) i).frame ≡ Some x
 
     pub record IsKeptThere (x : KeptClaim) : Type 0 where
       pub range : x.end_us < 2 ^ 32
       pub i : ℕ
       pub small : i < 5
-      pub keeps : claim_kept within (line_at (settled clock lines) i).frame ≡ Some x
+      pub keeps : claim_kept rules (line_at (settled clock lines) i).frame ≡ Some x
 
-    pub there_at : (i : ℕ) → i < 5 → (y : KeptClaim) → claim_kept within (line_at (settled clock lines) i).frame ≡ Some y → IsKeptThere y
+    pub there_at : (i : ℕ) → i < 5 → (y : KeptClaim) → claim_kept rules (line_at (settled clock lines) i).frame ≡ Some y → IsKeptThere y
     there_at i small y e = record {
-      range = ranged (IsEndAt (pulses_on i calls) (last_tick start calls) now) _ _ (after_calls new calls).rules (claim_kept within (line_at lines i).frame) (pulses_on i calls) y ((lines_after new start begins calls now order).lines i small).kept (kept_by i small y e).0;
+      range = ranged (IsEndAt (pulses_on i calls) (last_tick start calls) now) rules (after_calls new calls).rules (claim_kept rules (line_at lines i).frame) (pulses_on i calls) y ((lines_after new start begins calls now order).lines i small).kept (kept_by i small y e).0;
       i = i;
       small = small;
       keeps = e;
     }
 
-    all_there : EachKept IsKeptThere (all_kept within (settled clock lines))
+    all_there : EachKept IsKeptThere (all_kept rules (settled clock lines))
     all_there =
         one_more IsKeptThere _ _ (there_at 0 (omega arith))
         (one_more IsKeptThere _ _ (there_at 1 (omega arith))
@@ -318,18 +316,18 @@ module _ (new : Keeping) (start : ℕ) (begins : AreLinesAt new new (λ i. []) s
         (one_more IsKeptThere _ _ (there_at 3 (omega arith))
         (one_more IsKeptThere _ _ (there_at 4 (omega arith)) tt))))
 
-    -- the vote is of the candidate that ends first
+    -- the vote is of the candidate whose last time comes first
     pub record IsAgreedOn (v : Vote) : Type 0 where
       pub x : KeptClaim
       pub is : IsCandidateAt x
-      pub first : first_candidate window f (all_kept within (settled clock lines)) (all_kept within (settled clock lines)) None ≡ Some x
-      pub parts : IsVoteOf rules (all_kept within (settled clock lines)) v x
+      pub first : first_candidate reach f (all_kept rules (settled clock lines)) (all_kept rules (settled clock lines)) None ≡ Some x
+      pub parts : IsVoteOf rules (all_kept rules (settled clock lines)) v x
 
     pub agreed_on : (v : Vote) → agreed rules (settled clock lines) ≡ Some v → IsAgreedOn v
     agreed_on v e =
-        let all = all_kept within (settled clock lines) in
+        let all = all_kept rules (settled clock lines) in
         let first = agreed_first rules (settled clock lines) v e in
-        let one = is_one IsKeptThere window f all all first.0 all_there first.1 in
+        let one = is_one IsKeptThere reach f all all first.0 all_there first.1 in
         record {
           x = first.0;
           is = record { counts = one.0; range = one.1.range; i = one.1.i; small = one.1.small; keeps = one.1.keeps };
@@ -338,104 +336,108 @@ module _ (new : Keeping) (start : ℕ) (begins : AreLinesAt new new (λ i. []) s
         }
 
     module _ (x : KeptClaim) (is : IsCandidateAt x) where
-      pub half : IsHalf within x
-      half = half_kept within (line_at (settled clock lines) is.i).frame x is.keeps
+      pub half : IsHalf rules x
+      half = half_kept rules (line_at (settled clock lines) is.i).frame x is.keeps
 
       abbrev pub agreeing : ℕ → Bool
-      agreeing i = agrees x (claim_kept within (line_at (settled clock lines) i).frame)
+      agreeing i = agrees x (claim_kept rules (line_at (settled clock lines) i).frame)
 
       pub many : f_of new.clock.redundancy < count_by agreeing (range_with_len 0 5)
       many =
           let same : f ≡ f_of new.clock.redundancy = ap (λ (c : ClockRules). f_of c.redundancy) (lines_after new start begins calls now order).same.clock in
-          let counted = ltb-true f (count_by (agrees x) (all_kept within (settled clock lines))) is.counts in
+          let counted = ltb-true f (count_by (agrees x) (all_kept rules (settled clock lines))) is.counts in
           omega (arith, counted, same)
 
       pub absent : (i : ℕ) → i < 5 → ports_in new.clock.redundancy ≤ i → agreeing i ≡ false
-      absent i small far = of (claim_kept within (line_at (settled clock lines) i).frame) refl
+      absent i small far = of (claim_kept rules (line_at (settled clock lines) i).frame) refl
         where
-          of : (o : Option KeptClaim) → claim_kept within (line_at (settled clock lines) i).frame ≡ o → agrees x o ≡ false
+          of : (o : Option KeptClaim) → claim_kept rules (line_at (settled clock lines) i).frame ≡ o → agrees x o ≡ false
           of None e = refl
           of (Some y) e =
               let l = (lines_after new start begins calls now order).lines i small in
-              let none = kept_of_nothing (IsEndAt (pulses_on i calls) (last_tick start calls) now) _ _ (after_calls new calls).rules (claim_kept within (line_at lines i).frame) (pulses_on i calls) (silent_line start new.clock.redundancy i far calls order.3) l.kept in
+              let none = kept_of_nothing (IsEndAt (pulses_on i calls) (last_tick start calls) now) rules (after_calls new calls).rules (claim_kept rules (line_at lines i).frame) (pulses_on i calls) (silent_line start new.clock.redundancy i far calls order.3) l.kept in
               absurd (let both : None ≡ Some y = sym none ∙ (kept_by i small y e).0 in cc)
 
-      -- a line that agrees keeps a frame that ended with it, or up to the window behind
+      -- a line that agrees keeps a frame whose edge may lie at the last time of this one
       pub record IsAgreeing (i : ℕ) : Type 0 where
         pub y : KeptClaim
-        pub keeps : claim_kept within (line_at lines i).frame ≡ Some y
-        pub settled_keeps : claim_kept within (line_at (settled clock lines) i).frame ≡ Some y
+        pub keeps : claim_kept rules (line_at lines i).frame ≡ Some y
+        pub settled_keeps : claim_kept rules (line_at (settled clock lines) i).frame ≡ Some y
         pub same : same_claim x.claim y.claim ≡ true
         pub ends : y.end_us ≡ whole_of (pulses_on i calls) % 2 ^ 32
-        pub near : clock_gap x.end_us (whole_of (pulses_on i calls) % 2 ^ 32) ≤ window
+        pub half_of : IsHalf rules y
+        pub near : clock_gap (first_us y) (last_us x) ≤ 2 * y.half_us
         pub ahead : whole_of (pulses_on i calls) ≤ now + 14000
         pub soon : now ≤ whole_of (pulses_on i calls) + 100000
         pub low : 10000 ≤ whole_of (pulses_on i calls)
 
       pub agreed_by : (i : ℕ) → i < 5 → agreeing i ≡ true → IsAgreeing i
-      agreed_by i small agree = of (claim_kept within (line_at (settled clock lines) i).frame) refl agree
+      agreed_by i small agree = of (claim_kept rules (line_at (settled clock lines) i).frame) refl agree
         where
-          of : (o : Option KeptClaim) → claim_kept within (line_at (settled clock lines) i).frame ≡ o → agrees x o ≡ true → IsAgreeing i
+          of : (o : Option KeptClaim) → claim_kept rules (line_at (settled clock lines) i).frame ≡ o → agrees x o ≡ true → IsAgreeing i
           of None e agree = absurd cc
           of (Some y) e agree =
               let l = (lines_after new start begins calls now order).lines i small in
               let keeps = kept_by i small y e in
-              let h = subst (λ (o : Option KeptClaim). IfKept (IsEndAt (pulses_on i calls) (last_tick start calls) now) (after_calls new calls).clock.within.us (after_calls new calls).clock.drift_us (after_calls new calls).rules o (pulses_on i calls)) keeps.0 l.kept in
+              let h = subst (λ (o : Option KeptClaim). IfKept (IsEndAt (pulses_on i calls) (last_tick start calls) now) (after_calls new calls).clock (after_calls new calls).rules o (pulses_on i calls)) keeps.0 l.kept in
               let whole : h.0 ≡ whole_of (pulses_on i calls) = h.3.2 in
               let ends : y.end_us ≡ whole_of (pulses_on i calls) % 2 ^ 32 = h.1 ∙ ap (λ (x : ℕ). x % 2 ^ 32) whole in
               let ahead : whole_of (pulses_on i calls) ≤ now + 14000 = omega (arith, whole, h.3.0) in
               let turn : now + 14000 < whole_of (pulses_on i calls) + 2 ^ 32 = omega (arith, whole, h.3.1, order.1) in
-              let range : y.end_us < 2 ^ 32 = omega (arith, ends) in
-              let both = ends_agree within x y (after_calls new calls).clock.within.few half (half_kept within (line_at (settled clock lines) i).frame y e) is.range range agree in
+              let both = agreeing_is x y agree in
               record {
                 y = y;
                 keeps = keeps.0;
                 settled_keeps = e;
                 same = both.0;
                 ends = ends;
-                near = subst (λ (e : ℕ). clock_gap x.end_us e ≤ window) ends both.1;
+                half_of = half_kept rules (line_at (settled clock lines) i).frame y e;
+                near = both.1;
                 ahead = ahead;
                 soon = not_late (whole_of (pulses_on i calls)) now ahead turn (subst (λ (e : ℕ). is_late e clock ≡ false) ends keeps.1);
                 low = omega (arith, whole, last_late h.0 (drop h.2.late (pulses_on i calls)) h.2.last);
               }
 
-      -- so the candidate ended at this time
-      pub record EndsAt (end : ℕ) : Type 0 where
-        pub clock : x.end_us ≡ end % 2 ^ 32
-        pub ahead : end ≤ now + 14000
-        pub soon : now ≤ end + 101000
-        pub low : 9000 ≤ end
+      -- so the last time of the candidate is this one
+      pub record EndsAt (time : ℕ) : Type 0 where
+        pub clock : last_us x ≡ time % 2 ^ 32
+        pub ahead : time ≤ now + 15449
+        pub soon : now ≤ time + 101449
+        pub low : 8000 ≤ time
 
-      exact_end : (i : ℕ) → i < 5 → agreeing i ≡ true → (end : ℕ) × EndsAt end × (end ≤ whole_of (pulses_on i calls)) × (whole_of (pulses_on i calls) ≤ end + window)
+      exact_end : (i : ℕ) → i < 5 → agreeing i ≡ true → (time : ℕ) × EndsAt time × (time ≤ whole_of (pulses_on i calls) + 1449) × (whole_of (pulses_on i calls) ≤ time + 1449)
       exact_end i small agree =
           let a = agreed_by i small agree in
           let end : ℕ = whole_of (pulses_on i calls) in
-          let gap : ℕ = clock_gap x.end_us (end % 2 ^ 32) in (
-            end - gap,
+          let half : ℕ = a.y.half_us in
+          let gap : ℕ = clock_gap (first_us a.y) (last_us x) in
+          let narrow : half ≤ 1449 = omega (arith, a.half_of.1, few) in
+          let first = first_at a.y.end_us half end a.ends (omega (arith, a.low, narrow)) narrow in (
+            end - half + gap,
             record {
-              clock = wrapped x.end_us end is.range a.low (omega (arith, a.near, few));
-              ahead = omega (arith, a.ahead);
-              soon = omega (arith, a.soon, a.near, a.low, few);
-              low = omega (arith, a.near, a.low, few);
+              clock = exact_time (last_us x) (end - half) (first_us a.y) (omega arith) first;
+              ahead = omega (arith, a.ahead, a.near, a.low, narrow);
+              soon = omega (arith, a.soon, a.near, a.low, narrow);
+              low = omega (arith, a.near, a.low, narrow);
             },
-            omega arith,
-            omega (arith, a.near, a.low, few),
+            omega (arith, a.near, a.low, narrow),
+            omega (arith, a.near, a.low, narrow),
           )
         where
-          wrapped : (e end : ℕ) → e < 2 ^ 32 → 10000 ≤ end → clock_gap e (end % 2 ^ 32) ≤ 898 → e ≡ (end - clock_gap e (end % 2 ^ 32)) % 2 ^ 32
-          wrapped e end range low near = omega (arith, range, low, near)
+          first_at : (e half end : ℕ) → e ≡ end % 2 ^ 32 → half ≤ end → half ≤ 1449 → (e + 2 ^ 32 - half) % 2 ^ 32 ≡ (end - half) % 2 ^ 32
+          first_at e half end at some narrow = omega (arith, at, some, narrow)
 
-      pub ends_at : (end : ℕ) × EndsAt end
+      pub ends_at : (time : ℕ) × EndsAt time
       ends_at =
           let one = shared new.clock.redundancy agreeing agreeing absent absent many many in
           let e = exact_end one.0 one.1 one.2 in
           (e.0, e.1)
 
-      -- each that agrees ended there, or up to the window behind
-      pub near_end : (end : ℕ) → EndsAt end → (i : ℕ) → i < 5 → agreeing i ≡ true → (end ≤ whole_of (pulses_on i calls)) × (whole_of (pulses_on i calls) ≤ end + window)
-      near_end end at i small agree =
+      -- each that agrees ended about there
+      pub near_end : (time : ℕ) → EndsAt time → (i : ℕ) → i < 5 → agreeing i ≡ true → (time ≤ whole_of (pulses_on i calls) + 1449) × (whole_of (pulses_on i calls) ≤ time + 1449)
+      near_end time at i small agree =
           let e = exact_end i small agree in
-          let same : e.0 ≡ end = one_end x.end_us e.0 end e.1.clock at.clock (omega (arith, e.1.ahead, at.soon)) (omega (arith, at.ahead, e.1.soon)) in
+          let same : e.0 ≡ time = one_end (last_us x) e.0 time e.1.clock at.clock (omega (arith, e.1.ahead, at.soon)) (omega (arith, at.ahead, e.1.soon)) in
           (omega (arith, same, e.2), omega (arith, same, e.3))
         where
           one_end : (e x y : ℕ) → e ≡ x % 2 ^ 32 → e ≡ y % 2 ^ 32 → x ≤ y + 200000 → y ≤ x + 200000 → x ≡ y
@@ -448,36 +450,36 @@ module _ (new : Keeping) (start : ℕ) (begins : AreLinesAt new new (λ i. []) s
     on : IsAgreedOn calls now order v
     on = agreed_on calls now order v there.0
 
-    end : (end : ℕ) × EndsAt calls now order on.x on.is end
+    end : (time : ℕ) × EndsAt calls now order on.x on.is time
     end = ends_at calls now order on.x on.is
 
-    lies : LiesBehind (window calls now order) v.edge_us end.0
-    lies = lies_behind (rules calls now order) (all_kept (within calls now order) (settled (now % 2 ^ 32) (lines calls now order))) v on.x on.parts (half calls now order on.x on.is) end.0 end.1.clock
+    lies : LiesAbout (rules calls now order) v.edge_us end.0
+    lies = lies_about (rules calls now order) (all_kept (rules calls now order) (settled (now % 2 ^ 32) (lines calls now order))) v on.x on.parts end.0 end.1.clock (omega (arith, end.1.low))
 
-    narrows : window calls now order ≤ 898
-    narrows = narrow (rules calls now order)
+    narrows : widest_us (rules calls now order) ≤ 1449
+    narrows = widest_few (rules calls now order)
 
-    has : (lies.edge ≤ now) × (now ≤ lies.edge + 100000)
+    has : (lies.edge ≤ now) × (now ≤ lies.edge + 103000)
     has =
-        let few = leb-true (clock_gap v.edge_us (now % 2 ^ 32)) 100000 there.1 in
-        has_come_so v.edge_us lies.edge lies.clock (omega (arith, lies.most, end.1.ahead, narrows)) (omega (arith, lies.least, end.1.soon)) few
+        let few = leb-true (clock_gap v.edge_us (now % 2 ^ 32)) 103000 there.1 in
+        has_come_so v.edge_us lies.edge lies.clock (omega (arith, lies.most, end.1.ahead, narrows)) (omega (arith, lies.least, end.1.soon, narrows)) few
       where
-        has_come_so : (e edge : ℕ) → e ≡ edge % 2 ^ 32 → edge ≤ now + 15000 → now ≤ edge + 101000 → clock_gap e (now % 2 ^ 32) ≤ 100000 → (edge ≤ now) × (now ≤ edge + 100000)
+        has_come_so : (e edge : ℕ) → e ≡ edge % 2 ^ 32 → edge ≤ now + 17000 → now ≤ edge + 103000 → clock_gap e (now % 2 ^ 32) ≤ 103000 → (edge ≤ now) × (now ≤ edge + 103000)
         has_come_so e edge clock ahead soon few = (omega (arith, clock, ahead, soon, few), omega (arith, clock, ahead, soon, few))
 
     at_edge : IsEdgeAt v.edge_us lies.edge now
     at_edge = record { clock = lies.clock; come = has.0; soon = omega (arith, has.1) }
 
     -- the edge that is voted has come
-    pub edge_of : (edge : ℕ) × IsEdgeAt v.edge_us edge now × (now ≤ edge + 100000) × (9000 ≤ edge)
-    edge_of = (lies.edge, at_edge, has.1, omega (arith, lies.least, end.1.low))
+    pub edge_of : (edge : ℕ) × IsEdgeAt v.edge_us edge now × (now ≤ edge + 103000) × (6000 ≤ edge)
+    edge_of = (lies.edge, at_edge, has.1, omega (arith, lies.least, end.1.low, narrows))
 
-    -- a line that agrees ended within a window of the edge, at most 898 us wide
+    -- a line that agrees ended about the edge
     record IsVoter (V i : ℕ) : Type 0 where
       y : KeptClaim
-      keeps : claim_kept (within calls now order) (line_at (lines calls now order) i).frame ≡ Some y
-      least : V ≤ whole_of (pulses_on i calls) + 898
-      most : whole_of (pulses_on i calls) ≤ V + 898
+      keeps : claim_kept (rules calls now order) (line_at (lines calls now order) i).frame ≡ Some y
+      least : V ≤ whole_of (pulses_on i calls) + 2898
+      most : whole_of (pulses_on i calls) ≤ V + 2898
 
     voter : (V : ℕ) → IsEdgeAt v.edge_us V now → (i : ℕ) → i < 5 → agreeing calls now order on.x on.is i ≡ true → IsVoter V i
     voter V at i small agree =
@@ -489,7 +491,7 @@ module _ (new : Keeping) (start : ℕ) (begins : AreLinesAt new new (λ i. []) s
   -- two votes share a line, whose frames lie a frame apart
   pub votes_apart : (earlier later : List Call) (before now : ℕ) (v v' : Vote) (V V' : ℕ) → AreInOrder start new.clock.redundancy (Tick now ∷ (later ++ (Tick before ∷ earlier)))
       → vote_at (after_calls new earlier) (before % 2 ^ 32) ≡ Some v → IsEdgeAt v.edge_us V before
-      → vote_at (after_calls new (later ++ (Tick before ∷ earlier))) (now % 2 ^ 32) ≡ Some v' → IsEdgeAt v'.edge_us V' now → V + 889000 ≤ V'
+      → vote_at (after_calls new (later ++ (Tick before ∷ earlier))) (now % 2 ^ 32) ≡ Some v' → IsEdgeAt v'.edge_us V' now → V + 885000 ≤ V'
   votes_apart earlier later before now v v' V V' order voted at voted' at' =
       let base : List Call = Tick before ∷ earlier in
       let calls : List Call = later ++ base in
@@ -500,10 +502,10 @@ module _ (new : Keeping) (start : ℕ) (begins : AreLinesAt new new (λ i. []) s
       let i : ℕ = one.0 in
       let first = voter earlier before ordered v voted V at i one.1 one.2 in
       let second = voter calls now order v' voted' V' at' i one.1 one.3 in
-      let gone : claim_kept (within calls now order) (line_at (after_calls new base).state.lines i).frame ≡ None =
-      ap (λ (l : Lines). claim_kept (within calls now order) (line_at l i).frame) (takes (after_calls new earlier) (before % 2 ^ 32) v voted)
-      ∙ ap (λ (l : Line). claim_kept (within calls now order) l.frame) (sym (line_takes (settled (before % 2 ^ 32) (after_calls new earlier).state.lines) i one.1)) in
-      let far = (since new start begins (within calls now order) i one.1 base gone later now order).later second.y second.keeps in
+      let gone : claim_kept (rules calls now order) (line_at (after_calls new base).state.lines i).frame ≡ None =
+      ap (λ (l : Lines). claim_kept (rules calls now order) (line_at l i).frame) (takes (after_calls new earlier) (before % 2 ^ 32) v voted)
+      ∙ ap (λ (l : Line). claim_kept (rules calls now order) l.frame) (sym (line_takes (settled (before % 2 ^ 32) (after_calls new earlier).state.lines) i one.1)) in
+      let far = (since new start begins (rules calls now order) i one.1 base gone later now order).later second.y second.keeps in
       omega (arith, first.least, second.most, far)
 
   -- ---- one edge and a later one
@@ -524,7 +526,7 @@ module _ (new : Keeping) (start : ℕ) (begins : AreLinesAt new new (λ i. []) s
   -- the last edge that was told lies at A or behind; lines may have set the edge back since
   abbrev pub IsPaced : ℕ → List Call → Option ℕ → Type 0
   IsPaced A calls None = A ≡ 0
-  IsPaced A calls (Some e) = (edge : ℕ) × IsEdgeAt e edge (last_tick start calls) × ((A ≤ edge) ⊎ ((A ≤ edge + 100000) × IsSetByVote edge calls))
+  IsPaced A calls (Some e) = (edge : ℕ) × IsEdgeAt e edge (last_tick start calls) × ((A ≤ edge) ⊎ ((A ≤ edge + 103000) × IsSetByVote edge calls))
 
   -- a tick tells an edge that lies half a second behind A, and goes on from there
   pub record TellsLater (A now : ℕ) (calls : List Call) (o : Option ℕ) (b : Beat) : Type 0 where
@@ -576,11 +578,11 @@ module _ (new : Keeping) (start : ℕ) (begins : AreLinesAt new new (λ i. []) s
         elim (cases_Bool (n == 0)) [
           | inl waits ↦
               let none : n ≡ 0 = eqb-true n 0 waits in
-              let stays : (A ≤ edge) ⊎ ((A ≤ edge + 100000) × IsSetByVote edge (Tick now ∷ calls)) = elim paced.2 [ inl low ↦ inl low | inr set ↦ inr (set.0, set_before edge (Tick now) calls set.1) ] in
+              let stays : (A ≤ edge) ⊎ ((A ≤ edge + 103000) × IsSetByVote edge (Tick now ∷ calls)) = elim paced.2 [ inl low ↦ inl low | inr set ↦ inr (set.0, set_before edge (Tick now) calls set.1) ] in
               rw waits (record { next = (edge, still_edge tick now ordered soon e edge at (sym count ∙ none), stays); told = λ b e. absurd cc })
           | inr more ↦
               let some : 1 ≤ n = omega (arith, eqb-false n 0 more) in
-              let near : A ≤ edge + 100000 = elim paced.2 [ inl low ↦ omega (arith, low) | inr set ↦ set.0 ] in
+              let near : A ≤ edge + 103000 = elim paced.2 [ inl low ↦ omega (arith, low) | inr set ↦ set.0 ] in
               let then = own_edge_at tick now ordered soon e edge at n count some in
               rw more (record {
                 next = (edge + n * 1000000, then, inl (omega (arith, near, some)));
@@ -607,14 +609,14 @@ module _ (new : Keeping) (start : ℕ) (begins : AreLinesAt new new (λ i. []) s
         let at = paced.1 in
         let V = edge_of calls now order v voted in
         let count : n ≡ edges_between edge V.0 = same ∙ voted_count tick now ordered soon e edge at v.edge_us V.0 V.1 V.2 in
-        let behind : (A ≤ edge) ⊎ ((A ≤ edge + 100000) × (edge + 889000 ≤ V.0)) = elim paced.2 [
+        let behind : (A ≤ edge) ⊎ ((A ≤ edge + 103000) × (edge + 885000 ≤ V.0)) = elim paced.2 [
           | inl low ↦ inl low
           | inr set ↦ inr (set.0, votes_behind now v V.0 edge set.1 order voted V.1)
         ] in
         elim (cases_Bool (n == 0)) [
           | inl waits ↦
               let none : n ≡ 0 = eqb-true n 0 waits in
-              let back : A ≤ V.0 + 100000 = elim behind [ inl low ↦ omega (arith, low, at.come, ordered, V.2) | inr set ↦ absurd (omega (arith, set.1, count, none)) ] in
+              let back : A ≤ V.0 + 103000 = elim behind [ inl low ↦ omega (arith, low, at.come, ordered, V.2) | inr set ↦ absurd (omega (arith, set.1, count, none)) ] in
               let set : IsSetByVote V.0 (Tick now ∷ calls) = record { earlier = calls; later = []; before = now; v = v; are = refl; voted = voted; at = V.1 } in
               rw waits (record { next = (V.0, V.1, inr (back, set)); told = λ b e. absurd cc })
           | inr more ↦
@@ -628,7 +630,7 @@ module _ (new : Keeping) (start : ℕ) (begins : AreLinesAt new new (λ i. []) s
               })
         ]
       where
-        votes_behind : (now : ℕ) (v : Vote) (V edge : ℕ) → (set : IsSetByVote edge calls) → AreInOrder start new.clock.redundancy (Tick now ∷ calls) → vote_at (after_calls new calls) (now % 2 ^ 32) ≡ Some v → IsEdgeAt v.edge_us V now → edge + 889000 ≤ V
+        votes_behind : (now : ℕ) (v : Vote) (V edge : ℕ) → (set : IsSetByVote edge calls) → AreInOrder start new.clock.redundancy (Tick now ∷ calls) → vote_at (after_calls new calls) (now % 2 ^ 32) ≡ Some v → IsEdgeAt v.edge_us V now → edge + 885000 ≤ V
         votes_behind now v V edge set order voted at =
             votes_apart set.earlier set.later set.before now set.v v edge V
             (subst (λ (x : List Call). AreInOrder start new.clock.redundancy (Tick now ∷ x)) set.are order) set.voted set.at

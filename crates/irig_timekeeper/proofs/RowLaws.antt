@@ -8,7 +8,6 @@ use Rattle.irig_time.specs.declared.rules.Rules.{Rules}
 use Rattle.irig_time.specs.declared.second.UtcSecond.{UtcSecond}
 use Rattle.irig_time.specs.Tables.{TableValue}
 use Rattle.irig_time.specs.Timelines.{TimelineValue}
-use Rattle.irig_port.specs.declared.limits.Limits.{Limits}
 use Rattle.irig_vote.specs.Vote.{f_of}
 use Rattle.irig_lines.specs.declared.lines.Lines.{Lines}
 use Rattle.irig_timekeeper.specs.declared.clock.Beat.{Beat}
@@ -121,17 +120,17 @@ module _ (new : Keeping) (calls : List Call) (beat then : Beat) (edge next : ℕ
 
 -- ---- in a true life a second and a half lies only between seconds of which one was missed
 
-module _ (limits : Option Limits) (rules : Rules) (clock : ClockRules) (table : TableValue) (lines : Lines) (start : ℕ) (fresh : AreNewLines lines) (IsTrue : ℕ → List Pulse → Type 0) (t : TimelineValue) (edges : ℕ → ℕ) (early late : ℕ)
-    (is : IsDevice t clock.drift_us edges clock.reader_rules table) (room : early + late ≤ 3002) (truly : TellAlwaysTruly IsTrue clock.within.us clock.drift_us rules t edges early late) where
+module _ (rules : Rules) (clock : ClockRules) (table : TableValue) (lines : Lines) (start : ℕ) (fresh : AreNewLines lines) (IsTrue : ℕ → List Pulse → Type 0) (t : TimelineValue) (edges : ℕ → ℕ) (early late : ℕ)
+    (is : IsDevice t clock.drift_us edges clock.reader_rules table) (room : early + late ≤ 3002) (truly : TellAlwaysTruly IsTrue clock rules t edges early late) where
   abbrev new : Keeping
-  new = new_keeping limits rules clock table lines
+  new = new_keeping rules clock table lines
 
   abbrev Put : ℕ → Type 0
   Put = IsPut edges early late
 
   -- calls that tell nothing leave the edge where it was told, or set it right by true votes
-  stays_on : (A e : ℕ) (base : List Call) → (after_calls new base).state.edge_us ≡ Some e → IsFresh new start (begun limits rules clock table lines start fresh) Put A base e → (later : List Call) → AreInOrder start clock.redundancy (later ++ base) → AreTrueOver IsTrue (f_of clock.redundancy) later base
-      → TellNothing new later base → StaysFresh new start (begun limits rules clock table lines start fresh) Put A (later ++ base) (after_calls new (later ++ base)).state.edge_us
+  stays_on : (A e : ℕ) (base : List Call) → (after_calls new base).state.edge_us ≡ Some e → IsFresh new start (begun rules clock table lines start fresh) Put A base e → (later : List Call) → AreInOrder start clock.redundancy (later ++ base) → AreTrueOver IsTrue (f_of clock.redundancy) later base
+      → TellNothing new later base → StaysFresh new start (begun rules clock table lines start fresh) Put A (later ++ base) (after_calls new (later ++ base)).state.edge_us
   stays_on A e base edge is_fresh [] order truth silent = record { e = e; edge = edge; fresh = is_fresh }
   stays_on A e base edge is_fresh (Hear port rise width ∷ later) order truth silent =
       let so = stays_on A e base edge is_fresh later order.2 truth silent in
@@ -139,11 +138,11 @@ module _ (limits : Option Limits) (rules : Rules) (clock : ClockRules) (table : 
       record {
         e = so.e;
         edge = stays.2 ∙ so.edge;
-        fresh = record { x = so.fresh.x; at = so.fresh.at; is = fresh_on new start (begun limits rules clock table lines start fresh) Put A (Hear port rise width) (later ++ base) so.fresh.x so.fresh.is };
+        fresh = record { x = so.fresh.x; at = so.fresh.at; is = fresh_on new start (begun rules clock table lines start fresh) Put A (Hear port rise width) (later ++ base) so.fresh.x so.fresh.is };
       }
   stays_on A e base edge is_fresh (Tick now ∷ later) order truth silent =
       let so = stays_on A e base edge is_fresh later order.3 truth.1 silent.1 in
-      fresh_tick new start (begun limits rules clock table lines start fresh) Put A (later ++ base) now order (puts_truly limits rules clock table lines start fresh t edges early late is IsTrue room truly (later ++ base) now order truth.0) so.e so.fresh so.edge silent.0
+      fresh_tick new start (begun rules clock table lines start fresh) Put A (later ++ base) now order (puts_truly rules clock table lines start fresh t edges early late is IsTrue room truly (later ++ base) now order truth.0) so.e so.fresh so.edge silent.0
 
   pub told_in_a_row : (calls : List Call) (beat then : Beat) (edge next : ℕ) (u : UtcSecond) → (row : AreToldLast new calls beat then edge next) → AreInOrder start clock.redundancy (Tick row.now ∷ (row.between ++ (Tick row.before ∷ row.earlier)))
       → AreTrueOver IsTrue (f_of clock.redundancy) (Tick row.now ∷ row.between) (Tick row.before ∷ row.earlier) → IsToldTruly t edges (early + beat.bound_us) (late + beat.bound_us) row.before beat u
@@ -152,16 +151,16 @@ module _ (limits : Option Limits) (rules : Rules) (clock : ClockRules) (table : 
       let base : List Call = Tick row.before ∷ row.earlier in
       let mid : List Call = row.between ++ base in
       let kept = (leaves_told (after_calls new row.earlier) (row.before % 2 ^ 32)).told beat row.told in
-      let begins : IsFresh new start (begun limits rules clock table lines start fresh) Put edge base beat.edge_us = record { x = edge; at = row.at; is = inl refl } in
+      let begins : IsFresh new start (begun rules clock table lines start fresh) Put edge base beat.edge_us = record { x = edge; at = row.at; is = inl refl } in
       let so = stays_on edge beat.edge_us base kept.2 begins row.between ordered.3 truth.1 row.silent in
-      let puts = puts_truly limits rules clock table lines start fresh t edges early late is IsTrue room truly mid row.now ordered truth.0 in
-      let comes = next_edge new start (begun limits rules clock table lines start fresh) Put edge mid row.now ordered puts so.e so.fresh so.edge then row.told_then next row.at_then in
+      let puts = puts_truly rules clock table lines start fresh t edges early late is IsTrue room truly mid row.now ordered truth.0 in
+      let comes = next_edge new start (begun rules clock table lines start fresh) Put edge mid row.now ordered puts so.e so.fresh so.edge then row.told_then next row.at_then in
       let a : Announced = record { second = u; edge_us = beat.edge_us; bound_us = beat.bound_us } in
-      let small = small_bound limits rules clock table lines start fresh t edges is row.earlier row.before beat row.told in
+      let small = small_bound rules clock table lines start fresh t edges is row.earlier row.before beat row.told in
       let same = same_edge beat.edge_us true_beat.edge edge row.before (record { clock = true_beat.clock; come = true_beat.come; soon = true_beat.soon }) row.at in
       let near : IsNear edges (early + beat.bound_us) (late + beat.bound_us) true_beat.m edge = subst (IsNear edges (early + beat.bound_us) (late + beat.bound_us) true_beat.m) same true_beat.near in
       close clock.drift_us edges is.steady early late room edge beat.bound_us true_beat.m near small so.fresh.x next
-      (stood new start (begun limits rules clock table lines start fresh) Put edge mid so.fresh.x so.fresh.is) (subst (λ (m : ℕ). ComesBy Put m so.fresh.x next) none comes)
+      (stood new start (begun rules clock table lines start fresh) Put edge mid so.fresh.x so.fresh.is) (subst (λ (m : ℕ). ComesBy Put m so.fresh.x next) none comes)
 
   -- in a life that is true at each tick
   pub in_a_row : (calls : List Call) (beat then : Beat) (edge next : ℕ) (u : UtcSecond) → AreInOrder start clock.redundancy calls → AreTrueAtTicks IsTrue (f_of clock.redundancy) calls → AreToldLast new calls beat then edge next
@@ -173,7 +172,7 @@ module _ (limits : Option Limits) (rules : Rules) (clock : ClockRules) (table : 
       let true_so_far = truth_before IsTrue (f_of clock.redundancy) row.later mid (subst (AreTrueAtTicks IsTrue (f_of clock.redundancy)) row.are truth) in
       let at_base = order_before start clock.redundancy row.between base ordered.3 in
       let true_base = truth_before IsTrue (f_of clock.redundancy) row.between base true_so_far.1 in
-      let told = (device_true limits rules clock table lines start fresh IsTrue t edges early late is room truly row.earlier row.before beat u at_base true_base row.told says).told in
+      let told = (device_true rules clock table lines start fresh IsTrue t edges early late is room truly row.earlier row.before beat u at_base true_base row.told says).told in
       told_in_a_row calls beat then edge next u row ordered (true_so_far.0, truth_over IsTrue (f_of clock.redundancy) row.between base true_so_far.1) told says none
 
   -- in one that is so since a vote
@@ -183,5 +182,5 @@ module _ (limits : Option Limits) (rules : Rules) (clock : ClockRules) (table : 
   in_a_row_since calls beat then edge next u row earlier later mend v b lately voted answer are since ordered truth says none =
       let base : List Call = Tick row.before ∷ row.earlier in
       let at_base = order_before start clock.redundancy row.between base ordered.3 in
-      let told = (newly IsTrue t edges early late new start (begun limits rules clock table lines start fresh) tt is room truly earlier mend v b lately voted answer later row.earlier row.before are since at_base beat u row.told says).told in
+      let told = (newly IsTrue t edges early late new start (begun rules clock table lines start fresh) tt is room truly earlier mend v b lately voted answer later row.earlier row.before are since at_base beat u row.told says).told in
       told_in_a_row calls beat then edge next u row ordered truth told says none

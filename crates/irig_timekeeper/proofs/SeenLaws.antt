@@ -11,7 +11,7 @@ use Rattle.irig_time.specs.declared.claim.Claim.{Claim}
 use Rattle.irig_time.specs.Carries.{Carries}
 use Rattle.irig_port.specs.declared.limits.Limits.{Limits}
 use Rattle.irig_port.specs.declared.told.Told.TheVariants as tells
-use Rattle.irig_port.specs.Limits.{told_within}
+use Rattle.irig_port.specs.Limits.{told_within, quality_in}
 use Rattle.irig_port.specs.Hearing.{IsRun}
 use Rattle.irig_port.proofs.RunLaws.{hears}
 use Rattle.irig_port.proofs.CarriesLaws.{carries_is_told}
@@ -23,7 +23,8 @@ use Rattle.irig_lines.specs.declared.lines.Lines.{Lines}
 use Rattle.irig_lines.specs.declared.setup.ClockRules.{ClockRules}
 use Rattle.irig_lines.specs.Counting.{is_gone}
 use Rattle.irig_lines.specs.Lines.{rise_before, KnowsBegin, AreEven, IsLastBefore}
-use Rattle.irig_lines.specs.Steps.{is_pulse, is_even, line_at, line_heard, whole_frame, frame_behind, still_seen, settled}
+use Rattle.irig_port.specs.declared.told.Told.{Told}
+use Rattle.irig_lines.specs.Steps.{is_pulse, is_even, line_at, line_heard, quality_told, whole_frame, frame_behind, still_seen, settled}
 use Rattle.irig_timekeeper.specs.Keeping.{Keeping, heard_by, heard_then, after_pulse, after_tick}
 use Rattle.irig_timekeeper.specs.Life.{Call, after_calls, pulses_on, last_tick, AreInOrder}
 use Rattle.irig_timekeeper.specs.Life.Call.{Hear, Tick}
@@ -40,6 +41,7 @@ pub record IsSeenOf (c : ClockRules) (rules : Rules) (claim : Claim) (f : KeptFr
   pub on_time : AreOnTime 100 (drop late pulses)
   pub carries : Carries rules (symbols_of_last 100 (drop late pulses)) claim
   pub last : IsLastBefore end (drop late pulses)
+  pub says : quality_in (symbols_of_last 100 (drop late pulses)) ≡ f.quality
   pub even : AreEven c.within.us c.drift_us (drop late pulses) → f.is_even ≡ true
   pub ahead : end ≤ now + 14000
   pub soon : tick ≤ end + 1500000
@@ -54,18 +56,18 @@ module _ (c : ClockRules) (rules : Rules) where
   seen_later tick now time pulses None on h = tt
   seen_later tick now time pulses (Some f) on h = λ claim told.
       let s = h claim told in
-      record { end = s.end; at = s.at; late = s.late; on_time = s.on_time; carries = s.carries; last = s.last; even = s.even; ahead = omega (arith, s.ahead, on); soon = s.soon }
+      record { end = s.end; at = s.at; late = s.late; on_time = s.on_time; carries = s.carries; last = s.last; says = s.says; even = s.even; ahead = omega (arith, s.ahead, on); soon = s.soon }
 
   -- a pulse more
   one_behind : (tick now : ℕ) (p : Pulse) (pulses : List Pulse) (seen : Option KeptFrame) → IfSeen c rules tick now pulses seen → IfSeen c rules tick now (p ∷ pulses) seen
   one_behind tick now p pulses None h = tt
   one_behind tick now p pulses (Some f) h = λ claim told.
       let s = h claim told in
-      record { end = s.end; at = s.at; late = suc s.late; on_time = s.on_time; carries = s.carries; last = s.last; even = s.even; ahead = s.ahead; soon = s.soon }
+      record { end = s.end; at = s.at; late = suc s.late; on_time = s.on_time; carries = s.carries; last = s.last; says = s.says; even = s.even; ahead = s.ahead; soon = s.soon }
 
   -- a frame's last one
   whole_seen : (limits : Option Limits) (heard : List Symbol) (begin place rise width tick now : ℕ) (pulses : List Pulse) → c.drift_us ≤ 100 → IsRun heard place (pulse_at rise width ∷ pulses) → 1 ≤ place → KnowsBegin begin pulses → place_after (pulse_at rise width ∷ pulses) ≡ 100 → rise ≤ now + 4000 → tick ≤ rise + 500000
-      → IfSeen c rules tick now (pulse_at rise width ∷ pulses) (Some (whole_frame c begin (rise % 2 ^ 32) (told_within limits rules heard)))
+      → IfSeen c rules tick now (pulse_at rise width ∷ pulses) (Some (whole_frame c begin (rise % 2 ^ 32) (told_within limits rules heard) (quality_in heard)))
   whole_seen limits heard begin place rise width tick now pulses steady run some begins at risen near = λ claim told. elim run.step [
     | inl out ↦ absurd (omega (arith, out, some))
     | inr inside ↦
@@ -81,6 +83,7 @@ module _ (c : ClockRules) (rules : Rules) where
           on_time = subst (λ (n : ℕ). AreOnTime n all) whole (subst (AreOnTime run.count) none run.on_time);
           carries = subst (λ (s : List Symbol). Carries rules s claim) symbols carries;
           last = refl;
+          says = ap quality_in (sym symbols) ∙ sym (ap (λ (x : Told). quality_told x (quality_in heard)) told);
           even = λ even. subst (λ (b : ℕ). is_even c b (rise % 2 ^ 32) ≡ true) (sym (begin_here begin 98 (pulse_at rise width) pulses begins at)) (even_by c (rise_before 99 all) rise steady even.0 even.1);
           ahead = omega (arith, risen);
           soon = omega (arith, near);
@@ -92,7 +95,7 @@ module _ (c : ClockRules) (rules : Rules) where
 
   -- what is then seen
   seen_more : (limits : Option Limits) (heard : List Symbol) (begin place rise width tick now : ℕ) (pulses : List Pulse) (seen : Option KeptFrame) → c.drift_us ≤ 100 → IsRun heard place (pulse_at rise width ∷ pulses) → KnowsBegin begin pulses → place ≡ place_after (pulse_at rise width ∷ pulses) → rise ≤ now + 4000 → tick ≤ rise + 500000 → IfSeen c rules tick now pulses seen
-      → IfSeen c rules tick now (pulse_at rise width ∷ pulses) (frame_behind c place begin (rise % 2 ^ 32) (told_within limits rules heard) seen)
+      → IfSeen c rules tick now (pulse_at rise width ∷ pulses) (frame_behind c place begin (rise % 2 ^ 32) (told_within limits rules heard) (quality_in heard) seen)
   seen_more limits heard begin place rise width tick now pulses seen steady run begins is risen near h = elim (cases_Bool (place == 100)) [
     | inl whole ↦
         let at : place ≡ 100 = eqb-true place 100 whole in
@@ -114,7 +117,7 @@ module _ (c : ClockRules) (rules : Rules) where
     | inr there ↦ rw there (λ claim told.
         let s = h claim told in
         let soon = not_gone s.end now s.ahead (omega (arith, s.soon, half)) (subst (λ (e : ℕ). is_gone e (now % 2 ^ 32) ≡ false) s.at there) in
-        record { end = s.end; at = s.at; late = s.late; on_time = s.on_time; carries = s.carries; last = s.last; even = s.even; ahead = s.ahead; soon = soon })
+        record { end = s.end; at = s.at; late = s.late; on_time = s.on_time; carries = s.carries; last = s.last; says = s.says; even = s.even; ahead = s.ahead; soon = soon })
   ]
 
 -- ---- a life
@@ -143,13 +146,13 @@ module _ (new : Keeping) (start : ℕ) (begun : AreLinesAt new new (λ i. []) st
         let soon : IsSoon l.told rise = line_soon rise l risen order.1 (after, (order.3.1 narrow).1) in
         let place : place_of line.sync (rise % 2 ^ 32) width ≡ place_after (pulse_at rise width ∷ pulses_on i calls) = place_at_time line.sync (pulses_on i calls) l.told rise width l.hearing.sync after soon in
         let hearing = hears (heard_by k.heard i) line.sync _ (pulses_on i calls) l.told rise _ width _ refl refl l.hearing refl after soon in
-        let more = seen_more k.clock k.rules k.limits (heard_then k i (rise % 2 ^ 32) width) line.begin_us (place_of line.sync (rise % 2 ^ 32) width) rise width (last_tick start calls) now (pulses_on i calls) line.seen
+        let more = seen_more k.clock k.rules (Some k.clock.limits.limits) (heard_then k i (rise % 2 ^ 32) width) line.begin_us (place_of line.sync (rise % 2 ^ 32) width) rise width (last_tick start calls) now (pulses_on i calls) line.seen
         (subst (λ (c : ClockRules). c.drift_us ≤ 100) (sym all.same.clock) steady) hearing.run l.begins place risen (order.3.1 narrow).1
         (subst (λ (c : ClockRules). IfSeen c k.rules (last_tick start calls) now (pulses_on i calls) line.seen) (sym all.same.clock) (subst (λ (r : Rules). IfSeen new.clock r (last_tick start calls) now (pulses_on i calls) line.seen) (sym all.same.rules) before)) in
-        let moved = subst (λ (c : ClockRules). IfSeen c new.rules (last_tick start calls) now (pulse_at rise width ∷ pulses_on i calls) (line_heard k.clock line (rise % 2 ^ 32) width (told_within k.limits k.rules (heard_then k i (rise % 2 ^ 32) width))).seen) all.same.clock
-        (subst (λ (r : Rules). IfSeen k.clock r (last_tick start calls) now (pulse_at rise width ∷ pulses_on i calls) (line_heard k.clock line (rise % 2 ^ 32) width (told_within k.limits k.rules (heard_then k i (rise % 2 ^ 32) width))).seen) all.same.rules more) in
-        let there : line_at (after_pulse k port (rise % 2 ^ 32) width).state.lines i ≡ line_heard k.clock line (rise % 2 ^ 32) width (told_within k.limits k.rules (heard_then k i (rise % 2 ^ 32) width)) =
-        subst (λ (j : ℕ). line_at (after_pulse k j (rise % 2 ^ 32) width).state.lines i ≡ line_heard k.clock line (rise % 2 ^ 32) width (told_within k.limits k.rules (heard_then k i (rise % 2 ^ 32) width))) at (rw narrow (line_same k.state.lines i _ small)) in
+        let moved = subst (λ (c : ClockRules). IfSeen c new.rules (last_tick start calls) now (pulse_at rise width ∷ pulses_on i calls) (line_heard k.clock line (rise % 2 ^ 32) width (told_within (Some k.clock.limits.limits) k.rules (heard_then k i (rise % 2 ^ 32) width)) (quality_in (heard_then k i (rise % 2 ^ 32) width))).seen) all.same.clock
+        (subst (λ (r : Rules). IfSeen k.clock r (last_tick start calls) now (pulse_at rise width ∷ pulses_on i calls) (line_heard k.clock line (rise % 2 ^ 32) width (told_within (Some k.clock.limits.limits) k.rules (heard_then k i (rise % 2 ^ 32) width)) (quality_in (heard_then k i (rise % 2 ^ 32) width))).seen) all.same.rules more) in
+        let there : line_at (after_pulse k port (rise % 2 ^ 32) width).state.lines i ≡ line_heard k.clock line (rise % 2 ^ 32) width (told_within (Some k.clock.limits.limits) k.rules (heard_then k i (rise % 2 ^ 32) width)) (quality_in (heard_then k i (rise % 2 ^ 32) width)) =
+        subst (λ (j : ℕ). line_at (after_pulse k j (rise % 2 ^ 32) width).state.lines i ≡ line_heard k.clock line (rise % 2 ^ 32) width (told_within (Some k.clock.limits.limits) k.rules (heard_then k i (rise % 2 ^ 32) width)) (quality_in (heard_then k i (rise % 2 ^ 32) width))) at (rw narrow (line_same k.state.lines i _ small)) in
         subst (λ (ps : List Pulse). IfSeen new.clock new.rules (last_tick start calls) now ps (line_at (after_pulse k port (rise % 2 ^ 32) width).state.lines i).seen) (sym (own_pulses i port rise width calls narrow same))
         (subst (λ (x : Line). IfSeen new.clock new.rules (last_tick start calls) now (pulse_at rise width ∷ pulses_on i calls) x.seen) (sym there) moved)
 

@@ -23,7 +23,7 @@ use Rattle.irig_timekeeper.specs.declared.stamp.Stamp.{Stamp}
 use Rattle.irig_timekeeper.specs.declared.clock.Beat.{Beat}
 use Rattle.irig_lines.specs.declared.setup.ClockRules.{ClockRules}
 use Rattle.irig_timekeeper.specs.declared.clock.ClockState.{ClockState}
-use Rattle.irig_lines.specs.Exactness.{vote_us}
+use Rattle.irig_lines.specs.Widths.{vote_us}
 use Rattle.irig_lines.specs.Counting.{edges_to_vote, edges_own}
 use Rattle.irig_timekeeper.specs.Rule.{missed, step_behind, against_table, step_checked}
 use Rattle.irig_lines.specs.Steps.{is_pulse}
@@ -187,7 +187,7 @@ module _ (made : Made) where
     beat : Beat
     answer : answer_at (life_of made earlier) (now % 2 ^ 32) ≡ Some beat
     says : beat.report.announce ≡ Some a.second
-    bound : a.bound_us ≤ vote_us made.clock.within.us made.clock.drift_us + since_vote new (Tick now ∷ earlier) * made.clock.drift_us
+    bound : a.bound_us ≤ vote_us made.clock made.clock.drift_us + since_vote new (Tick now ∷ earlier) * made.clock.drift_us
 
   one_later : (call : Call) (calls : List Call) (a : Announced) → IsBounded calls a → IsBounded (call ∷ calls) a
   one_later call calls a is = record {
@@ -222,8 +222,8 @@ module _ (made : Made) where
         beat = b;
         answer = answer;
         says = kept.1 ∙ ap (λ (u : UtcSecond). Some u) (sym kept.2);
-        bound = subst (λ (n : ℕ). a.bound_us ≤ vote_us made.clock.within.us made.clock.drift_us + n * made.clock.drift_us) (lasts_since calls now b kept.0 answer kept.1)
-            (subst (λ (n : ℕ). n ≤ vote_us made.clock.within.us made.clock.drift_us + lasted b.report.lock * made.clock.drift_us) (sym kept.4) (has.bound b answer));
+        bound = subst (λ (n : ℕ). a.bound_us ≤ vote_us made.clock made.clock.drift_us + n * made.clock.drift_us) (lasts_since calls now b kept.0 answer kept.1)
+            (subst (λ (n : ℕ). n ≤ vote_us made.clock made.clock.drift_us + lasted b.report.lock * made.clock.drift_us) (sym kept.4) (has.bound b answer));
       }
 
   bounded_tick : (calls : List Call) (now : ℕ) → AreBounded calls (life_of made calls).state → AreBounded (Tick now ∷ calls) (after_tick (life_of made calls) (now % 2 ^ 32)).state
@@ -260,7 +260,7 @@ module _ (made : Made) where
         beat = is.beat;
         answer = is.answer;
         says = is.says ∙ ap (λ (x : Stamp). Some x.second) same;
-        bound = subst (λ (x : Stamp). x.bound_us ≤ vote_us made.clock.within.us made.clock.drift_us + since_vote new (Tick is.now ∷ is.earlier) * made.clock.drift_us) same is.bound;
+        bound = subst (λ (x : Stamp). x.bound_us ≤ vote_us made.clock made.clock.drift_us + since_vote new (Tick is.now ∷ is.earlier) * made.clock.drift_us) same is.bound;
       }
 
   pub has_its_bound : (time : ℕ) (calls : List Call) (stamp : Stamp) → stamp_at (life_of made calls) (time % 2 ^ 32) ≡ Some stamp → HasItsBound made calls stamp

@@ -7,7 +7,6 @@ use Rattle.irig_sync.specs.Lines.{Pulse}
 use Rattle.irig_sync.specs.Sync.{clock_gap}
 use Rattle.irig_time.specs.declared.second.UtcSecond.{UtcSecond}
 use Rattle.irig_time.specs.declared.claim.Claim.{Claim}
-use Rattle.irig_port.specs.declared.limits.Limits.{Limits}
 use Rattle.irig_time.specs.declared.rules.Rules.{Rules}
 use Rattle.irig_time.specs.Timelines.{TimelineValue, IsSecond}
 use Rattle.irig_time.specs.Tables.{TableValue}
@@ -35,6 +34,7 @@ use Rattle.irig_timekeeper.proofs.TimeLaws.{own_count, own_edge_at, still_edge, 
 use Rattle.irig_lines.specs.Steps.{AreNewLines}
 use Rattle.irig_timekeeper.specs.Keeping.{new_keeping}
 use Rattle.irig_timekeeper.proofs.LifeLaws.{AreLinesAt, TellAlwaysTruly, begins, heard_truly, lines_after, ticks}
+use Rattle.irig_lines.proofs.WidthLaws.{reach_few}
 use Rattle.irig_lines.proofs.ReachLaws.{ComesBy, IsPut, StoodBy, reach}
 use Rattle.irig_timekeeper.proofs.VoteLaws.{vote_is_true}
 use Rattle.irig_timekeeper.proofs.OrderLaws.{IsSetByVote, set_before, edge_of, votes_apart, IsPaced, paced_tick, paced_on}
@@ -112,7 +112,7 @@ told_so t edges early late d now b edge small told at a e =
 
 module _ (new : Keeping) (start : ℕ) (begun : AreLinesAt new new (λ i. []) start start) (Put : ℕ → Type 0) where
   abbrev pub FreshBy : ℕ → List Call → ℕ → Type 0
-  FreshBy A calls x = (x ≡ A) ⊎ ((A ≤ x + 100000) × (x < A + 500000) × IsSetByVote new start begun x calls × Put x)
+  FreshBy A calls x = (x ≡ A) ⊎ ((A ≤ x + 103000) × (x < A + 500000) × IsSetByVote new start begun x calls × Put x)
 
   -- the edge of a vote is put there
   abbrev pub PutsVotes : List Call → ℕ → Type 0
@@ -177,7 +177,7 @@ module _ (new : Keeping) (start : ℕ) (begun : AreLinesAt new new (λ i. []) st
       | inr more ↦ let both : Some (beat_by k.clock s (against_table k.table (Some v.claim)) (step_to k.clock k.table s n (Some v.claim)) (n - 1) v.edge_us v.bound_us) ≡ None = rw more at none in absurd cc
     ]
       where
-        behind : (v : Vote) → vote_at k (now % 2 ^ 32) ≡ Some v → (V : ℕ) → IsEdgeAt v.edge_us V now → (set : IsSetByVote new start begun f.x calls) → f.x + 889000 ≤ V
+        behind : (v : Vote) → vote_at k (now % 2 ^ 32) ≡ Some v → (V : ℕ) → IsEdgeAt v.edge_us V now → (set : IsSetByVote new start begun f.x calls) → f.x + 885000 ≤ V
         behind v voted V at set =
             votes_apart new start begun set.earlier set.later set.before now set.v v f.x V
             (subst (λ (c : List Call). AreInOrder start new.clock.redundancy (Tick now ∷ c)) set.are order) set.voted set.at
@@ -277,12 +277,12 @@ pub record IsToldBefore (Put : ℕ → Type 0) (Told : ℕ → Announced → Typ
   pub missed : ℕ
   pub comes : ComesBy Put missed x A
 
-module _ (limits : Option Limits) (rules : Rules) (clock : ClockRules) (table : TableValue) (lines : Lines) (start : ℕ) (new_lines : AreNewLines lines) where
+module _ (rules : Rules) (clock : ClockRules) (table : TableValue) (lines : Lines) (start : ℕ) (new_lines : AreNewLines lines) where
   abbrev pub new : Keeping
-  new = new_keeping limits rules clock table lines
+  new = new_keeping rules clock table lines
 
   pub begun : AreLinesAt new new (λ i. []) start start
-  begun = begins limits rules clock table lines start new_lines
+  begun = begins rules clock table lines start new_lines
 
   abbrev pub state : List Call → ClockState
   state calls = (after_calls new calls).state
@@ -424,7 +424,7 @@ module _ (limits : Option Limits) (rules : Rules) (clock : ClockRules) (table : 
   small_bound t edges is calls now b e =
       let has = answer_bound new (omega arith) calls (now % 2 ^ 32) in
       let most = mul-le-mul_left clock.drift_us (let h : lasted b.report.lock + 2 ≤ clock.reader_rules.holdover + 2 = omega (arith, has.few b e) in h) in
-      omega (arith, has.bound b e, most, is.short, is.steady.few, clock.within.few)
+      omega (arith, has.bound b e, most, is.short, is.steady.few, reach_few clock)
 
   -- whatever lines carry
   pub tells_anyhow : (t : TimelineValue) (edges : ℕ → ℕ) → IsDevice t clock.drift_us edges clock.reader_rules table → (calls : List Call) (now : ℕ) → TellsSo IsToldAnyhow calls now
@@ -472,10 +472,10 @@ module _ (a : Announced) (next time : ℕ) where
 
 -- ---- a device
 
-module _ (limits : Option Limits) (rules : Rules) (clock : ClockRules) (table : TableValue) (lines : Lines) (start : ℕ) (new_lines : AreNewLines lines) (t : TimelineValue) (edges : ℕ → ℕ) (early late : ℕ)
+module _ (rules : Rules) (clock : ClockRules) (table : TableValue) (lines : Lines) (start : ℕ) (new_lines : AreNewLines lines) (t : TimelineValue) (edges : ℕ → ℕ) (early late : ℕ)
     (is : IsDevice t clock.drift_us edges clock.reader_rules table) where
   abbrev pub from : Keeping
-  from = new_keeping limits rules clock table lines
+  from = new_keeping rules clock table lines
 
   abbrev pub Told : ℕ → Announced → Type 0
   Told edge a = IsToldSo t edges early late clock.drift_us edge a
@@ -486,15 +486,15 @@ module _ (limits : Option Limits) (rules : Rules) (clock : ClockRules) (table : 
   -- truly
   pub tells_truly : (calls : List Call) (now : ℕ)
       → ((b : Beat) (u : UtcSecond) → answer_at (after_calls from calls) (now % 2 ^ 32) ≡ Some b → b.report.announce ≡ Some u → IsToldTruly t edges (early + b.bound_us) (late + b.bound_us) now b u)
-      → TellsSo limits rules clock table lines start new_lines Told calls now
+      → TellsSo rules clock table lines start new_lines Told calls now
   tells_truly calls now told b e edge at =
-      told_so t edges early late clock.drift_us now b edge (small_bound limits rules clock table lines start new_lines t edges is calls now b e) (λ u says. told b u e says) at
+      told_so t edges early late clock.drift_us now b edge (small_bound rules clock table lines start new_lines t edges is calls now b e) (λ u says. told b u e says) at
 
-  module _ (IsTrue : ℕ → List Pulse → Type 0) (room : early + late ≤ 3002) (truly : TellAlwaysTruly IsTrue clock.within.us clock.drift_us rules t edges early late) where
+  module _ (IsTrue : ℕ → List Pulse → Type 0) (room : early + late ≤ 3002) (truly : TellAlwaysTruly IsTrue clock rules t edges early late) where
     pub puts_truly : (calls : List Call) (now : ℕ) → AreInOrder start clock.redundancy (Tick now ∷ calls) → AreTrueLately IsTrue (f_of clock.redundancy) now calls
-        → PutsVotes from start (begun limits rules clock table lines start new_lines) Put calls now
+        → PutsVotes from start (begun rules clock table lines start new_lines) Put calls now
     puts_truly calls now order lately v voted V at =
-        let begins = begun limits rules clock table lines start new_lines in
+        let begins = begun rules clock table lines start new_lines in
         let l = lines_after from start begins calls now order in
         let k : Keeping = after_calls from calls in
         let h = heard_truly IsTrue t edges early late from start begins calls now order lately in
@@ -509,7 +509,7 @@ module _ (limits : Option Limits) (rules : Rules) (clock : ClockRules) (table : 
   state_at calls = (after_calls from calls).state
 
   module _ (more : ℕ) (low : early ≤ more) (high : late ≤ more) (calls : List Call) (time now : ℕ) (ahead : last_tick start calls ≤ now) (soon : now < last_tick start calls + 1800000000) (past : time ≤ now) (young : now ≤ time + 1800000000) where
-    pub by_told : (edge : ℕ) → (a : Announced) → Told edge a → edge ≤ last_tick start calls + 100000 → last_tick start calls < edge + 1804000000 → (next : ℕ)
+    pub by_told : (edge : ℕ) → (a : Announced) → Told edge a → edge ≤ last_tick start calls + 103000 → last_tick start calls < edge + 1804000000 → (next : ℕ)
         → (1 ≤ next → next < 1500000 → next ≤ 1000000 + a.bound_us + most_vote_us + most_drift_us + 2 * more) → (stamp : Stamp) → stamp_by (Some a) next (time % 2 ^ 32) ≡ Some stamp → IsStampedTruly t edges more time stamp
     by_told edge a told come near next reach stamp e =
         let serves = served_by a next (time % 2 ^ 32) stamp e in
@@ -522,7 +522,7 @@ module _ (limits : Option Limits) (rules : Rules) (clock : ClockRules) (table : 
         subst (IsStampedTruly t edges more time) serves.same
         (record { m = told.m; truth = told.truth; early = omega (arith, there, told.near.least, low); late = omega (arith, there, told.near.most, high); small = omega (arith, told.small); behind = few })
       where
-        gap_is : (x edge time : ℕ) → x ≡ edge % 2 ^ 32 → edge ≤ time + 1800100000 → time < edge + 3604000000 → clock_gap x (time % 2 ^ 32) < 1500000 → edge + clock_gap x (time % 2 ^ 32) ≡ time
+        gap_is : (x edge time : ℕ) → x ≡ edge % 2 ^ 32 → edge ≤ time + 1800103000 → time < edge + 3604000000 → clock_gap x (time % 2 ^ 32) < 1500000 → edge + clock_gap x (time % 2 ^ 32) ≡ time
         gap_is x edge time is come near few = omega (arith, is, come, near, few)
 
     pub nothing_told : (o : Option Announced) → o ≡ None → (next : ℕ) (stamp : Stamp) → ¬ (stamp_by o next (time % 2 ^ 32) ≡ Some stamp)
@@ -539,9 +539,9 @@ module _ (limits : Option Limits) (rules : Rules) (clock : ClockRules) (table : 
 
     -- by the last one, or by the one before beside it
     pub stamped_by : (Before : Option Announced → ℕ → Announced → Type 0)
-        → ((A : ℕ) (a : Announced) → A ≤ last_tick start calls + 100000 → last_tick start calls < A + 1505000 → ((x : Announced) → (state_at calls).last ≡ Some x → Told A x) → Before (state_at calls).last A a → (stamp : Stamp)
+        → ((A : ℕ) (a : Announced) → A ≤ last_tick start calls + 103000 → last_tick start calls < A + 1509000 → ((x : Announced) → (state_at calls).last ≡ Some x → Told A x) → Before (state_at calls).last A a → (stamp : Stamp)
         → stamp_by (state_at calls).last 0 (time % 2 ^ 32) ≡ None → stamp_by (Some a) (next_us (state_at calls).last (Some a)) (time % 2 ^ 32) ≡ Some stamp → IsStampedTruly t edges more time stamp)
-        → (o : Option ℕ) → IfStamps limits rules clock table lines start new_lines Put Told Before calls o → (stamp : Stamp) → stamp_of (state_at calls).last (state_at calls).before (time % 2 ^ 32) ≡ Some stamp → IsStampedTruly t edges more time stamp
+        → (o : Option ℕ) → IfStamps rules clock table lines start new_lines Put Told Before calls o → (stamp : Stamp) → stamp_of (state_at calls).last (state_at calls).before (time % 2 ^ 32) ≡ Some stamp → IsStampedTruly t edges more time stamp
     unfolding IfStamps
     stamped_by Before serves None h stamp e =
         elim (first_of (stamp_by (state_at calls).last 0 (time % 2 ^ 32)) (stamp_by (state_at calls).before (next_us (state_at calls).last (state_at calls).before) (time % 2 ^ 32)) stamp e) [
@@ -550,7 +550,7 @@ module _ (limits : Option Limits) (rules : Rules) (clock : ClockRules) (table : 
         ]
     stamped_by Before serves (Some x) h stamp e =
         let reach : h.fresh.x < h.A + 500000 = elim h.fresh.is [ inl same ↦ omega (arith, same) | inr set ↦ set.1 ] in
-        let back : h.A ≤ h.fresh.x + 100000 = elim h.fresh.is [ inl same ↦ omega (arith, same) | inr set ↦ set.0 ] in
+        let back : h.A ≤ h.fresh.x + 103000 = elim h.fresh.is [ inl same ↦ omega (arith, same) | inr set ↦ set.0 ] in
         elim (first_of (stamp_by (state_at calls).last 0 (time % 2 ^ 32)) (stamp_by (state_at calls).before (next_us (state_at calls).last (state_at calls).before) (time % 2 ^ 32)) stamp e) [
           | inl says ↦
               let one = told_by (state_at calls).last 0 stamp says in
@@ -562,7 +562,7 @@ module _ (limits : Option Limits) (rules : Rules) (clock : ClockRules) (table : 
               (ap (λ (o : Option Announced). stamp_by o (next_us (state_at calls).last o) (time % 2 ^ 32)) (sym one.1) ∙ says.1)
         ]
 
-    pub by_earlier : (room : early + late ≤ 3002) (A : ℕ) (a : Announced) → A ≤ last_tick start calls + 100000 → last_tick start calls < A + 1505000 → (last : Option Announced) → ((x : Announced) → last ≡ Some x → Told A x) → IsToldBefore Put Told A a → (stamp : Stamp)
+    pub by_earlier : (room : early + late ≤ 3002) (A : ℕ) (a : Announced) → A ≤ last_tick start calls + 103000 → last_tick start calls < A + 1509000 → (last : Option Announced) → ((x : Announced) → last ≡ Some x → Told A x) → IsToldBefore Put Told A a → (stamp : Stamp)
         → stamp_by (Some a) (next_us last (Some a)) (time % 2 ^ 32) ≡ Some stamp → IsStampedTruly t edges more time stamp
     by_earlier room A a come near last lasts was stamp e =
         by_told was.edge a was.told (omega (arith, was.order, come)) (omega (arith, near, was.soon)) (next_us last (Some a)) (of last lasts) stamp e
@@ -579,30 +579,30 @@ module _ (limits : Option Limits) (rules : Rules) (clock : ClockRules) (table : 
 
   -- ---- a life, true at each tick
 
-  module _ (IsTrue : ℕ → List Pulse → Type 0) (room : early + late ≤ 3002) (truly : TellAlwaysTruly IsTrue clock.within.us clock.drift_us rules t edges early late) where
-    tell_truly : (calls : List Call) → AreInOrder start clock.redundancy calls → AreTrueAtTicks IsTrue (f_of clock.redundancy) calls → TellSo limits rules clock table lines start new_lines Put Told calls []
+  module _ (IsTrue : ℕ → List Pulse → Type 0) (room : early + late ≤ 3002) (truly : TellAlwaysTruly IsTrue clock rules t edges early late) where
+    tell_truly : (calls : List Call) → AreInOrder start clock.redundancy calls → AreTrueAtTicks IsTrue (f_of clock.redundancy) calls → TellSo rules clock table lines start new_lines Put Told calls []
     tell_truly [] order truth = tt
     tell_truly (Hear port rise width ∷ calls) order truth = tell_truly calls order.2 truth
     tell_truly (Tick now ∷ calls) order truth =
         let none : calls ≡ calls ++ [] = sym (append-nil calls) in (
-          subst (λ (x : List Call). TellsSo limits rules clock table lines start new_lines Told x now) none (tells_truly calls now (λ b u e says. ((ticks limits rules clock table lines start new_lines IsTrue t edges early late is room truly calls now order truth).told b u e says).told)),
-          subst (λ (x : List Call). PutsVotes from start (begun limits rules clock table lines start new_lines) Put x now) none (puts_truly IsTrue room truly calls now order truth.0),
+          subst (λ (x : List Call). TellsSo rules clock table lines start new_lines Told x now) none (tells_truly calls now (λ b u e says. ((ticks rules clock table lines start new_lines IsTrue t edges early late is room truly calls now order truth).told b u e says).told)),
+          subst (λ (x : List Call). PutsVotes from start (begun rules clock table lines start new_lines) Put x now) none (puts_truly IsTrue room truly calls now order truth.0),
           tell_truly calls order.3 truth.1,
         )
 
-module _ (limits : Option Limits) (rules : Rules) (clock : ClockRules) (table : TableValue) (lines : Lines) (start : ℕ) (new_lines : AreNewLines lines) (t : TimelineValue) (edges : ℕ → ℕ) (early late more : ℕ)
+module _ (rules : Rules) (clock : ClockRules) (table : TableValue) (lines : Lines) (start : ℕ) (new_lines : AreNewLines lines) (t : TimelineValue) (edges : ℕ → ℕ) (early late more : ℕ)
     (is : IsDevice t clock.drift_us edges clock.reader_rules table) (low : early ≤ more) (high : late ≤ more)
-    (IsTrue : ℕ → List Pulse → Type 0) (room : early + late ≤ 3002) (truly : TellAlwaysTruly IsTrue clock.within.us clock.drift_us rules t edges early late) where
+    (IsTrue : ℕ → List Pulse → Type 0) (room : early + late ≤ 3002) (truly : TellAlwaysTruly IsTrue clock rules t edges early late) where
   pub stamped : (calls : List Call) (time now : ℕ) → AreInOrder start clock.redundancy (Tick now ∷ calls) → AreTrueAtTicks IsTrue (f_of clock.redundancy) calls → time ≤ now → now ≤ time + 1800000000 → (stamp : Stamp)
-      → stamp_at (after_calls (new_keeping limits rules clock table lines) calls) (time % 2 ^ 32) ≡ Some stamp → IsStampedTruly t edges more time stamp
+      → stamp_at (after_calls (new_keeping rules clock table lines) calls) (time % 2 ^ 32) ≡ Some stamp → IsStampedTruly t edges more time stamp
   stamped calls time now order truth past young stamp e =
       let ToldBefore : Option Announced → ℕ → Announced → Type 0 = λ last A a. IsToldBefore (IsPut edges early late) (IsToldSo t edges early late clock.drift_us) A a in
-      let are = stamps limits rules clock table lines start new_lines (IsPut edges early late) (IsToldSo t edges early late clock.drift_us) ToldBefore (λ last edge a told. told) calls order.3
-      (tell_truly limits rules clock table lines start new_lines t edges early late is IsTrue room truly calls order.3 truth) in
-      stamped_by limits rules clock table lines start new_lines t edges early late is more low high calls time now (order.0) (omega (arith, order.1)) past young ToldBefore
+      let are = stamps rules clock table lines start new_lines (IsPut edges early late) (IsToldSo t edges early late clock.drift_us) ToldBefore (λ last edge a told. told) calls order.3
+      (tell_truly rules clock table lines start new_lines t edges early late is IsTrue room truly calls order.3 truth) in
+      stamped_by rules clock table lines start new_lines t edges early late is more low high calls time now (order.0) (omega (arith, order.1)) past young ToldBefore
       (λ A a come near lasts was stamp none e.
-      by_earlier limits rules clock table lines start new_lines t edges early late is more low high calls time now (order.0) (omega (arith, order.1)) past young room A a come near (state_at limits rules clock table lines start new_lines t edges early late is calls).last lasts was stamp e)
-      (state_at limits rules clock table lines start new_lines t edges early late is calls).edge_us are stamp e
+      by_earlier rules clock table lines start new_lines t edges early late is more low high calls time now (order.0) (omega (arith, order.1)) past young room A a come near (state_at rules clock table lines start new_lines t edges early late is calls).last lasts was stamp e)
+      (state_at rules clock table lines start new_lines t edges early late is calls).edge_us are stamp e
 
 -- ---- two devices
 

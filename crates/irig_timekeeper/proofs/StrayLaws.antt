@@ -1,5 +1,7 @@
 -- While lines are true and the counter keeps its setting, the true edge lies in the interval that all
 -- votes leave, no vote contradicts it, and no frames tell that the counter is unsteady.
+use Rattle.irig_time.specs.declared.rules.Rules.{Rules}
+use Rattle.irig_lines.specs.declared.within.Within.{Within}
 use Rattle.std.specs.Prelude.{◌==◌, nat_le, nat_lt, min}
 use Rattle.std.proofs.Common.{◌≡◌, ◌∙◌, ◌⊎◌, ℕ, ◌+◌, ◌-◌, ◌*◌, ◌%◌, ◌^◌, ◌<◌, ◌≤◌, Bool, true, false, cond, List, [], ◌∷◌, Option, Some, None, refl, sym, ap, subst, arith, inl, inr}
 use Rattle.std.specs.Option.{ForSome}
@@ -24,12 +26,12 @@ use Rattle.irig_timekeeper.specs.Keeping.{Keeping, vote_at, after_pulse, after_t
 use Rattle.irig_timekeeper.specs.Life.{Call, Made, after_calls, device_of, life_of, last_tick, pulses_on, AreInOrder, AreTrueLately, AreTrueAtTicks, LivesTruly}
 use Rattle.irig_timekeeper.specs.Life.Call.{Hear, Tick}
 use Rattle.irig_timekeeper.proofs.VoteLaws.{vote_is_true}
-use Rattle.irig_lines.proofs.LineLaws.{true_lately}
+use Rattle.irig_lines.proofs.LineLaws.{true_by_any, frame_is_even}
 use Rattle.irig_timekeeper.proofs.LifeLaws.{AreLinesAt, TellAlwaysTruly, begins, each_new, heard_truly, lines_after}
 use Rattle.irig_lines.specs.declared.rate.Anchors.{Anchors}
 use Rattle.irig_lines.specs.Rates.{anchors_on, anchors_cut}
 use Rattle.irig_timekeeper.proofs.AnchorLaws.{AreAnchored, ages_on, cuts_on}
-use Rattle.irig_timekeeper.proofs.EvenLaws.{stays_steady}
+use Rattle.irig_timekeeper.proofs.EvenLaws.{stays_steady, AreEvenAlways}
 use Rattle.irig_timekeeper.proofs.TimeLaws.{own_come, own_count, still_edge, own_edge_at, voted_count}
 use Rattle.irig_lines.proofs.CountingLaws.{apart, counts, rises}
 
@@ -197,10 +199,10 @@ module _ (x y : Interval) (b e b' e' : ℕ) (px : LiesBetween b e x) (py : LiesB
           near_begin : (z : Interval) (one : LiesBetween b e z) (other : LiesBetween b' e' z) → one.begin ≡ other.begin
           near_begin z one other = by z.begin_us one.begin other.begin one.clock other.clock (omega (arith, one.most, other.least, near.before)) (omega (arith, other.most, one.least, near.behind))
 
-pub vote_lies : (v : Vote) (edge : ℕ) → v.edge_us ≡ edge % 2 ^ 32 → v.bound_us ≤ edge → v.bound_us ≤ 899 → LiesBetween (edge - v.bound_us) (edge + v.bound_us) (by_vote v)
+pub vote_lies : (v : Vote) (edge : ℕ) → v.edge_us ≡ edge % 2 ^ 32 → v.bound_us ≤ edge → v.bound_us ≤ 2899 → LiesBetween (edge - v.bound_us) (edge + v.bound_us) (by_vote v)
 vote_lies v edge clock late small = record { begin = edge - v.bound_us; clock = of v.edge_us edge v.bound_us clock late small; least = omega arith; most = omega (arith, late) }
   where
-    of : (e edge bound : ℕ) → e ≡ edge % 2 ^ 32 → bound ≤ edge → bound ≤ 899 → (e + 2 ^ 32 - bound) % 2 ^ 32 ≡ (edge - bound) % 2 ^ 32
+    of : (e edge bound : ℕ) → e ≡ edge % 2 ^ 32 → bound ≤ edge → bound ≤ 2899 → (e + 2 ^ 32 - bound) % 2 ^ 32 ≡ (edge - bound) % 2 ^ 32
     of e edge bound is low few = omega (arith, is, low, few)
 
 pub carried_lies : (d n from to : ℕ) (x y : Interval) → d ≤ 100 → LiesBetween from to x → carried d n x ≡ Some y → LiesBetween (from + (n * 1000000 - n * d)) (to + n * 1000000 + n * d) y
@@ -228,8 +230,8 @@ pub record KnowsEdge (edges : ℕ → ℕ) (edge w : ℕ) (x : Interval) : Type 
   pub around : IsAround x begin (edges w)
   pub drift : ℕ
   pub grown : 2 * drift ≤ x.long_us
-  pub before : edge ≤ begin + 899 + drift
-  pub behind : begin + x.long_us ≤ edge + 899 + drift
+  pub before : edge ≤ begin + 2899 + drift
+  pub behind : begin + x.long_us ≤ edge + 2899 + drift
   pub short : x.long_us ≤ 980000
 
 -- so it does if anything is known
@@ -270,7 +272,7 @@ module _ (d : ℕ) (edges : ℕ → ℕ) (quartz : IsQuartz d edges) where
     abbrev m : ℕ
     m = vote.truth.second + 1
 
-    late : 999001 ≤ vote.edge
+    late : 997001 ≤ vote.edge
     late =
         let rise = rises d edges quartz 0 (vote.truth.second + 1) in
         let there : 0 + (vote.truth.second + 1) ≡ vote.truth.second + 1 = omega arith in
@@ -285,7 +287,7 @@ module _ (d : ℕ) (edges : ℕ → ℕ) (quartz : IsQuartz d edges) where
       most = omega (arith, vote.truth.near.least, late, vote.small);
     }
       where
-        of : (e edge bound : ℕ) → e ≡ edge % 2 ^ 32 → bound ≤ edge → bound ≤ 899 → (e + 2 ^ 32 - bound) % 2 ^ 32 ≡ (edge - bound) % 2 ^ 32
+        of : (e edge bound : ℕ) → e ≡ edge % 2 ^ 32 → bound ≤ edge → bound ≤ 2899 → (e + 2 ^ 32 - bound) % 2 ^ 32 ≡ (edge - bound) % 2 ^ 32
         of e edge bound is low few = omega (arith, is, low, few)
 
     pub knows_alone : KnowsEdge edges vote.edge (vote.truth.second + 1) (by_vote v)
@@ -300,12 +302,12 @@ module _ (d : ℕ) (edges : ℕ → ℕ) (quartz : IsQuartz d edges) where
     }
 
     -- the seconds from an edge whose time is known are counted right, if it still is known then
-    module _ (tick : ℕ) (order : tick ≤ now) (soon : now ≤ tick + 1800000000) (edge w : ℕ) (come : edge ≤ tick) (near : tick < edge + 1005000) (x : Interval) (h : KnowsEdge edges edge w x) (n : ℕ) (same : n ≡ edges_between edge vote.edge)
+    module _ (tick : ℕ) (order : tick ≤ now) (soon : now ≤ tick + 1800000000) (edge w : ℕ) (come : edge ≤ tick) (near : tick < edge + 1006000) (x : Interval) (h : KnowsEdge edges edge w x) (n : ℕ) (same : n ≡ edges_between edge vote.edge)
         (short : x.long_us + 2 * (n * d) ≤ 980000) where
-      low : edges w ≤ edge + (899 + h.drift)
+      low : edges w ≤ edge + (2899 + h.drift)
       low = omega (arith, h.around.most, h.behind)
 
-      high : edge ≤ edges w + (899 + h.drift)
+      high : edge ≤ edges w + (2899 + h.drift)
       high = omega (arith, h.around.least, h.before)
 
       few : 2 * h.drift + 2 * (n * d) ≤ 980000
@@ -341,7 +343,7 @@ module _ (d : ℕ) (edges : ℕ → ℕ) (quartz : IsQuartz d edges) where
       right =
           let drifts = mul-le-mul_left d one_more in
           let here = subst (λ (i : ℕ). IsNear edges v.bound_us v.bound_us i vote.edge) (sym there) (record { least = omega (arith, vote.truth.near.least); most = omega (arith, vote.truth.near.most) }) in
-          let count = counts d (899 + h.drift) (899 + h.drift) v.bound_us v.bound_us w k edge vote.edge edges quartz (record { least = low; most = high }) here
+          let count = counts d (2899 + h.drift) (2899 + h.drift) v.bound_us v.bound_us w k edge vote.edge edges quartz (record { least = low; most = high }) here
           (omega (arith, drifts, few, quartz.few, vote.small)) (omega (arith, drifts, few, quartz.few, vote.small)) in
           omega (arith, same, count, there)
 
@@ -446,13 +448,8 @@ module _ (d : ℕ) (edges : ℕ → ℕ) (quartz : IsQuartz d edges) (tick now :
 
 -- ---- a life
 
-module _ (t : TimelineValue) (edges : ℕ → ℕ) (new : Keeping) (start : ℕ) (begins : AreLinesAt new new (λ i. []) start start) (fresh : (i : ℕ) → i < 5 → (line_at new.state.lines i).frame ≡ None) (is : IsDevice t new.clock.drift_us edges new.clock.reader_rules new.table) where
-  abbrev IsTrue : ℕ → List Pulse → Type 0
-  IsTrue = IsTrueLately new.clock.within.us new.rules t edges
-
-  truly : TellAlwaysTruly IsTrue new.clock.within.us new.clock.drift_us new.rules t edges 0 0
-  truly now end pulses claim true_line frame soon = true_lately new.clock.within new.rules t new.clock.drift_us edges now end pulses claim is.steady true_line frame soon
-
+module _ (t : TimelineValue) (edges : ℕ → ℕ) (new : Keeping) (start : ℕ) (begins : AreLinesAt new new (λ i. []) start start) (fresh : (i : ℕ) → i < 5 → (line_at new.state.lines i).frame ≡ None) (is : IsDevice t new.clock.drift_us edges new.clock.reader_rules new.table)
+    (IsTrue : ℕ → List Pulse → Type 0) (truly : TellAlwaysTruly IsTrue new.clock new.rules t edges 0 0) (evenly : AreEvenAlways IsTrue new.clock.within.us new.clock.drift_us) where
   knows_tick : (calls : List Call) (now : ℕ) → AreInOrder start new.clock.redundancy (Tick now ∷ calls) → AreTrueLately IsTrue (f_of new.clock.redundancy) now calls → KnowsTruly edges (last_tick start calls) (after_calls new calls).state
       → KnowsTruly edges now (after_tick (after_calls new calls) (now % 2 ^ 32)).state
   knows_tick calls now order lately h = of (vote_at k (now % 2 ^ 32)) refl
@@ -479,7 +476,7 @@ module _ (t : TimelineValue) (edges : ℕ → ℕ) (new : Keeping) (start : ℕ)
 
       -- frames are even
       steady : is_unsteady k.clock k.state (now % 2 ^ 32) ≡ false
-      steady = stays_steady new start begins fresh t edges is.steady calls now order lately
+      steady = stays_steady new start begins fresh IsTrue is.steady.few evenly calls now order lately
 
       strays : s.strays ≡ 0
       strays = rw steady h.strays
@@ -528,14 +525,30 @@ module _ (t : TimelineValue) (edges : ℕ → ℕ) (new : Keeping) (start : ℕ)
   knows_on from (Hear port rise width ∷ calls) order truth = hears_on (last_tick start calls) port rise width (after_calls new calls) (knows_on from calls order.2 truth)
   knows_on from (Tick now ∷ calls) order truth = knows_tick calls now order truth.0 (knows_on from calls order.3 truth.1)
 
+-- a line that is true by such seconds has even frames
+pub even_lately : (within : Within) (rules : Rules) (t : TimelineValue) (d : ℕ) (edges : ℕ → ℕ) → IsQuartz d edges → AreEvenAlways (IsTrueLately within.us rules t edges) within.us d
+even_lately within rules t d edges steady now end pulses is late on last soon = frame_is_even within rules t d edges steady now end pulses is late on last soon
+
 -- from the beginning: no vote ever contradicts those before it, no frames tell that the counter is
 -- unsteady, and nothing is in doubt
-module _ (t : TimelineValue) (edges : ℕ → ℕ) (made : Made) (start : ℕ) (calls : List Call) (lives : LivesTruly (IsTrueLately made.clock.within.us) t edges made start calls) where
+module _ (IsTrue : Rules → TimelineValue → (ℕ → ℕ) → ℕ → List Pulse → Type 0) (t : TimelineValue) (edges : ℕ → ℕ) (made : Made) (start : ℕ) (calls : List Call) (truly : TellAlwaysTruly (IsTrue made.rules t edges) made.clock made.rules t edges 0 0)
+    (evenly : AreEvenAlways (IsTrue made.rules t edges) made.clock.within.us made.clock.drift_us) (lives : LivesTruly IsTrue t edges made start calls) where
   keeps_none : (i : ℕ) → i < 5 → (line_at made.lines i).frame ≡ None
   keeps_none i low = (each_new made.lines made.fresh i low).frame
 
+  pub knows_so : KnowsTruly edges (last_tick start calls) (life_of made calls).state
+  knows_so = knows_on t edges (device_of made) start (begins made.rules made.clock made.table made.lines start made.fresh) keeps_none lives.is (IsTrue made.rules t edges) truly evenly (record { strays = refl; doubt = refl; known = refl }) calls lives.order lives.truth
+
+  pub no_strays : (life_of made calls).state.strays ≡ 0
+  no_strays = knows_so.strays
+
+-- so of lines that are true by the seconds of UTC
+module _ (t : TimelineValue) (edges : ℕ → ℕ) (made : Made) (start : ℕ) (calls : List Call) (lives : LivesTruly (IsTrueLately made.clock.within.us) t edges made start calls) where
   pub knows : KnowsTruly edges (last_tick start calls) (life_of made calls).state
-  knows = knows_on t edges (device_of made) start (begins made.limits made.rules made.clock made.table made.lines start made.fresh) keeps_none lives.is (record { strays = refl; doubt = refl; known = refl }) calls lives.order lives.truth
+  knows =
+      knows_so (IsTrueLately made.clock.within.us) t edges made start calls
+      (λ now half end pulses claim line frame soon. true_by_any made.clock made.rules t made.clock.drift_us edges half now end pulses claim lives.is.steady line frame soon)
+      (even_lately made.clock.within made.rules t made.clock.drift_us edges lives.is.steady) lives
 
   pub never_strays : (life_of made calls).state.strays ≡ 0
   never_strays = knows.strays
@@ -546,4 +559,4 @@ module _ (t : TimelineValue) (edges : ℕ → ℕ) (made : Made) (start : ℕ) (
 -- at a tick of such a life the counter is not found unsteady
 pub never_unsteady : (t : TimelineValue) (edges : ℕ → ℕ) (made : Made) (start : ℕ) (calls : List Call) (now : ℕ) → LivesTruly (IsTrueLately made.clock.within.us) t edges made start (Tick now ∷ calls) → is_unsteady (life_of made calls).clock (life_of made calls).state (now % 2 ^ 32) ≡ false
 never_unsteady t edges made start calls now lives =
-    stays_steady (device_of made) start (begins made.limits made.rules made.clock made.table made.lines start made.fresh) (λ i low. (each_new made.lines made.fresh i low).frame) t edges lives.is.steady calls now lives.order lives.truth.0
+    stays_steady (device_of made) start (begins made.rules made.clock made.table made.lines start made.fresh) (λ i low. (each_new made.lines made.fresh i low).frame) (IsTrueLately made.clock.within.us made.rules t edges) lives.is.steady.few (even_lately made.clock.within made.rules t made.clock.drift_us edges lives.is.steady) calls now lives.order lives.truth.0

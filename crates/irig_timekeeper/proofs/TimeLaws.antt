@@ -8,7 +8,7 @@ use Rattle.irig_lines.proofs.CountingLaws.{wraps}
 
 -- the edges that have come by the own counter
 abbrev pub own_come : ℕ → ℕ → ℕ
-own_come edge now = (now - edge - 5000) / 1000000
+own_come edge now = (now - edge - 6000) / 1000000
 
 module _ (tick now : ℕ) (order : tick ≤ now) (soon : now ≤ tick + 1800000000) (e edge : ℕ) (at : IsEdgeAt e edge tick) where
   pub own_count : edges_own (Some e) (now % 2 ^ 32) ≡ own_come edge now
@@ -38,7 +38,7 @@ module _ (tick now : ℕ) (order : tick ≤ now) (soon : now ≤ tick + 18000000
       wrapped e edge n is = omega (arith, is)
 
   -- to an edge that has come
-  pub voted_count : (end_us end : ℕ) → IsEdgeAt end_us end now → now ≤ end + 100000 → edges_to e end_us ≡ edges_between edge end
+  pub voted_count : (end_us end : ℕ) → IsEdgeAt end_us end now → now ≤ end + 103000 → edges_to e end_us ≡ edges_between edge end
   voted_count end_us end vote near =
       ap (λ (x : ℕ). edges_to x end_us) at.clock ∙ ap (edges_to (edge % 2 ^ 32)) vote.clock
       ∙ wraps edge end (omega (arith, at.come, order, near)) (omega (arith, at.soon, soon, vote.come))
@@ -47,5 +47,5 @@ module _ (tick now : ℕ) (order : tick ≤ now) (soon : now ≤ tick + 18000000
 pub same_edge : (e edge edge' now : ℕ) → IsEdgeAt e edge now → IsEdgeAt e edge' now → edge ≡ edge'
 same_edge e edge edge' now at at' = by_clock e edge edge' at.clock at'.clock (omega (arith, at.come, at'.soon)) (omega (arith, at'.come, at.soon))
   where
-    by_clock : (e edge edge' : ℕ) → e ≡ edge % 2 ^ 32 → e ≡ edge' % 2 ^ 32 → edge ≤ edge' + 1005000 → edge' ≤ edge + 1005000 → edge ≡ edge'
+    by_clock : (e edge edge' : ℕ) → e ≡ edge % 2 ^ 32 → e ≡ edge' % 2 ^ 32 → edge ≤ edge' + 1006000 → edge' ≤ edge + 1006000 → edge ≡ edge'
     by_clock e edge edge' is is' near near' = omega (arith, is, is', near, near')

@@ -457,9 +457,9 @@ module _ (t : TimelineValue) (edges : ℕ → ℕ) (early late : ℕ) (c : Clock
       ]
 
 -- with what its lines brought
-pub tick_true : (IsTrue : List Pulse → Type 0) (t : TimelineValue) (edges : ℕ → ℕ) (early late : ℕ) (k : Keeping) (M tick now : ℕ) (pulses : ℕ → List Pulse) → early + late ≤ 3002 → TellsTruly IsTrue k.clock.within.us k.clock.drift_us k.rules t edges early late now
+pub tick_true : (IsTrue : List Pulse → Type 0) (t : TimelineValue) (edges : ℕ → ℕ) (early late : ℕ) (k : Keeping) (M tick now : ℕ) (pulses : ℕ → List Pulse) → early + late ≤ 3002 → TellsTruly IsTrue k.clock k.rules t edges early late now
     → IsDevice t k.clock.drift_us edges k.clock.reader_rules k.table → tick ≤ now → now ≤ tick + 1800000000
-    → IsOnTrack t edges early late k.clock.drift_us M k.clock.reader_rules k.table tick k.state.reader k.state.bound_us k.state.edge_us → AreHeardTruly IsTrue k.clock.within.us k.clock.drift_us k.rules (f_of k.clock.redundancy) now k.state.lines pulses
+    → IsOnTrack t edges early late k.clock.drift_us M k.clock.reader_rules k.table tick k.state.reader k.state.bound_us k.state.edge_us → AreHeardTruly IsTrue k.clock k.rules (f_of k.clock.redundancy) now k.state.lines pulses
     → KeepsTrue t k.clock.drift_us edges early late M k.clock.reader_rules k.table now (after_tick k (now % 2 ^ 32)).state (answer_at k (now % 2 ^ 32))
 tick_true IsTrue t edges early late k M tick now pulses room truly is order soon on heard = of (vote_at k (now % 2 ^ 32)) refl
   where

@@ -28,6 +28,7 @@ use Rattle.irig_reader.specs.Rule.{step_of, locked_step}
 use Rattle.irig_reader.proofs.OneEdge.{voted_seconds, clean_by_few}
 use Rattle.irig_lines.specs.declared.lines.Vote.{Vote}
 use Rattle.irig_timekeeper.specs.declared.clock.Beat.{Beat}
+use Rattle.irig_lines.specs.declared.setup.ClockRules.{ClockRules}
 use Rattle.irig_lines.specs.Edges.{IsQuartz}
 use Rattle.irig_lines.specs.Counting.{edges_to_vote, edges_own}
 use Rattle.irig_timekeeper.specs.Rule.{missed, against_table, step_checked}
@@ -35,7 +36,7 @@ use Rattle.irig_timekeeper.specs.Clock.{lasted, beat_by, step_to, own_edge, answ
 use Rattle.irig_timekeeper.specs.declared.clock.ClockState.{ClockState}
 use Rattle.irig_timekeeper.specs.Keeping.{Keeping, answer_at, vote_at}
 use Rattle.irig_timekeeper.specs.Truth.{AreHeardTruly, IsToldTruly}
-use Rattle.irig_lines.specs.Exactness.{vote_us}
+use Rattle.irig_lines.specs.Widths.{vote_us}
 use Rattle.irig_timekeeper.proofs.VoteLaws.{TellsTrulyBy, TellsTruly, IsVoteNear, vote_is_near}
 use Rattle.irig_timekeeper.proofs.CheckedSteps.{checked_cases}
 
@@ -84,28 +85,28 @@ module _ (rules : ReaderRules) (table : TableValue) where
 
 -- the edge of a second that is told by a vote lies so far off, by a counter that runs d us a second wrong:
 -- by the bound that is told, but for the drift of an element, and by no more than a vote does
-pub record IsToldBy (within e d : ℕ) (t : TimelineValue) (edges : ℕ → ℕ) (early late now : ℕ) (b : Beat) (u : UtcSecond) : Type 0 where
+pub record IsToldBy (c : ClockRules) (d : ℕ) (t : TimelineValue) (edges : ℕ → ℕ) (early late now : ℕ) (b : Beat) (u : UtcSecond) : Type 0 where
   pub far : ℕ
-  pub bound : far + element_drift e ≤ b.bound_us + element_drift d
-  pub few : far ≤ vote_us within d
+  pub bound : far + element_drift c.drift_us ≤ b.bound_us + element_drift d
+  pub few : far ≤ vote_us c d
   pub told : IsToldTruly t edges (early + far) (late + far) now b u
 
 pub tick_voted_by : (IsTrue : List Pulse → Type 0) (t : TimelineValue) (edges : ℕ → ℕ) (k : Keeping) (d early late : ℕ) → early + late ≤ 3002 → (now : ℕ) (pulses : ℕ → List Pulse) (b : Beat) (u : UtcSecond) → IsQuartz d edges
-    → TellsTrulyBy IsTrue k.clock.within.us k.clock.drift_us d k.rules t edges early late now → IsTimeline t → AreHeardTruly IsTrue k.clock.within.us k.clock.drift_us k.rules (f_of k.clock.redundancy) now k.state.lines pulses
-    → answer_at k (now % 2 ^ 32) ≡ Some b → b.report.cause ≡ cause.Voted → b.report.announce ≡ Some u → IsToldBy k.clock.within.us k.clock.drift_us d t edges early late now b u
+    → TellsTrulyBy IsTrue k.clock d k.rules t edges early late now → IsTimeline t → AreHeardTruly IsTrue k.clock k.rules (f_of k.clock.redundancy) now k.state.lines pulses
+    → answer_at k (now % 2 ^ 32) ≡ Some b → b.report.cause ≡ cause.Voted → b.report.announce ≡ Some u → IsToldBy k.clock d t edges early late now b u
 tick_voted_by IsTrue t edges k d early late room now pulses b u quartz truly sound heard answer voted says = of (vote_at k (now % 2 ^ 32)) refl answer
   where
     s : ClockState
     s = settled_at k.clock k.state (now % 2 ^ 32)
 
-    by_own : (n : ℕ) (test : Bool) → (n == 0) ≡ test → cond test None (Some (beat_by k.clock s false (step_to k.clock k.table s n None) (n - 1) (own_edge s.edge_us n) s.bound_us)) ≡ Some b → IsToldBy k.clock.within.us k.clock.drift_us d t edges early late now b u
+    by_own : (n : ℕ) (test : Bool) → (n == 0) ≡ test → cond test None (Some (beat_by k.clock s false (step_to k.clock k.table s n None) (n - 1) (own_edge s.edge_us n) s.bound_us)) ≡ Some b → IsToldBy k.clock d t edges early late now b u
     by_own n true e answer = absurd cc
     by_own n false e answer =
         let beat : beat_by k.clock s false (step_to k.clock k.table s n None) (n - 1) (own_edge s.edge_us n) s.bound_us ≡ b = cc in
         absurd (never_voted k.clock.reader_rules k.table k.clock.prefers_frames (missed k.clock.prefers_frames k.clock.reader_rules k.table (n - 1) k.state.reader) (ap (λ (x : Beat). x.report.cause) beat ∙ voted))
 
-    by_vote : (v : Vote) → IsVoteNear k.clock.within.us k.clock.drift_us d t edges early late now v → (n : ℕ) (test : Bool) → (n == 0) ≡ test → cond test None (Some (beat_by k.clock s (against_table k.table (Some v.claim)) (step_to k.clock k.table s n (Some v.claim)) (n - 1) v.edge_us v.bound_us)) ≡ Some b
-        → IsToldBy k.clock.within.us k.clock.drift_us d t edges early late now b u
+    by_vote : (v : Vote) → IsVoteNear k.clock d t edges early late now v → (n : ℕ) (test : Bool) → (n == 0) ≡ test → cond test None (Some (beat_by k.clock s (against_table k.table (Some v.claim)) (step_to k.clock k.table s n (Some v.claim)) (n - 1) v.edge_us v.bound_us)) ≡ Some b
+        → IsToldBy k.clock d t edges early late now b u
     by_vote v vote n true e answer = absurd cc
     by_vote v vote n false e answer =
         let beat : beat_by k.clock s (against_table k.table (Some v.claim)) (step_to k.clock k.table s n (Some v.claim)) (n - 1) v.edge_us v.bound_us ≡ b = cc in
@@ -128,7 +129,7 @@ tick_voted_by IsTrue t edges k d early late room now pulses b u quartz truly sou
           };
         }
 
-    of : (v : Option Vote) → vote_at k (now % 2 ^ 32) ≡ v → answer_by k.clock k.table s (now % 2 ^ 32) v ≡ Some b → IsToldBy k.clock.within.us k.clock.drift_us d t edges early late now b u
+    of : (v : Option Vote) → vote_at k (now % 2 ^ 32) ≡ v → answer_by k.clock k.table s (now % 2 ^ 32) v ≡ Some b → IsToldBy k.clock d t edges early late now b u
     of None e answer = by_own (edges_own s.edge_us (now % 2 ^ 32)) _ refl answer
     of (Some v) e answer =
         by_vote v (vote_is_near IsTrue k.rules t k.clock d edges quartz early late room now k.state.lines pulses truly heard v e) (edges_to_vote s.edge_us v.edge_us) _ refl answer
@@ -147,7 +148,7 @@ nearer t edges before behind more more_behind now b u low low_behind told = reco
 
 -- by the drift of the setup
 pub tick_voted : (IsTrue : List Pulse → Type 0) (t : TimelineValue) (edges : ℕ → ℕ) (k : Keeping) (early late : ℕ) → early + late ≤ 3002 → (now : ℕ) (pulses : ℕ → List Pulse) (b : Beat) (u : UtcSecond) → IsQuartz k.clock.drift_us edges
-    → TellsTruly IsTrue k.clock.within.us k.clock.drift_us k.rules t edges early late now → IsTimeline t → AreHeardTruly IsTrue k.clock.within.us k.clock.drift_us k.rules (f_of k.clock.redundancy) now k.state.lines pulses
+    → TellsTruly IsTrue k.clock k.rules t edges early late now → IsTimeline t → AreHeardTruly IsTrue k.clock k.rules (f_of k.clock.redundancy) now k.state.lines pulses
     → answer_at k (now % 2 ^ 32) ≡ Some b → b.report.cause ≡ cause.Voted → b.report.announce ≡ Some u → IsToldTruly t edges (early + b.bound_us) (late + b.bound_us) now b u
 tick_voted IsTrue t edges k early late room now pulses b u quartz truly sound heard answer voted says =
     let by = tick_voted_by IsTrue t edges k k.clock.drift_us early late room now pulses b u quartz truly sound heard answer voted says in

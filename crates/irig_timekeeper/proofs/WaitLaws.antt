@@ -8,7 +8,7 @@ use Rattle.irig_lines.specs.declared.lines.KeptClaim.{KeptClaim}
 use Rattle.irig_lines.specs.declared.lines.Lines.{Lines}
 use Rattle.irig_lines.specs.declared.lines.Vote.{Vote}
 use Rattle.irig_lines.specs.declared.setup.ClockRules.{ClockRules}
-use Rattle.irig_lines.specs.Exactness.{window_us}
+use Rattle.irig_lines.specs.Widths.{reach_us}
 use Rattle.irig_lines.specs.Counting.{edges_own}
 use Rattle.irig_lines.specs.Steps.{line_at, claim_kept, all_kept, last_us, is_candidate, earlier, first_candidate, vote_with, agreed, wait_by}
 use Rattle.irig_lines.proofs.PartLaws.{vote_by}
@@ -23,34 +23,34 @@ high_is : (g : ℕ) → 2 ^ 31 ≤ g → nat_lt g (2 ^ 31) ≡ false
 high_is g h = grind (arith, h)
 
 module _ (e edge tick now : ℕ) (at : IsEdgeAt e edge tick) (order : tick ≤ now) (soon : now ≤ tick + 1800000000) where
-  wait_ahead : now < edge + 1005000 → wait_by (now % 2 ^ 32) (Some e) None ≡ edge + 1005000 - now
+  wait_ahead : now < edge + 1006000 → wait_by (now % 2 ^ 32) (Some e) None ≡ edge + 1006000 - now
   wait_ahead ahead =
-      let gap : clock_gap (now % 2 ^ 32) ((e + 1005000) % 2 ^ 32) ≡ edge + 1005000 - now = to_gap e edge now at.clock (omega (arith, ahead)) (omega (arith, at.come, order)) in
-      let low = low_is (edge + 1005000 - now) (omega (arith, at.come, order)) in
+      let gap : clock_gap (now % 2 ^ 32) ((e + 1006000) % 2 ^ 32) ≡ edge + 1006000 - now = to_gap e edge now at.clock (omega (arith, ahead)) (omega (arith, at.come, order)) in
+      let low = low_is (edge + 1006000 - now) (omega (arith, at.come, order)) in
       rw (gap, low) refl
     where
-      to_gap : (e edge now : ℕ) → e ≡ edge % 2 ^ 32 → now ≤ edge + 1005000 → edge ≤ now → clock_gap (now % 2 ^ 32) ((e + 1005000) % 2 ^ 32) ≡ edge + 1005000 - now
+      to_gap : (e edge now : ℕ) → e ≡ edge % 2 ^ 32 → now ≤ edge + 1006000 → edge ≤ now → clock_gap (now % 2 ^ 32) ((e + 1006000) % 2 ^ 32) ≡ edge + 1006000 - now
       to_gap e edge now is ahead come = omega (arith, is, ahead, come)
 
-  wait_behind : edge + 1005000 < now → wait_by (now % 2 ^ 32) (Some e) None ≡ 0
+  wait_behind : edge + 1006000 < now → wait_by (now % 2 ^ 32) (Some e) None ≡ 0
   wait_behind behind =
-      let far : 2 ^ 31 ≤ clock_gap (now % 2 ^ 32) ((e + 1005000) % 2 ^ 32) = from_gap e edge now at.clock behind (omega (arith, at.soon, soon)) in
-      let high = high_is (clock_gap (now % 2 ^ 32) ((e + 1005000) % 2 ^ 32)) far in
+      let far : 2 ^ 31 ≤ clock_gap (now % 2 ^ 32) ((e + 1006000) % 2 ^ 32) = from_gap e edge now at.clock behind (omega (arith, at.soon, soon)) in
+      let high = high_is (clock_gap (now % 2 ^ 32) ((e + 1006000) % 2 ^ 32)) far in
       rw high refl
     where
-      from_gap : (e edge now : ℕ) → e ≡ edge % 2 ^ 32 → edge + 1005000 < now → now ≤ edge + 1801005000 → 2 ^ 31 ≤ clock_gap (now % 2 ^ 32) ((e + 1005000) % 2 ^ 32)
+      from_gap : (e edge now : ℕ) → e ≡ edge % 2 ^ 32 → edge + 1006000 < now → now ≤ edge + 1801006000 → 2 ^ 31 ≤ clock_gap (now % 2 ^ 32) ((e + 1006000) % 2 ^ 32)
       from_gap e edge now is behind near = omega (arith, is, behind, near)
 
-  wait_now : edge + 1005000 ≡ now → wait_by (now % 2 ^ 32) (Some e) None ≡ 0
+  wait_now : edge + 1006000 ≡ now → wait_by (now % 2 ^ 32) (Some e) None ≡ 0
   wait_now same =
-      let gap : clock_gap (now % 2 ^ 32) ((e + 1005000) % 2 ^ 32) ≡ 0 = no_gap e edge now at.clock same in
+      let gap : clock_gap (now % 2 ^ 32) ((e + 1006000) % 2 ^ 32) ≡ 0 = no_gap e edge now at.clock same in
       rw gap refl
     where
-      no_gap : (e edge now : ℕ) → e ≡ edge % 2 ^ 32 → edge + 1005000 ≡ now → clock_gap (now % 2 ^ 32) ((e + 1005000) % 2 ^ 32) ≡ 0
+      no_gap : (e edge now : ℕ) → e ≡ edge % 2 ^ 32 → edge + 1006000 ≡ now → clock_gap (now % 2 ^ 32) ((e + 1006000) % 2 ^ 32) ≡ 0
       no_gap e edge now is same = omega (arith, is, same)
 
   -- what is counted at a time
-  own_then : edges_own (Some e) (now % 2 ^ 32) ≡ (now - edge - 5000) / 1000000
+  own_then : edges_own (Some e) (now % 2 ^ 32) ≡ (now - edge - 6000) / 1000000
   own_then =
       let gap : clock_gap e (now % 2 ^ 32) ≡ now - edge = ap (λ (x : ℕ). clock_gap x (now % 2 ^ 32)) at.clock ∙ gap_is edge now (omega (arith, at.come, order)) (omega (arith, at.soon, soon)) in
       let low = low_is (now - edge) (omega (arith, at.soon, soon)) in
@@ -60,15 +60,15 @@ module _ (e edge tick now : ℕ) (at : IsEdgeAt e edge tick) (order : tick ≤ n
       gap_is u v h k = omega arith
 
   -- it is so long that the edge is counted behind it
-  pub enough : edge + 1005000 ≤ now + wait_by (now % 2 ^ 32) (Some e) None
-  enough = elim (cases_lt now (edge + 1005000)) [
+  pub enough : edge + 1006000 ≤ now + wait_by (now % 2 ^ 32) (Some e) None
+  enough = elim (cases_lt now (edge + 1006000)) [
     | inl ahead ↦ omega (arith, wait_ahead ahead, ahead)
     | inr behind ↦ omega (arith, behind)
   ]
 
-  pub waits : edges_own (Some e) (now % 2 ^ 32) ≡ 0 → (1 ≤ wait_by (now % 2 ^ 32) (Some e) None) × (wait_by (now % 2 ^ 32) (Some e) None ≤ 1005000)
+  pub waits : edges_own (Some e) (now % 2 ^ 32) ≡ 0 → (1 ≤ wait_by (now % 2 ^ 32) (Some e) None) × (wait_by (now % 2 ^ 32) (Some e) None ≤ 1006000)
   waits none =
-      let ahead : now < edge + 1005000 = omega (arith, own_then, none) in
+      let ahead : now < edge + 1006000 = omega (arith, own_then, none) in
       (omega (arith, wait_ahead ahead, ahead), omega (arith, wait_ahead ahead, at.come, order))
 
 pub counts_then : (e edge tick now more : ℕ) → IsEdgeAt e edge tick → tick ≤ now → now + wait_by (now % 2 ^ 32) (Some e) None + more ≤ tick + 1800000000
@@ -126,21 +126,21 @@ module _ (window f : ℕ) (all : List (Option KeptClaim)) where
   unfolding IsThere
   there_of x i e is = there_in x all i e is None
 
-pub get_kept : (within : ℕ) (lines : Lines) (i : ℕ) (x : KeptClaim) → i < 5 → claim_kept within (line_at lines i).frame ≡ Some x → slice_get (all_kept within lines) i ≡ Some (Some x)
-get_kept within lines zero x low e = cc
-get_kept within lines (suc zero) x low e = cc
-get_kept within lines (suc (suc zero)) x low e = cc
-get_kept within lines (suc (suc (suc zero))) x low e = cc
-get_kept within lines (suc (suc (suc (suc zero)))) x low e = cc
-get_kept within lines (suc (suc (suc (suc (suc i))))) x low e = absurd (omega (arith, low))
+pub get_kept : (c : ClockRules) (lines : Lines) (i : ℕ) (x : KeptClaim) → i < 5 → claim_kept c (line_at lines i).frame ≡ Some x → slice_get (all_kept c lines) i ≡ Some (Some x)
+get_kept c lines zero x low e = cc
+get_kept c lines (suc zero) x low e = cc
+get_kept c lines (suc (suc zero)) x low e = cc
+get_kept c lines (suc (suc (suc zero))) x low e = cc
+get_kept c lines (suc (suc (suc (suc zero)))) x low e = cc
+get_kept c lines (suc (suc (suc (suc (suc i))))) x low e = absurd (omega (arith, low))
 
 -- what agrees with enough others is a candidate, so there is a vote
-pub one_is_agreed : (c : ClockRules) (lines : Lines) (i : ℕ) (x : KeptClaim) → i < 5 → claim_kept c.within.us (line_at lines i).frame ≡ Some x → is_candidate (f_of c.redundancy) x (all_kept c.within.us lines) ≡ true → (vote : Vote) × (agreed c lines ≡ Some vote)
-one_is_agreed c lines i x low e is = of (first_candidate (window_us c.within.us) (f_of c.redundancy) (all_kept c.within.us lines) (all_kept c.within.us lines) None) first.0 first.1
+pub one_is_agreed : (c : ClockRules) (lines : Lines) (i : ℕ) (x : KeptClaim) → i < 5 → claim_kept c (line_at lines i).frame ≡ Some x → is_candidate (f_of c.redundancy) x (all_kept c lines) ≡ true → (vote : Vote) × (agreed c lines ≡ Some vote)
+one_is_agreed c lines i x low e is = of (first_candidate (reach_us c) (f_of c.redundancy) (all_kept c lines) (all_kept c lines) None) first.0 first.1
   where
-    first : (y : KeptClaim) × (first_candidate (window_us c.within.us) (f_of c.redundancy) (all_kept c.within.us lines) (all_kept c.within.us lines) None ≡ Some y)
-    first = there_of (window_us c.within.us) (f_of c.redundancy) (all_kept c.within.us lines) x i (get_kept c.within.us lines i x low e) is
+    first : (y : KeptClaim) × (first_candidate (reach_us c) (f_of c.redundancy) (all_kept c lines) (all_kept c lines) None ≡ Some y)
+    first = there_of (reach_us c) (f_of c.redundancy) (all_kept c lines) x i (get_kept c lines i x low e) is
 
-    of : (o : Option KeptClaim) (y : KeptClaim) → o ≡ Some y → (vote : Vote) × (vote_with c.within.us c.drift_us (f_of c.redundancy) (all_kept c.within.us lines) o ≡ Some vote)
+    of : (o : Option KeptClaim) (y : KeptClaim) → o ≡ Some y → (vote : Vote) × (vote_with (reach_us c) c.drift_us (f_of c.redundancy) (all_kept c lines) o ≡ Some vote)
     of None y e = absurd cc
-    of (Some y) z e = (vote_by c (all_kept c.within.us lines) y, refl)
+    of (Some y) z e = (vote_by c (all_kept c lines) y, refl)

@@ -8,27 +8,28 @@ use Rattle.irig_sync.specs.Lines.{Pulse, IsAfter}
 use Rattle.irig_time.specs.declared.second.UtcSecond.{UtcSecond}
 use Rattle.irig_time.specs.Timelines.{IsSecond, TimelineValue}
 use Rattle.irig_vote.specs.Vote.{f_of, ports_in}
-use Rattle.irig_time.specs.Claims.{same_claim}
 use Rattle.irig_lines.specs.declared.lines.KeptClaim.{KeptClaim}
 use Rattle.irig_lines.specs.declared.lines.Lines.{Lines}
 use Rattle.irig_lines.specs.declared.lines.Vote.{Vote}
 use Rattle.irig_lines.specs.declared.setup.ClockRules.{ClockRules}
 use Rattle.irig_lines.specs.Edges.{IsQuartz}
-use Rattle.irig_lines.specs.Exactness.{half_us, window_us, end_off_us}
+use Rattle.irig_lines.specs.Exactness.{end_off_us}
+use Rattle.irig_lines.specs.Widths.{reach_us}
 use Rattle.irig_lines.specs.Lines.{IsTrueLately, IfKept}
-use Rattle.irig_lines.specs.Steps.{is_pulse, line_at, settled, claim_kept, all_kept, agrees, agreed, wait_by}
+use Rattle.irig_lines.specs.Steps.{is_pulse, line_at, settled, claim_kept, all_kept, first_us, last_us, agrees, agreed, wait_by}
 use Rattle.irig_timekeeper.specs.Keeping.{Keeping, place_told, vote_at, wait_at}
 use Rattle.irig_timekeeper.specs.Life.{Made, device_of, Call, after_calls, pulses_on, last_tick, HaveRisen, AreInOrder, AreTrueOver}
 use Rattle.irig_timekeeper.specs.Life.Call.{Hear, Tick}
 use Rattle.irig_timekeeper.specs.Announcing.{Announces, ComesWhole}
 use Rattle.irig_timekeeper.specs.Loops.{ComeInARow, AreToldInTime, made_at, latest, AreMadeInTurn, named, IsSoonEnough, GoesByWait}
-use Rattle.irig_lines.proofs.LineLaws.{true_lately}
+use Rattle.irig_lines.proofs.LineLaws.{true_by_any}
 use Rattle.irig_lines.proofs.AgreeLaws.{is_one}
-use Rattle.irig_lines.proofs.PartLaws.{IsHalf, half_kept, one_more, ends_agree, agreed_first, vote_of}
-use Rattle.irig_timekeeper.proofs.VoteLaws.{still, frame_settled}
+use Rattle.irig_lines.proofs.PartLaws.{IsHalf, half_kept, one_more, agreeing_is, agreed_first, vote_of}
+use Rattle.irig_lines.proofs.WidthLaws.{widest_few, reach_few}
+use Rattle.irig_timekeeper.proofs.VoteLaws.{still, exact_time, frame_settled}
 use Rattle.irig_timekeeper.proofs.LifeLaws.{begins, AreLinesAt, IsEndAt, TellAlwaysTruly, lines_after, own_pulses, others_pulses, no_pulse, unheard, order_before}
 use Rattle.irig_lines.proofs.WholeLaws.{whole_of, nothing_whole}
-use Rattle.irig_timekeeper.proofs.OrderLaws.{shared, silent_line, kept_of_nothing, ranged, lies_behind}
+use Rattle.irig_timekeeper.proofs.OrderLaws.{shared, silent_line, kept_of_nothing, ranged, lies_about}
 use Rattle.irig_timekeeper.proofs.FrameLaws.{place_is, ends_whole, HaveNoVotes, Keeps, ended, not_before, whole_kept}
 use Rattle.irig_timekeeper.proofs.EnoughLaws.{least_of, kept, some_agree}
 use Rattle.irig_timekeeper.proofs.LoopLaws.{loop_announces, Splits, truth_splits, turn_splits, last_on, first_tick, one_less, told_before, IsStep, AreServing}
@@ -74,7 +75,7 @@ told_in_turn start (Tick now ∷ x) base turn = told_in_turn start x base turn.1
 told_in_turn start (Hear port rise width ∷ x) base turn = ((by_latest start (rise + width + 3000) (x ++ base) turn.0).1, told_in_turn start x base turn.1)
 
 -- by a vote whose edge lies at a time it names no later one
-named_by : (time edge : ℕ) (o : Option ℕ) (v : Vote) → v.edge_us ≡ edge % 2 ^ 32 → edge ≤ time + 15000 → time ≤ edge + 101000 → (time + wait_by (time % 2 ^ 32) o (Some v) ≤ time) ⊎ (time + wait_by (time % 2 ^ 32) o (Some v) ≤ edge)
+named_by : (time edge : ℕ) (o : Option ℕ) (v : Vote) → v.edge_us ≡ edge % 2 ^ 32 → edge ≤ time + 17000 → time ≤ edge + 103000 → (time + wait_by (time % 2 ^ 32) o (Some v) ≤ time) ⊎ (time + wait_by (time % 2 ^ 32) o (Some v) ≤ edge)
 named_by time edge o v at ahead behind = of (nat_lt (clock_gap (time % 2 ^ 32) v.edge_us) (2 ^ 31)) refl
   where
     gap : (e : ℕ) → e ≡ edge % 2 ^ 32 → clock_gap (time % 2 ^ 32) e < 2 ^ 31 → time + clock_gap (time % 2 ^ 32) e ≤ edge
@@ -91,12 +92,9 @@ module _ (t : TimelineValue) (edges : ℕ → ℕ) (new : Keeping) (quartz : IsQ
   abbrev lines : Lines
   lines = settled (time % 2 ^ 32) (after_calls new calls).state.lines
 
-  abbrev window : ℕ
-  window = window_us new.clock.within.us
-
   -- a vote that shares a line with the frames of an edge lies at most so far from it
   abbrev off : ℕ
-  off = end_off_us new.clock.within.us new.clock.drift_us + window_us new.clock.within.us
+  off = end_off_us new.clock.within.us new.clock.drift_us + reach_us new.clock
 
   -- a line that is not there sends no frame
   none_there : (i : ℕ) → i < 5 → ports_in new.clock.redundancy ≤ i → come.whole i ≡ false
@@ -110,52 +108,51 @@ module _ (t : TimelineValue) (edges : ℕ → ℕ) (new : Keeping) (quartz : IsQ
   ]
 
   -- what a line keeps then
-  raw : (i : ℕ) → i < 5 → (y : KeptClaim) → claim_kept new.clock.within.us (line_at lines i).frame ≡ Some y → claim_kept new.clock.within.us (line_at (after_calls new calls).state.lines i).frame ≡ Some y
-  raw i small y e = (still _ (time % 2 ^ 32) (line_at (after_calls new calls).state.lines i).frame y (ap (claim_kept new.clock.within.us) (sym (frame_settled (time % 2 ^ 32) (after_calls new calls).state.lines i small)) ∙ e)).0
+  raw : (i : ℕ) → i < 5 → (y : KeptClaim) → claim_kept new.clock (line_at lines i).frame ≡ Some y → claim_kept new.clock (line_at (after_calls new calls).state.lines i).frame ≡ Some y
+  raw i small y e = (still new.clock (time % 2 ^ 32) (line_at (after_calls new calls).state.lines i).frame y (ap (claim_kept new.clock) (sym (frame_settled (time % 2 ^ 32) (after_calls new calls).state.lines i small)) ∙ e)).0
 
   -- by the rules that it had from the start
-  line_kept : (i : ℕ) → i < 5 → IfKept (IsEndAt (pulses_on i calls) (last_tick start calls) then) new.clock.within.us new.clock.drift_us (after_calls new calls).rules (claim_kept new.clock.within.us (line_at (after_calls new calls).state.lines i).frame) (pulses_on i calls)
+  line_kept : (i : ℕ) → i < 5 → IfKept (IsEndAt (pulses_on i calls) (last_tick start calls) then) new.clock (after_calls new calls).rules (claim_kept new.clock (line_at (after_calls new calls).state.lines i).frame) (pulses_on i calls)
   line_kept i small =
       let l = lines_after new start begun calls then order in
-      subst (λ (c : ClockRules). IfKept (IsEndAt (pulses_on i calls) (last_tick start calls) then) c.within.us c.drift_us (after_calls new calls).rules (claim_kept c.within.us (line_at (after_calls new calls).state.lines i).frame) (pulses_on i calls)) l.same.clock (l.lines i small).kept
+      subst (λ (c : ClockRules). IfKept (IsEndAt (pulses_on i calls) (last_tick start calls) then) c (after_calls new calls).rules (claim_kept c (line_at (after_calls new calls).state.lines i).frame) (pulses_on i calls)) l.same.clock (l.lines i small).kept
 
   IsRanged : KeptClaim → Type 0
-  IsRanged y = (y.end_us < 2 ^ 32) × IsHalf new.clock.within.us y
+  IsRanged y = (y.end_us < 2 ^ 32) × IsHalf new.clock y
 
-  in_range : (i : ℕ) → i < 5 → (y : KeptClaim) → claim_kept new.clock.within.us (line_at lines i).frame ≡ Some y → IsRanged y
+  in_range : (i : ℕ) → i < 5 → (y : KeptClaim) → claim_kept new.clock (line_at lines i).frame ≡ Some y → IsRanged y
   unfolding IsRanged
   in_range i small y e =
       let kept = raw i small y e in (
-        ranged (IsEndAt (pulses_on i calls) (last_tick start calls) then) _ _ (after_calls new calls).rules (claim_kept new.clock.within.us (line_at (after_calls new calls).state.lines i).frame) (pulses_on i calls) y (line_kept i small) kept,
-        half_kept new.clock.within.us (line_at (after_calls new calls).state.lines i).frame y kept,
+        ranged (IsEndAt (pulses_on i calls) (last_tick start calls) then) new.clock (after_calls new calls).rules (claim_kept new.clock (line_at (after_calls new calls).state.lines i).frame) (pulses_on i calls) y (line_kept i small) kept,
+        half_kept new.clock (line_at (after_calls new calls).state.lines i).frame y kept,
       )
 
-  none_agrees : (x : KeptClaim) (i : ℕ) → i < 5 → ports_in new.clock.redundancy ≤ i → agrees x (claim_kept new.clock.within.us (line_at lines i).frame) ≡ false
-  none_agrees x i small far = of (claim_kept new.clock.within.us (line_at lines i).frame) refl
+  none_agrees : (x : KeptClaim) (i : ℕ) → i < 5 → ports_in new.clock.redundancy ≤ i → agrees x (claim_kept new.clock (line_at lines i).frame) ≡ false
+  none_agrees x i small far = of (claim_kept new.clock (line_at lines i).frame) refl
     where
-      of : (o : Option KeptClaim) → claim_kept new.clock.within.us (line_at lines i).frame ≡ o → agrees x o ≡ false
+      of : (o : Option KeptClaim) → claim_kept new.clock (line_at lines i).frame ≡ o → agrees x o ≡ false
       of None e = refl
       of (Some y) e =
-          let none = kept_of_nothing (IsEndAt (pulses_on i calls) (last_tick start calls) then) _ _ (after_calls new calls).rules (claim_kept new.clock.within.us (line_at (after_calls new calls).state.lines i).frame) (pulses_on i calls) (silent_line start new.clock.redundancy i far calls order.3) (line_kept i small) in
+          let none = kept_of_nothing (IsEndAt (pulses_on i calls) (last_tick start calls) then) new.clock (after_calls new calls).rules (claim_kept new.clock (line_at (after_calls new calls).state.lines i).frame) (pulses_on i calls) (silent_line start new.clock.redundancy i far calls order.3) (line_kept i small) in
           absurd (let both : None ≡ Some y = sym none ∙ raw i small y e in cc)
 
-  -- its frame ends with a frame of these, or up to the window before, and its edge lies up to the
-  -- window behind that
+  -- its last time comes about with the end of a frame of these, and its edge lies about that
   record LiesNear (v : Vote) : Type 0 where
     edge : ℕ
     clock : v.edge_us ≡ edge % 2 ^ 32
     least : edges m ≤ edge + off
     most : edge ≤ edges m + off
-    not_far : edge ≤ time + 15000
+    not_far : edge ≤ time + 17000
 
   lies_near : (v : Vote) → agreed new.clock lines ≡ Some v → LiesNear v
   unfolding IsRanged
   lies_near v e =
-      let all = all_kept new.clock.within.us lines in
+      let all = all_kept new.clock lines in
       let f = f_of new.clock.redundancy in
       let first = agreed_first new.clock lines v e in
       let x = first.0 in
-      let one = is_one IsRanged window f all all x
+      let one = is_one IsRanged (reach_us new.clock) f all all x
       (one_more IsRanged _ _ (in_range 0 (omega arith))
       (one_more IsRanged _ _ (in_range 1 (omega arith))
       (one_more IsRanged _ _ (in_range 2 (omega arith))
@@ -163,25 +160,28 @@ module _ (t : TimelineValue) (edges : ℕ → ℕ) (new : Keeping) (quartz : IsQ
       (one_more IsRanged _ _ (in_range 4 (omega arith)) tt)))))
       first.1 in
       let counted = ltb-true f (count_by (agrees x) all) one.0 in
-      let there = shared new.clock.redundancy come.whole (λ i. agrees x (claim_kept new.clock.within.us (line_at lines i).frame)) none_there (none_agrees x) come.many (omega (arith, counted)) in
+      let there = shared new.clock.redundancy come.whole (λ i. agrees x (claim_kept new.clock (line_at lines i).frame)) none_there (none_agrees x) come.many (omega (arith, counted)) in
       let k = keeps there.0 there.1 there.2 in
       let keeps_it = kept t edges new quartz start begun m some older told risen past calls time upto come.whole come.many keeps ahead there.0 there.1 there.2 in
-      let y : KeptClaim = record { claim = k.claim; end_us = k.end % 2 ^ 32; half_us = half_us new.clock.within.us } in
+      let y : KeptClaim = record { claim = k.claim; end_us = k.end % 2 ^ 32; half_us = k.half } in
       let agree : agrees x (Some y) ≡ true = subst (λ (o : Option KeptClaim). agrees x o ≡ true) keeps_it there.3 in
-      let near = (ends_agree new.clock.within.us x y new.clock.within.few one.1.1 refl one.1.0 (omega arith) agree).1 in
-      let few = new.clock.within.few in
-      let at = wrapped x.end_us k.end one.1.0 (omega (arith, k.least, past, few, quartz.few)) (omega (arith, near, few)) in
-      let lies = lies_behind new.clock all v x (vote_of new.clock lines v x one.0 first.2) one.1.1 (k.end - clock_gap x.end_us (k.end % 2 ^ 32)) at in
+      let near = (agreeing_is x y agree).1 in
+      let few = widest_few new.clock in
+      let narrow = new.clock.within.few in
+      let half : k.half ≤ 1449 = omega (arith, k.half_of.1, few) in
+      let low : 5000 ≤ k.end = omega (arith, k.least, past, narrow, quartz.few) in
+      let gap : ℕ = clock_gap (first_us y) (last_us x) in
+      let lies = lies_about new.clock all v x (vote_of new.clock lines v x one.0 first.2) (k.end - k.half + gap) (exact_time (last_us x) (k.end - k.half) (first_us y) (omega arith) (first_at k.end k.half (omega (arith, half, low)) half)) (omega (arith, half, low)) in
       record {
         edge = lies.edge;
         clock = lies.clock;
-        least = omega (arith, k.least, near, lies.least);
-        most = omega (arith, k.most, lies.most);
-        not_far = omega (arith, ahead there.0 there.1 there.2, lies.most, few);
+        least = omega (arith, k.least, near, lies.least, half, low, k.half_of.1);
+        most = omega (arith, k.most, lies.most, near, half, low, k.half_of.1);
+        not_far = omega (arith, ahead there.0 there.1 there.2, lies.most, near, few, half, low);
       }
     where
-      wrapped : (e end : ℕ) → e < 2 ^ 32 → 10000 ≤ end → clock_gap e (end % 2 ^ 32) ≤ 898 → e ≡ (end - clock_gap e (end % 2 ^ 32)) % 2 ^ 32
-      wrapped e end range low near = omega (arith, range, low, near)
+      first_at : (end half : ℕ) → half ≤ end → half ≤ 1449 → (end % 2 ^ 32 + 2 ^ 32 - half) % 2 ^ 32 ≡ (end - half) % 2 ^ 32
+      first_at end half some narrow = omega (arith, some, narrow)
 
   -- with the frames told it names no time that lies far behind the edge
   names_soon : (time + wait_at (after_calls new calls) (time % 2 ^ 32) ≤ time) ⊎ (time + wait_at (after_calls new calls) (time % 2 ^ 32) ≤ edges m + off)
@@ -192,12 +192,12 @@ module _ (t : TimelineValue) (edges : ℕ → ℕ) (new : Keeping) (quartz : IsQ
       let same = (lines_after new start begun calls then order).same.clock in
       let agree : agreed k.clock lines ≡ Some v.0 = ap (λ (c : ClockRules). agreed c lines) same ∙ v.1 in
       let wait : wait_at k (time % 2 ^ 32) ≡ wait_by (time % 2 ^ 32) k.state.edge_us (Some v.0) = ap (wait_by (time % 2 ^ 32) k.state.edge_us) agree in
-      elim (named_by time lies.edge k.state.edge_us v.0 lies.clock lies.not_far (omega (arith, upto, lies.least, new.clock.within.few, quartz.few))) [
+      elim (named_by time lies.edge k.state.edge_us v.0 lies.clock lies.not_far (omega (arith, upto, lies.least, reach_few new.clock, new.clock.within.few, quartz.few))) [
         | inl early ↦ inl (omega (arith, wait, early))
         | inr late ↦ inr (omega (arith, wait, late, lies.most))
       ]
 
-module _ (IsTrue : ℕ → List Pulse → Type 0) (t : TimelineValue) (edges : ℕ → ℕ) (new : Keeping) (quartz : IsQuartz new.clock.drift_us edges) (start : ℕ) (begun : AreLinesAt new new (λ i. []) start start) (late : ℕ) (few : late ≤ 95000) where
+module _ (IsTrue : ℕ → List Pulse → Type 0) (t : TimelineValue) (edges : ℕ → ℕ) (new : Keeping) (quartz : IsQuartz new.clock.drift_us edges) (start : ℕ) (begun : AreLinesAt new new (λ i. []) start start) (late : ℕ) (few : late ≤ 94000) where
   abbrev pub Waits : List Call → List Call → Type 0
   Waits calls before = AreMadeInTurn start calls before × GoesByWait late new calls before
 
@@ -228,14 +228,14 @@ module _ (IsTrue : ℕ → List Pulse → Type 0) (t : TimelineValue) (edges : �
       time : ℕ
       z : List Call
       are : y ≡ x ++ (Tick time ∷ z)
-      near : edges m ≤ time + 15000
+      near : edges m ≤ time + 17000
       v : Vote
       voted : vote_at (after_calls new (z ++ done)) (time % 2 ^ 32) ≡ Some v
 
     voted_on : (call : Call) (y : List Call) → HasVoted y → HasVoted (call ∷ y)
     voted_on call y h = record { x = call ∷ h.x; time = h.time; z = h.z; are = ap (λ (c : List Call). call ∷ c) h.are; near = h.near; v = h.v; voted = h.voted }
 
-    find : (y : List Call) → HaveNoVotes new (edges m - 15000) y done ⊎ HasVoted y
+    find : (y : List Call) → HaveNoVotes new (edges m - 17000) y done ⊎ HasVoted y
     find [] = inl tt
     find (Hear port rise width ∷ y) = elim (find y) [ inl none ↦ inl none | inr h ↦ inr (voted_on (Hear port rise width) y h) ]
     find (Tick time ∷ y) = elim (find y) [
@@ -243,9 +243,9 @@ module _ (IsTrue : ℕ → List Pulse → Type 0) (t : TimelineValue) (edges : �
       | inl none ↦ by none (vote_at (after_calls new (y ++ done)) (time % 2 ^ 32)) refl
     ]
       where
-        by : HaveNoVotes new (edges m - 15000) y done → (o : Option Vote) → vote_at (after_calls new (y ++ done)) (time % 2 ^ 32) ≡ o → HaveNoVotes new (edges m - 15000) (Tick time ∷ y) done ⊎ HasVoted (Tick time ∷ y)
+        by : HaveNoVotes new (edges m - 17000) y done → (o : Option Vote) → vote_at (after_calls new (y ++ done)) (time % 2 ^ 32) ≡ o → HaveNoVotes new (edges m - 17000) (Tick time ∷ y) done ⊎ HasVoted (Tick time ∷ y)
         by none None e = inl ((λ _. e), none)
-        by none (Some v) e = elim (cases_lt (time + 15000) (edges m)) [
+        by none (Some v) e = elim (cases_lt (time + 17000) (edges m)) [
           | inl before ↦ inl ((λ from. absurd (omega (arith, from, before))), none)
           | inr behind ↦ inr (record { x = []; time = time; z = y; are = refl; near = behind; v = v; voted = e })
         ]
@@ -260,12 +260,12 @@ module _ (IsTrue : ℕ → List Pulse → Type 0) (t : TimelineValue) (edges : �
     -- the next tick comes soon behind the edge
     module _ (now : ℕ) (behind : edges m + 3000 ≤ now) where
       -- from these calls on, behind which they keep the frames, a time is named
-      by_named : (y : List Call) (time then : ℕ) → AreInOrder start new.clock.redundancy (Tick then ∷ (y ++ done)) → HaveNoVotes new (edges m - 15000) y done → then ≤ edges m + 3000 → time ≤ then → (then ≤ time) ⊎ (edges m ≤ time + 3950) → ComesWhole t edges new m (y ++ done)
-          → now ≤ time + wait_at (after_calls new (y ++ done)) (time % 2 ^ 32) + late → now ≤ edges m + 3000 + late
+      by_named : (y : List Call) (time then : ℕ) → AreInOrder start new.clock.redundancy (Tick then ∷ (y ++ done)) → HaveNoVotes new (edges m - 17000) y done → then ≤ edges m + 3000 → time ≤ then → (then ≤ time) ⊎ (edges m ≤ time + 3950) → ComesWhole t edges new m (y ++ done)
+          → now ≤ time + wait_at (after_calls new (y ++ done)) (time % 2 ^ 32) + late → now ≤ edges m + 4000 + late
       by_named y time then order none low upto behind come soon =
           elim (names_soon t edges new quartz start begun m some done told risen past (y ++ done) then order time (omega (arith, low, upto)) come keeps (λ i small is. ahead i (keeps i small is))) [
             | inl early ↦ omega (arith, soon, early, low, upto)
-            | inr end ↦ omega (arith, soon, end, new.clock.within.few, quartz.few)
+            | inr end ↦ omega (arith, soon, end, reach_few new.clock, new.clock.within.few, quartz.few)
           ]
         where
           keeps : (i : ℕ) (small : i < 5) → come.whole i ≡ true → Keeps t edges new quartz start begun i small m done told risen past (y ++ done)
@@ -277,7 +277,7 @@ module _ (IsTrue : ℕ → List Pulse → Type 0) (t : TimelineValue) (edges : �
             | inr near ↦ omega (arith, k.most, near, new.clock.within.few, quartz.few)
           ]
 
-      soon_behind : (y : List Call) → AreInOrder start new.clock.redundancy (Tick now ∷ (y ++ done)) → HaveNoVotes new (edges m - 15000) y done → last_tick start (y ++ done) < edges m + 3000 → AreMadeInTurn start y done → IsSoonEnough late new now y done → ComesWhole t edges new m (y ++ done) → now ≤ edges m + 3000 + late
+      soon_behind : (y : List Call) → AreInOrder start new.clock.redundancy (Tick now ∷ (y ++ done)) → HaveNoVotes new (edges m - 17000) y done → last_tick start (y ++ done) < edges m + 3000 → AreMadeInTurn start y done → IsSoonEnough late new now y done → ComesWhole t edges new m (y ++ done) → now ≤ edges m + 4000 + late
       soon_behind [] order none early turn soon come =
           let one = some_line done come in
           let w = come.frames one.0 one.1 one.2 in
@@ -291,7 +291,7 @@ module _ (IsTrue : ℕ → List Pulse → Type 0) (t : TimelineValue) (edges : �
         | inr last ↦
             let all = by_latest start (rise + width + 3000) (Hear port rise width ∷ (y ++ done)) (latest_by start (rise + width + 3000) (Hear port rise width) (y ++ done) turn.0 (omega arith)) in
             let here : AreInOrder start new.clock.redundancy (Tick (rise + width + 3000) ∷ (Hear port rise width ∷ (y ++ done))) = (all.1, omega (arith, order.1, last.most, behind), (λ line. after_by (pulses_on line (Hear port rise width ∷ (y ++ done))) (rise + width + 3000) (rise + width + 3000 + 4000) (all.0 line) (omega arith)), order.3) in
-            let ends = ends_whole new.clock.within new.limits new.rules t new.clock.drift_us edges m (pulses_on port (Hear port rise width ∷ (y ++ done))) quartz last.whole in
+            let ends = ends_whole new.clock new.rules t new.clock.drift_us edges m (pulses_on port (Hear port rise width ∷ (y ++ done))) quartz last.whole in
             let place = place_is t edges new quartz start begun port last.small m done told risen past port rise width (y ++ done) (rise + width + 3000) here last.narrow (eq-eqb port port refl) last.whole ends in
             by_named (Hear port rise width ∷ y) (rise + width) (rise + width + 3000) here none (omega (arith, last.most)) (omega arith) (inr last.least) come (soon.0 place)
       ]
@@ -322,7 +322,7 @@ module _ (IsTrue : ℕ → List Pulse → Type 0) (t : TimelineValue) (edges : �
                 are = refl;
                 early = omega (arith, first.early);
                 soon = omega (arith, soon, few);
-                comes = inl (omega (arith, first.come), behind);
+                comes = inl (omega (arith, first.come, reach_few new.clock, quartz.few), behind);
                 truth = truth;
               };
             }
@@ -350,14 +350,14 @@ module _ (IsTrue : ℕ → List Pulse → Type 0) (t : TimelineValue) (edges : �
             }
       ]
 
-pub waiting_announces : (t : TimelineValue) (edges : ℕ → ℕ) (made : Made) (start m late : ℕ) (calls before : List Call) (u : UtcSecond) → ComeInARow (IsTrueLately made.clock.within.us) t edges made start m calls before → FollowsTruth t made.clock.prefers_frames made.table → late ≤ 95000 → GoesByWait late (device_of made) calls before → AreMadeInTurn start calls before
+pub waiting_announces : (t : TimelineValue) (edges : ℕ → ℕ) (made : Made) (start m late : ℕ) (calls before : List Call) (u : UtcSecond) → ComeInARow (IsTrueLately made.clock.within.us) t edges made start m calls before → FollowsTruth t made.clock.prefers_frames made.table → late ≤ 94000 → GoesByWait late (device_of made) calls before → AreMadeInTurn start calls before
     → IsSecond t (m + 1 + made.clock.reader_rules.lock_after) u → Announces edges (device_of made) (m + 1 + made.clock.reader_rules.lock_after) u (calls ++ before)
 waiting_announces t edges made start m late calls before u come follows few goes turn second =
     let quartz = come.is.steady in
     let new = device_of made in
-    let begun = begins made.limits made.rules made.clock made.table made.lines start made.fresh in
-    let truly : TellAlwaysTruly (IsTrueLately made.clock.within.us made.rules t edges) made.clock.within.us made.clock.drift_us made.rules t edges 0 0 =
-    λ now end pulses claim is_true frame soon. true_lately made.clock.within made.rules t made.clock.drift_us edges now end pulses claim quartz is_true frame soon in
+    let begun = begins made.rules made.clock made.table made.lines start made.fresh in
+    let truly : TellAlwaysTruly (IsTrueLately made.clock.within.us made.rules t edges) made.clock made.rules t edges 0 0 =
+    λ now half end pulses claim is_true frame soon. true_by_any made.clock made.rules t made.clock.drift_us edges half now end pulses claim quartz is_true frame soon in
     loop_announces (IsTrueLately made.clock.within.us made.rules t edges) t made.clock.drift_us edges quartz new start
     (Waits (IsTrueLately made.clock.within.us made.rules t edges) t edges new quartz start begun late few)
     (waits_split (IsTrueLately made.clock.within.us made.rules t edges) t edges new quartz start begun late few)

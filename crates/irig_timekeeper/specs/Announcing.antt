@@ -1,7 +1,7 @@
 -- What has to come for a device to announce: more than f lines send a frame whole, and a tick comes
 -- soon behind its end.
 -- Source: IRIG Standard 200-16, format B; this project's profile.
-use Rattle.std.specs.Prelude.{◌≡◌, ℕ, zero, suc, ◌+◌, ◌*◌, ◌%◌, ◌^◌, ◌<◌, ◌≤◌, ◌⊎◌, Bool, true, List, Option, [], ◌∷◌, ◌++◌, length, drop, count_by, Some, ⊤}
+use Rattle.std.specs.Prelude.{◌≡◌, ℕ, zero, suc, ◌+◌, ◌*◌, ◌%◌, ◌^◌, ◌<◌, ◌≤◌, ◌⊎◌, Bool, true, List, [], ◌∷◌, ◌++◌, length, drop, count_by, Some, ⊤}
 use Rattle.std.specs.List.{range_with_len}
 use Rattle.irig_frame.specs.declared.symbol.Symbol.{Symbol}
 use Rattle.irig_sync.specs.Sync.{is_marker}
@@ -11,7 +11,7 @@ use Rattle.irig_time.specs.declared.rules.Rules.{Rules}
 use Rattle.irig_time.specs.declared.second.UtcSecond.{UtcSecond}
 use Rattle.irig_time.specs.declared.claim.Claim.{Claim}
 use Rattle.irig_time.specs.Timelines.{TimelineValue, IsTrueClaim}
-use Rattle.irig_port.specs.declared.limits.Limits.{Limits}
+use Rattle.irig_lines.specs.declared.setup.ClockRules.{ClockRules}
 use Rattle.irig_port.specs.Limits.{told_within}
 use Rattle.irig_port.specs.declared.told.Told.TheVariants as tells
 use Rattle.irig_vote.specs.Vote.{f_of}
@@ -20,7 +20,7 @@ use Rattle.irig_timekeeper.specs.declared.clock.Beat.{Beat}
 use Rattle.irig_timekeeper.specs.Keeping.{Keeping, answer_at}
 use Rattle.irig_timekeeper.specs.Life.{Call, after_calls, pulses_on, last_tick, AreTrueOver}
 use Rattle.irig_timekeeper.specs.Life.Call.{Tick}
-use Rattle.irig_lines.specs.Exactness.{vote_us}
+use Rattle.irig_lines.specs.Widths.{vote_us}
 
 -- what came before the frame that begins then does not hide its first pulse: nothing, a marker, or
 -- what rose 11 ms and `within` us before it or longer
@@ -29,10 +29,10 @@ LeavesTheFirst within begin [] = ⊤
 LeavesTheFirst within begin (q ∷ qs) =
     (is_marker q.width ≡ true) ⊎ (q.rise + 11000 + within ≤ begin)
 
--- the newest hundred of these pulses are the whole frame that ends at the m-th edge, each less than
--- `within` us off, and tell the true claim of the second before it
-pub record IsWhole (within : ℕ) (limits : Option Limits) (rules : Rules) (t : TimelineValue) (edges : ℕ → ℕ)
-    (m : ℕ) (pulses : List Pulse) : Type 0 where
+-- the newest hundred of these pulses are the whole frame that ends at the m-th edge, each as near its
+-- place as lines are exact, and tell the true claim of the second before it, which has a vote
+pub record IsWhole (c : ClockRules) (rules : Rules) (t : TimelineValue) (edges : ℕ → ℕ) (m : ℕ)
+    (pulses : List Pulse) : Type 0 where
   pub line : ℕ → Symbol
   pub right : IsTrueLine line
   pub f : ℕ
@@ -41,10 +41,10 @@ pub record IsWhole (within : ℕ) (limits : Option Limits) (rules : Rules) (t : 
   pub earlier : List Pulse
   pub parts : pulses ≡ frame ++ earlier
   pub hundred : length frame ≡ 100
-  pub are : ArePulsesBefore line edges within (100 * f + 100) frame
-  pub first : LeavesTheFirst within (edges f) earlier
+  pub are : ArePulsesBefore line edges c.within.us (100 * f + 100) frame
+  pub first : LeavesTheFirst c.within.us (edges f) earlier
   pub claim : Claim
-  pub tells : told_within limits rules (symbols_of_last 100 pulses) ≡ tells.Claim claim
+  pub tells : told_within (Some c.limits.limits) rules (symbols_of_last 100 pulses) ≡ tells.Claim claim
   pub truth : IsTrueClaim t m claim
 
 -- in these calls more than f lines tell the frame whole that ends at the m-th edge; what they tell
@@ -55,7 +55,7 @@ pub record ComesWhole (t : TimelineValue) (edges : ℕ → ℕ) (new : Keeping) 
   pub many : f_of new.clock.redundancy < count_by whole (range_with_len 0 5)
   pub frames : (i : ℕ) → i < 5 → whole i ≡ true
       → (late : ℕ)
-      × IsWhole new.clock.within.us new.limits new.rules t edges m (drop late (pulses_on i calls))
+      × IsWhole new.clock new.rules t edges m (drop late (pulses_on i calls))
 
 -- the calls of the m-th second, behind others: the last of them is a tick behind the edge, by the
 -- bound of a vote at least and 98 ms at most, by which more than f lines have told the frame whole
@@ -69,7 +69,7 @@ pub record IsWellHeard (IsTrue : ℕ → List Pulse → Type 0) (t : TimelineVal
   pub others : List Call
   pub are : calls ≡ Tick now ∷ others
   pub early : last_tick start (others ++ before) ≤ edges m + 3000
-  pub come : edges m + vote_us new.clock.within.us new.clock.drift_us ≤ now
+  pub come : edges m + vote_us new.clock new.clock.drift_us ≤ now
   pub soon : now ≤ edges m + 98000
   pub frames : ComesWhole t edges new m (others ++ before)
   pub truth : AreTrueOver IsTrue (f_of new.clock.redundancy) calls before

@@ -1,16 +1,14 @@
 -- What it is for a timekeeper to be such a value.
-use Rattle.std.specs.Prelude.{◌≡◌, Option}
+use Rattle.std.specs.Prelude.{◌≡◌}
 use Rattle.irig_time.specs.declared.rules.Rules.{Rules}
 use Rattle.irig_time.specs.Tables.{TableValue}
-use Rattle.irig_port.specs.declared.limits.Limits.{Limits}
 use Rattle.irig_port.specs.declared.port.Port.{Ghosts}
 use Rattle.irig_lines.specs.declared.setup.ClockRules.{ClockRules}
 use Rattle.irig_timekeeper.specs.declared.keeper.Timekeeper.{Timekeeper}
 use Rattle.irig_lines.specs.Steps.{AreNewLines}
 use Rattle.irig_timekeeper.specs.Keeping.{Keeping, new_keeping}
 
--- the timekeeper has these rules, limits, clock, table and state, and its ports stand for what was
--- heard
+-- the timekeeper has these rules, clock, table and state, and its ports stand for what was heard
 pub record IsKeeping {P : Type 0} {g : Ghosts P} (keeper : Timekeeper P g) (k : Keeping)
     : Type 0 where
   pub a : g.stands_for keeper.a k.rules k.heard.a
@@ -19,16 +17,15 @@ pub record IsKeeping {P : Type 0} {g : Ghosts P} (keeper : Timekeeper P g) (k : 
   pub d : g.stands_for keeper.d k.rules k.heard.d
   pub e : g.stands_for keeper.e k.rules k.heard.e
   pub rules : keeper.rules ≡ k.rules
-  pub limits : keeper.limits ≡ k.limits
   pub clock : keeper.clock ≡ k.clock
   pub table : keeper.table ≡ k.table
   pub state : keeper.state ≡ k.state
 
 -- it was made of these, and nothing has happened to it
-abbrev pub IsNew : {P : Type 0} {g : Ghosts P} → Timekeeper P g → Option Limits → Rules
-    → ClockRules → TableValue → Type 0
-IsNew keeper limits rules clock table =
-    IsKeeping keeper (new_keeping limits rules clock table keeper.state.lines)
+abbrev pub IsNew : {P : Type 0} {g : Ghosts P} → Timekeeper P g → Rules → ClockRules
+    → TableValue → Type 0
+IsNew keeper rules clock table =
+    IsKeeping keeper (new_keeping rules clock table keeper.state.lines)
     × AreNewLines keeper.state.lines
 
 -- a fact of each value that the timekeeper may be

@@ -1,12 +1,11 @@
 -- A timekeeper as a value, and what becomes of it by a call.
 -- Source: this project's profile.
-use Rattle.std.specs.Prelude.{ℕ, ◌==◌, if◌then◌else◌, List, [], Option, None}
+use Rattle.std.specs.Prelude.{ℕ, ◌==◌, if◌then◌else◌, List, [], Option, Some, None}
 use Rattle.irig_frame.specs.declared.symbol.Symbol.{Symbol}
 use Rattle.irig_sync.specs.Sync.{place_of}
 use Rattle.irig_time.specs.declared.rules.Rules.{Rules}
 use Rattle.irig_time.specs.Tables.{TableValue}
-use Rattle.irig_port.specs.declared.limits.Limits.{Limits}
-use Rattle.irig_port.specs.Limits.{told_within}
+use Rattle.irig_port.specs.Limits.{quality_in, told_within}
 use Rattle.irig_port.specs.Hearing.{heard_at}
 use Rattle.irig_reader.specs.declared.rule.State.TheVariants.{Idle}
 use Rattle.irig_lines.specs.declared.lines.Vote.{Vote}
@@ -50,7 +49,6 @@ with_heard heard port s =
 -- what it was made of, what its ports heard, and where its clock stands
 pub record Keeping : Type 0 where
   pub rules : Rules
-  pub limits : Option Limits
   pub clock : ClockRules
   pub table : TableValue
   pub heard : Heard
@@ -79,10 +77,9 @@ new_state lines = record {
 }
 
 -- nothing has happened, on lines on which nothing came
-abbrev pub new_keeping : Option Limits → Rules → ClockRules → TableValue → Lines → Keeping
-new_keeping limits rules clock table lines = record {
+abbrev pub new_keeping : Rules → ClockRules → TableValue → Lines → Keeping
+new_keeping rules clock table lines = record {
   rules = rules;
-  limits = limits;
   clock = clock;
   table = table;
   heard = nothing_heard;
@@ -111,7 +108,8 @@ one_pulse_more k port rise width = record k {
   heard = with_heard k.heard port (heard_then k port rise width);
   state = with_lines k.state (with_line k.state.lines port
       (line_heard k.clock (line_at k.state.lines port) rise width
-      (told_within k.limits k.rules (heard_then k port rise width))));
+      (told_within (Some k.clock.limits.limits) k.rules (heard_then k port rise width))
+      (quality_in (heard_then k port rise width))));
 }
 
 -- behind a pulse, which is none if it is half a second wide or wider

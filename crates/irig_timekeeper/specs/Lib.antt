@@ -16,4 +16,3 @@ pub mod Healing
 pub mod Lived
 pub mod Doubts
 pub mod Measures
-pub mod VoteLimits

@@ -1,13 +1,12 @@
 -- The life of a device since it was made or restarted, by its calls. Times are local ones, by a
 -- clock that does not wrap; the device is given them by one of 32 bits.
 -- Source: this project's profile.
-use Rattle.std.specs.Prelude.{◌≡◌, ℕ, ◌+◌, ◌%◌, ◌^◌, ◌<◌, ◌≤◌, ◌==◌, Bool, true, false, ◌&&◌, if◌then◌else◌, List, [], ◌∷◌, ◌++◌, count_by, Option, ⊤}
+use Rattle.std.specs.Prelude.{◌≡◌, ℕ, ◌+◌, ◌%◌, ◌^◌, ◌<◌, ◌≤◌, ◌==◌, Bool, true, false, ◌&&◌, if◌then◌else◌, List, [], ◌∷◌, ◌++◌, count_by, ⊤}
 use Rattle.std.specs.List.{range_with_len}
 use Rattle.irig_sync.specs.Lines.{Pulse, pulse_at, IsAfter}
 use Rattle.irig_time.specs.declared.rules.Rules.{Rules}
 use Rattle.irig_time.specs.Tables.{TableValue}
 use Rattle.irig_time.specs.Timelines.{TimelineValue}
-use Rattle.irig_port.specs.declared.limits.Limits.{Limits}
 use Rattle.irig_vote.specs.declared.redundancy.Redundancy.{Redundancy}
 use Rattle.irig_vote.specs.Vote.{ports_in, f_of}
 use Rattle.irig_lines.specs.declared.setup.ClockRules.{ClockRules}
@@ -33,7 +32,6 @@ after_calls k (call ∷ calls) = after_call (after_calls k calls) call
 
 -- what a device was made of, and its lines, on which nothing came
 pub record Made : Type 0 where
-  pub limits : Option Limits
   pub rules : Rules
   pub clock : ClockRules
   pub table : TableValue
@@ -42,7 +40,7 @@ pub record Made : Type 0 where
 
 -- that device, and what it is after these calls, the newest first
 abbrev pub device_of : Made → Keeping
-device_of made = new_keeping made.limits made.rules made.clock made.table made.lines
+device_of made = new_keeping made.rules made.clock made.table made.lines
 
 -- what a device is that was made of this, after these calls, the newest first
 abbrev pub life_of : Made → List Call → Keeping

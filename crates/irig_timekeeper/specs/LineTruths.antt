@@ -13,7 +13,10 @@ use Rattle.irig_timekeeper.specs.declared.clock.ClockState.{ClockState}
 use Rattle.irig_timekeeper.specs.declared.states.LineState.{LineState}
 use Rattle.irig_timekeeper.specs.declared.states.LineState.TheVariants as is
 use Rattle.irig_lines.specs.Edges.{IsNear}
-use Rattle.irig_lines.specs.Exactness.{end_off_us, most_vote_us, most_held_us}
+use Rattle.irig_lines.specs.Exactness.{most_vote_us, most_held_us}
+use Rattle.irig_lines.specs.Widths.{half_us}
+use Rattle.irig_sync.specs.Edges.{element_drift}
+use Rattle.irig_port.specs.Limits.{quality_in}
 use Rattle.irig_lines.specs.Lines.{AreEven, IsLastBefore}
 
 -- the second that ended at a told edge is T(n), and that edge lies no further from the one of T(n + 1)
@@ -24,13 +27,14 @@ pub record IsEndedTruly (t : TimelineValue) (edges : ℕ → ℕ) (a : Announced
   pub near : IsNear edges a.bound_us a.bound_us (n + 1) edge
   pub small : a.bound_us ≤ most_vote_us + most_held_us
 
--- a hundred pulses in a row, each but the first on time behind the one before, carry the claim; the
--- last of them rose an element before that time, and so many pulses came behind it. The time lies at
--- most 1.5 s before a tick
-pub record IsSentFrame (rules : Rules) (tick : ℕ) (claim : Claim) (end late : ℕ) (pulses : List Pulse)
-    : Type 0 where
+-- a hundred pulses in a row, each but the first on time behind the one before, carry the claim, and say
+-- such a quality; the last of them rose an element before that time, and so many pulses came behind it.
+-- The time lies at most 1.5 s before a tick
+pub record IsSentFrame (rules : Rules) (tick : ℕ) (claim : Claim) (quality end late : ℕ)
+    (pulses : List Pulse) : Type 0 where
   pub on_time : AreOnTime 100 (drop late pulses)
   pub carries : Carries rules (symbols_of_last 100 (drop late pulses)) claim
+  pub says : quality_in (symbols_of_last 100 (drop late pulses)) ≡ quality
   pub last : IsLastBefore end (drop late pulses)
   pub soon : tick ≤ end + 1500000
 
@@ -65,20 +69,23 @@ is_untrue is.Differed = true
 pub record HasSentFalsely (c : ClockRules) (rules : Rules) (t : TimelineValue) (edges : ℕ → ℕ)
     (tick : ℕ) (pulses : List Pulse) : Type 0 where
   pub claim : Claim
+  pub quality : ℕ
   pub end : ℕ
   pub late : ℕ
-  pub sent : IsSentFrame rules tick claim end late pulses
+  pub sent : IsSentFrame rules tick claim quality end late pulses
   pub never : (n : ℕ)
-      → IsNear edges (end_off_us c.within.us c.drift_us) (end_off_us c.within.us c.drift_us) (n + 1) end
+      → IsNear edges (half_us c quality + element_drift c.drift_us)
+      (half_us c quality + element_drift c.drift_us) (n + 1) end
       → ¬ IsSecond t n claim.at
 
 -- it sent one whose last pulse does not rise 990 ms behind its first one
 pub record HasSentUnevenly (c : ClockRules) (rules : Rules) (tick : ℕ) (pulses : List Pulse)
     : Type 0 where
   pub claim : Claim
+  pub quality : ℕ
   pub end : ℕ
   pub late : ℕ
-  pub sent : IsSentFrame rules tick claim end late pulses
+  pub sent : IsSentFrame rules tick claim quality end late pulses
   pub uneven : ¬ AreEven c.within.us c.drift_us (drop late pulses)
 
 -- it sent a frame of T(n), which ended at one of two told edges; the frame ends as near the edge of
@@ -88,13 +95,14 @@ pub record HasSentTruly (c : ClockRules) (s : ClockState) (rules : Rules) (t : T
   pub told : Announced
   pub is_told : (s.ended ≡ Some told) ⊎ (s.ended_before ≡ Some told)
   pub claim : Claim
+  pub quality : ℕ
   pub end : ℕ
   pub late : ℕ
-  pub sent : IsSentFrame rules tick claim end late pulses
+  pub sent : IsSentFrame rules tick claim quality end late pulses
   pub n : ℕ
   pub second : IsSecond t n claim.at
-  pub near : IsNear edges (end_off_us c.within.us c.drift_us + 2 * told.bound_us)
-      (end_off_us c.within.us c.drift_us + 2 * told.bound_us) (n + 1) end
+  pub near : IsNear edges (half_us c quality + element_drift c.drift_us + 2 * told.bound_us)
+      (half_us c quality + element_drift c.drift_us + 2 * told.bound_us) (n + 1) end
 
 -- what is said of a line is so: if its last frame is said to be false, or uneven, it is; if the line is
 -- said to agree, that frame claims a true second and ends near its edge; and of a silent one no pulse

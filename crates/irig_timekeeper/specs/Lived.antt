@@ -1,12 +1,11 @@
 -- The life of a timekeeper as its caller knows it: what it was made of, and its calls. What the lines
 -- are on which nothing has come, nobody has to know.
 -- Source: this project's profile.
-use Rattle.std.specs.Prelude.{ℕ, List, Option}
+use Rattle.std.specs.Prelude.{ℕ, List}
 use Rattle.irig_sync.specs.Lines.{Pulse}
 use Rattle.irig_time.specs.declared.rules.Rules.{Rules}
 use Rattle.irig_time.specs.Tables.{TableValue}
 use Rattle.irig_time.specs.Timelines.{TimelineValue}
-use Rattle.irig_port.specs.declared.limits.Limits.{Limits}
 use Rattle.irig_port.specs.declared.port.Port.{Ghosts}
 use Rattle.irig_vote.specs.Vote.{f_of}
 use Rattle.irig_lines.specs.declared.setup.ClockRules.{ClockRules}
@@ -19,7 +18,6 @@ use Rattle.irig_timekeeper.specs.Truth.{IsDevice}
 
 -- what a timekeeper was made of
 pub record MadeOf : Type 0 where
-  pub limits : Option Limits
   pub rules : Rules
   pub clock : ClockRules
   pub table : TableValue
@@ -27,7 +25,6 @@ pub record MadeOf : Type 0 where
 -- the same, and the lines that it had then
 abbrev pub made_with : MadeOf → (lines : Lines) → AreNewLines lines → Made
 made_with made lines fresh = record {
-  limits = made.limits;
   rules = made.rules;
   clock = made.clock;
   table = made.table;

@@ -8,7 +8,7 @@ use Rattle.irig_timekeeper.specs.declared.stamp.Stamp.{Stamp}
 use Rattle.irig_timekeeper.specs.Keeping.{Keeping, answer_at}
 use Rattle.irig_timekeeper.specs.Life.{Call, Made, after_calls, device_of, life_of}
 use Rattle.irig_timekeeper.specs.Life.Call.{Tick}
-use Rattle.irig_lines.specs.Exactness.{vote_us}
+use Rattle.irig_lines.specs.Widths.{vote_us}
 
 -- none, if the cause is a vote; else so many
 abbrev pub unless_voted : Cause → ℕ → ℕ
@@ -38,5 +38,5 @@ pub record HasItsBound (made : Made) (calls : List Call) (stamp : Stamp) : Type 
   pub answer : answer_at (life_of made earlier) (now % 2 ^ 32) ≡ Some beat
   pub says : beat.report.announce ≡ Some stamp.second
   pub bound : stamp.bound_us
-      ≤ vote_us made.clock.within.us made.clock.drift_us
+      ≤ vote_us made.clock made.clock.drift_us
       + since_vote (device_of made) (Tick now ∷ earlier) * made.clock.drift_us

@@ -24,21 +24,23 @@ use Rattle.irig_timekeeper.specs.Clock.{lasted}
 use Rattle.irig_lines.specs.Edges.{IsQuartz, IsNear, IsTrueNear}
 use Rattle.irig_lines.specs.Lines.{IfKept, IsInTurnOf}
 use Rattle.irig_lines.specs.Steps.{line_at, claim_kept}
-use Rattle.irig_lines.specs.Exactness.{vote_us, most_drift_us, most_vote_us, most_held_us}
+use Rattle.irig_lines.specs.declared.setup.ClockRules.{ClockRules}
+use Rattle.irig_lines.specs.Widths.{vote_us}
+use Rattle.irig_lines.specs.Exactness.{most_drift_us, most_vote_us, most_held_us}
 
 -- the lines keep frames of these pulses, and all but at most f of the five are such true lines; a
 -- line that is not there brought no pulse
-pub record AreHeardTruly (IsTrue : List Pulse → Type 0) (within d : ℕ) (rules : Rules) (f now : ℕ)
+pub record AreHeardTruly (IsTrue : List Pulse → Type 0) (c : ClockRules) (rules : Rules) (f now : ℕ)
     (lines : Lines) (pulses : ℕ → List Pulse)
     : Type 0 where
   pub untrue : ℕ → Bool
   pub few : count_by untrue (range_with_len 0 5) ≤ f
   pub true_lines : (i : ℕ) → i < 5 → untrue i ≡ false → IsTrue (pulses i)
   pub kept : (i : ℕ) → i < 5
-      → IfKept (IsInTurnOf now) within d rules (claim_kept within (line_at lines i).frame) (pulses i)
+      → IfKept (IsInTurnOf now) c rules (claim_kept c (line_at lines i).frame) (pulses i)
 
 -- lines claim the true second before an edge, and the edge on which they agree lies no further from it
--- than its bound, and so much more before it and behind it; it has come, at most 100 ms ago
+-- than its bound, and so much more before it and behind it; it has come, at most 103 ms ago
 pub record IsTrueVote (t : TimelineValue) (edges : ℕ → ℕ) (early late now : ℕ) (vote : Vote)
     : Type 0 where
   pub edge : ℕ
@@ -46,7 +48,7 @@ pub record IsTrueVote (t : TimelineValue) (edges : ℕ → ℕ) (early late now 
   pub truth : IsTrueNear t edges (early + vote.bound_us) (late + vote.bound_us) edge vote.claim
   pub small : vote.bound_us ≤ most_vote_us
   pub come : edge ≤ now
-  pub soon : now ≤ edge + 100000
+  pub soon : now ≤ edge + 103000
 
 -- ---- where a device stands
 
@@ -57,11 +59,11 @@ age_of (Acquiring h count) = 0
 age_of (Locked h) = h.age
 
 -- a device's edge, by a clock of 32 bits, is that of the last tick, at this time: it lies at most
--- 1.005 s back, and not ahead
+-- 1.006 s back, and not ahead
 pub record IsEdgeAt (e edge tick : ℕ) : Type 0 where
   pub clock : e ≡ edge % 2 ^ 32
   pub come : edge ≤ tick
-  pub soon : tick < edge + 1005000
+  pub soon : tick < edge + 1006000
 
 -- so is it if there is an edge
 abbrev pub IfEdgeAt : Option ℕ → ℕ → Type 0
@@ -109,7 +111,7 @@ IsOnTrack t edges early late d last rules table tick state voted (Some e) =
 -- ---- what a device tells
 
 -- the second is T(m), for an edge m that lies so near the one that is told, which has come, less than
--- 1.005 s ago
+-- 1.006 s ago
 pub record IsToldTruly (t : TimelineValue) (edges : ℕ → ℕ) (before behind now : ℕ)
     (beat : Beat) (u : UtcSecond) : Type 0 where
   pub m : ℕ
@@ -117,17 +119,17 @@ pub record IsToldTruly (t : TimelineValue) (edges : ℕ → ℕ) (before behind 
   pub clock : beat.edge_us ≡ edge % 2 ^ 32
   pub near : IsNear edges before behind m edge
   pub come : edge ≤ now
-  pub soon : now < edge + 1005000
+  pub soon : now < edge + 1006000
   pub truth : IsSecond t m u
 
 -- the same, no further from the edge than the bound that is told, and so much more before it and
 -- behind it; the bound is at most that of a vote and the drift of as many edges as the holdover has
 -- lasted
 pub record IsToldInHoldover (t : TimelineValue) (edges : ℕ → ℕ)
-    (early late within d holdover now : ℕ) (beat : Beat) (u : UtcSecond) : Type 0 where
+    (early late : ℕ) (c : ClockRules) (now : ℕ) (beat : Beat) (u : UtcSecond) : Type 0 where
   pub told : IsToldTruly t edges (early + beat.bound_us) (late + beat.bound_us) now beat u
-  pub bound : beat.bound_us ≤ vote_us within d + lasted beat.report.lock * d
-  pub few : lasted beat.report.lock ≤ holdover
+  pub bound : beat.bound_us ≤ vote_us c c.drift_us + lasted beat.report.lock * c.drift_us
+  pub few : lasted beat.report.lock ≤ c.reader_rules.holdover
 
 -- what is true of a device: its counter, the timeline, its leap table if it needs one, and its setup
 -- is not refused
@@ -155,7 +157,7 @@ pub record IsLaterSecond (t : TimelineValue) (u v : UtcSecond) : Type 0 where
   pub before : IsSecond t m u
   pub then : IsSecond t n v
 
--- each of two edges that are told has come, less than 1.005 s before its tick, and the later one lies
+-- each of two edges that are told has come, less than 1.006 s before its tick, and the later one lies
 -- half a second behind the other at least
 pub record AreApartBeats (before now : ℕ) (beat then : Beat) : Type 0 where
   pub edge : ℕ

@@ -32,7 +32,7 @@ pub struct ClockState {
     pub reader: State,
     /// The local time at which the last second began that was counted, if there was one.
     pub edge_us: Option<u32>,
-    /// How far from its true edge that of the last vote may lie, at most 899 us.
+    /// How far from its true edge that of the last vote may lie, at most 2,899 us.
     pub bound_us: u32,
     /// In which the true edge lies by all votes since one that contradicted those before it, if it
     /// is known so well that seconds can be counted by it: at most 980,000 us.
@@ -66,7 +66,7 @@ pub struct Beat {
     pub told: Tells,
     /// The local time at which the second begins.
     pub edge_us: u32,
-    /// How far from its true edge that may lie, if the second is announced: at most 490,899 us.
+    /// How far from its true edge that may lie, if the second is announced: at most 492,899 us.
     pub bound_us: u32,
     /// The seconds that passed untold before it.
     pub missed: u32,
@@ -112,7 +112,7 @@ pub fn clock_of_nothing() -> ClockState
 ///
 /// The rules have no [`fault`](irig_lines::clock_fault), each claim that a line keeps is of a
 /// [`valid`](irig_time::valid) second, a reader that is acquiring had fewer votes than it locks
-/// after, the bound of the last vote is at most 899 us, and the interval at most 980,000 us long.
+/// after, the bound of the last vote is at most 2,899 us, and the interval at most 980,000 us long.
 pub fn tick<T: Leaps>(rules: &ClockRules, table: &T, state: &mut ClockState, now_us: u32) -> Ticked
     requires steady { rules.now.drift_us ≤ most_drift_us }
     requires short { (rules.now.reader_rules.holdover + 2) * rules.now.drift_us ≤ most_held_us }

@@ -5,24 +5,23 @@ ghost use Rattle.irig_frame.specs.declared.symbol.Symbol.{Symbol};
 ghost use Rattle.irig_sync.specs.Sync.{place_of};
 ghost use Rattle.irig_time.specs.declared.rules.Rules.{Rules};
 ghost use Rattle.irig_time.specs.Seconds.{IsValid};
-ghost use Rattle.irig_port.specs.Limits.{told_within};
+ghost use Rattle.irig_port.specs.Limits.{quality_in, told_within};
 ghost use Rattle.irig_port.specs.Told.{IfClaim};
 ghost use Rattle.irig_port.specs.Hearing.{heard_at};
 ghost use Rattle.irig_vote.specs.Vote.{ports_in};
 ghost use Rattle.irig_reader.specs.Rule.{count_of};
 ghost use Rattle.irig_reader.specs.Rules.{IsReaderRules};
-ghost use Rattle.irig_lines.specs.Steps.{line_at, line_heard, AreKeptOfUtc, IsKeptOfUtc, AreNewLines};
+ghost use Rattle.irig_lines.specs.Steps.{line_at, line_heard, whole_frame, AreKeptOfUtc, IsKeptOfUtc, AreNewLines};
 ghost use Rattle.irig_timekeeper.specs.Clock.{AreSmall};
 ghost use Rattle.irig_lines.specs.Intervals.{IsShort};
 ghost use Rattle.irig_lines.specs.Exactness.{most_drift_us, most_vote_us, most_held_us};
 
 use crate::clock::{Beat, ClockState, clock_of_nothing, tick, wait_of};
-use crate::limits::VoteLimits;
 use crate::stamp::{Stamp, stamp_of};
 use crate::states::{LineState, state_of};
 use irig_lines::{
-    ClockFault, ClockRules, Line, Rate, clock_fault, corrected, delay_at, is_pulse, line_at,
-    rate_of, whole_frame, with_line,
+    ClockFault, ClockRules, KeptFrame, Line, Rate, clock_fault, corrected, delay_at, is_pulse,
+    line_at, rate_of, whole_frame, with_line,
 };
 use irig_port::{Limits, Port, Told, edge_within, hear};
 use irig_time::{LeapTable, Rules};
@@ -38,7 +37,6 @@ pub struct Timekeeper<P: Port> {
     pub(crate) d: P,
     pub(crate) e: P,
     pub(crate) rules: Rules,
-    pub(crate) limits: Option<Limits>,
     pub(crate) clock: ClockRules,
     pub(crate) table: LeapTable,
     pub(crate) state: ClockState,
@@ -55,7 +53,6 @@ impl<P: Port> Timekeeper<P> {
     ghost use Rattle.irig_lines.specs.Refusals.{clock_fault};
     ghost use Rattle.irig_lines.specs.Delays.{corrected, delay_at};
     ghost use Rattle.irig_timekeeper.specs.States.{state_of};
-    ghost use Rattle.irig_timekeeper.specs.VoteLimits.{usual_limits};
     ghost use Rattle.irig_timekeeper.specs.LineTruths.{is_untrue, IsSaidRightly};
     ghost use Rattle.irig_timekeeper.specs.Keeping.{place_told, one_pulse_more, after_pulse, after_tick, answer_at, vote_at, restarted, heard_by, with_heard, wait_at, stamp_at, rate_at};
     ghost use Rattle.irig_timekeeper.specs.Keepers.{IsKeeping, IsNew, ForKeeping, Goes};
@@ -73,39 +70,14 @@ impl<P: Port> Timekeeper<P> {
     ghost use Rattle.irig_time.specs.declared.second.UtcSecond.{UtcSecond};
 
     /// A timekeeper to which nothing has happened, with reader's rules that are
-    /// [`in_range`](irig_reader::in_range); or the setup's [`first fault`](clock_fault). A frame of time
-    /// quality 7 or worse has no vote ([`usual`](VoteLimits::usual)).
+    /// [`in_range`](irig_reader::in_range); or the setup's [`first fault`](clock_fault).
     pub fn new(rules: Rules, clock: ClockRules, table: LeapTable) -> Result<Self, ClockFault>
         requires { IsReaderRules clock.reader_rules }
         ensures new { MatchResult result
             (λ keeper. (clock_fault clock.reader_rules clock.drift_us ≡ None)
-            × IsNew keeper (Some usual_limits) rules clock table)
+            × IsNew keeper rules clock table)
             (λ fault. clock_fault clock.reader_rules clock.drift_us ≡ Some fault) }
         ensures lived { IfOk result (λ keeper. HasLived keeper (record {
-          limits = Some usual_limits;
-          rules = rules;
-          clock = clock;
-          table = table;
-        }) []) }
-    {
-        Timekeeper::new_within(rules, clock, table, VoteLimits::usual())
-    }
-
-    /// The same, whose lines give no frame a vote that does not lie within these limits
-    /// ([`edge_within`]).
-    pub fn new_within(
-        rules: Rules,
-        clock: ClockRules,
-        table: LeapTable,
-        limits: VoteLimits,
-    ) -> Result<Self, ClockFault>
-        requires { IsReaderRules clock.reader_rules }
-        ensures new { MatchResult result
-            (λ keeper. (clock_fault clock.reader_rules clock.drift_us ≡ None)
-            × IsNew keeper (Some limits.limits) rules clock table)
-            (λ fault. clock_fault clock.reader_rules clock.drift_us ≡ Some fault) }
-        ensures lived { IfOk result (λ keeper. HasLived keeper (record {
-          limits = Some limits.limits;
           rules = rules;
           clock = clock;
           table = table;
@@ -121,7 +93,6 @@ impl<P: Port> Timekeeper<P> {
             d: P::fresh(rules),
             e: P::fresh(rules),
             rules,
-            limits: Some(limits.limits),
             clock,
             table,
             state: clock_of_nothing(),
@@ -176,7 +147,9 @@ impl<P: Port> Timekeeper<P> {
           heard = with_heard k.heard port (heard_at result (heard_by k.heard port) width_us);
         }) }
         ensures line { ForKeeping self.old (λ k. line.new ≡ line_heard k.clock line.old rise_us
-            width_us (told_within k.limits k.rules (heard_at result (heard_by k.heard port) width_us))) }
+            width_us (told_within (Some k.clock.limits.limits) k.rules
+            (heard_at result (heard_by k.heard port) width_us))
+            (quality_in (heard_at result (heard_by k.heard port) width_us))) }
         ensures valid { IsKeptOfUtc line.new.frame }
         ensures state { self.new.state ≡ self.old.state }
         ensures lines { self.new.clock ≡ self.old.clock }
@@ -185,7 +158,6 @@ impl<P: Port> Timekeeper<P> {
             0 => hear_line(
                 &self.clock,
                 self.rules,
-                self.limits,
                 &mut self.a,
                 line,
                 rise_us,
@@ -194,7 +166,6 @@ impl<P: Port> Timekeeper<P> {
             1 => hear_line(
                 &self.clock,
                 self.rules,
-                self.limits,
                 &mut self.b,
                 line,
                 rise_us,
@@ -203,7 +174,6 @@ impl<P: Port> Timekeeper<P> {
             2 => hear_line(
                 &self.clock,
                 self.rules,
-                self.limits,
                 &mut self.c,
                 line,
                 rise_us,
@@ -212,7 +182,6 @@ impl<P: Port> Timekeeper<P> {
             3 => hear_line(
                 &self.clock,
                 self.rules,
-                self.limits,
                 &mut self.d,
                 line,
                 rise_us,
@@ -221,7 +190,6 @@ impl<P: Port> Timekeeper<P> {
             _ => hear_line(
                 &self.clock,
                 self.rules,
-                self.limits,
                 &mut self.e,
                 line,
                 rise_us,
@@ -244,8 +212,7 @@ impl<P: Port> Timekeeper<P> {
             → now_us ≡ now % 2 ^ 32
             → LivesWell (IsTrueLately made.clock.within.us) t edges made start (Tick now ∷ calls)
             → result ≡ Some beat → beat.report.announce ≡ Some u
-            → IsToldInHoldover t edges 0 0 made.clock.within.us made.clock.drift_us
-            made.clock.reader_rules.holdover now beat u }
+            → IsToldInHoldover t edges 0 0 made.clock now beat u }
         // While lines are true nothing is in doubt (`what_strays_is_not_held`).
         ensures rule { (t : TimelineValue) (edges : ℕ → ℕ) (made : MadeOf) (start now : ℕ)
             (calls : List Call) (beat : Beat) → HasLived self.old made calls
@@ -264,12 +231,12 @@ impl<P: Port> Timekeeper<P> {
     }
 
     /// How long until a tick has something to do, if no call comes before it, in microseconds: at
-    /// most 1,005,000 at a time at which a tick may come.
+    /// most 1,006,000 at a time at which a tick may come.
     pub fn wait(&self, now_us: u32) -> u32
         ensures value { ForKeeping self.now (λ k. result ≡ wait_at k now_us) }
         ensures most { (made : MadeOf) (start now : ℕ) (calls : List Call)
             → HasLived self.now made calls → now_us ≡ now % 2 ^ 32
-            → AreInOrder start made.clock.redundancy (Tick now ∷ calls) → result ≤ 1005000 }
+            → AreInOrder start made.clock.redundancy (Tick now ∷ calls) → result ≤ 1006000 }
     {
         wait_of(&self.clock, &self.state, now_us)
     }
@@ -381,7 +348,6 @@ impl<P: Port> Timekeeper<P> {
 fn hear_line<P: Port>(
     clock: &ClockRules,
     rules: Rules,
-    limits: Option<Limits>,
     port: &mut P,
     line: &mut Line,
     rise_us: u32,
@@ -390,9 +356,10 @@ fn hear_line<P: Port>(
     requires valid { IsKeptOfUtc line.old.frame }
     requires steady { clock.now.drift_us ≤ most_drift_us }
     ensures place { result ≡ place_of line.old.sync rise_us width_us }
-    ensures line { (l : Option Limits) (r : Rules) (s : List Symbol) → P.stands_for port.old r s
-        → limits ≡ l → rules ≡ r → line.new ≡ line_heard clock.now line.old rise_us width_us
-        (told_within l r (heard_at result s width_us)) }
+    ensures line { (r : Rules) (s : List Symbol) → P.stands_for port.old r s → rules ≡ r
+        → line.new ≡ line_heard clock.now line.old rise_us width_us
+        (told_within (Some clock.now.limits.limits) r (heard_at result s width_us))
+        (quality_in (heard_at result s width_us)) }
     ensures heard { (r : Rules) (s : List Symbol) → P.stands_for port.old r s
         → P.stands_for port.new r (heard_at result s width_us) }
     ensures valid { IsKeptOfUtc line.new.frame }
@@ -403,23 +370,43 @@ fn hear_line<P: Port>(
         line.begin_us = rise_us;
     }
     if place == 100 {
-        let told = told_by(rules, limits, port);
-        let frame = whole_frame(clock, line.begin_us, rise_us, told);
+        let frame = frame_told(clock, rules, port, line.begin_us, rise_us);
         line.frame = Some(frame);
         line.seen = Some(frame);
     }
     place
 }
 
+// The frame whose first and last pulses rose then, as a port tells it; it keeps what it heard.
+fn frame_told<P: Port>(
+    clock: &ClockRules,
+    rules: Rules,
+    port: &mut P,
+    begin_us: u32,
+    rise_us: u32,
+) -> KeptFrame
+    requires { clock.now.drift_us ≤ most_drift_us }
+    ensures frame { (r : Rules) (s : List Symbol) → P.stands_for port.old r s → rules ≡ r
+        → result ≡ whole_frame clock.now begin_us rise_us
+        (told_within (Some clock.now.limits.limits) r s) (quality_in s) }
+    ensures kept { (r : Rules) (s : List Symbol) → P.stands_for port.old r s
+        → P.stands_for port.new r s }
+    ensures valid { IsKeptOfUtc (Some result) }
+{
+    let quality = port.quality();
+    let told = told_by(rules, clock.limits.limits(), port);
+    whole_frame(clock, begin_us, rise_us, told, quality)
+}
+
 // What a port would tell; it keeps what it heard.
-fn told_by<P: Port>(rules: Rules, limits: Option<Limits>, port: &mut P) -> Told
-    ensures told { (r : Rules) (s : List Symbol) → P.stands_for port.old r s
-        → result ≡ told_within limits rules s }
+fn told_by<P: Port>(rules: Rules, limits: Limits, port: &mut P) -> Told
+    ensures told { (r : Rules) (s : List Symbol) → P.stands_for port.old r s → rules ≡ r
+        → result ≡ told_within (Some limits) r s }
     ensures kept { (r : Rules) (s : List Symbol) → P.stands_for port.old r s
         → P.stands_for port.new r s }
     ensures valid { IfClaim result (λ claim. IsValid claim.at) }
 {
     let mut other = P::fresh(rules);
     other.take_over(port);
-    edge_within(&mut other, limits)
+    edge_within(&mut other, Some(limits))
 }

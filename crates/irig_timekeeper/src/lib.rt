@@ -9,14 +9,12 @@
 mod check;
 mod clock;
 mod keeper;
-mod limits;
 mod quality;
 mod stamp;
 mod states;
 
 pub use clock::{Beat, ClockState, Ticked, clock_of_nothing, tick, wait_of};
 pub use keeper::Timekeeper;
-pub use limits::VoteLimits;
 pub use quality::quality_of;
 pub use stamp::{Announced, Stamp, stamp_of};
 pub use states::{LineState, state_of, state_seen};

@@ -13,7 +13,7 @@ pub struct Announced {
     pub second: UtcSecond,
     /// The local time at which it begins.
     pub edge_us: u32,
-    /// How far from its true edge that may lie, at most 490,899 us.
+    /// How far from its true edge that may lie, at most 492,899 us.
     pub bound_us: u32,
 }
 

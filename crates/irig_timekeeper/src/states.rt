@@ -30,7 +30,8 @@ pub enum LineState {
     Unjudged,
     /// It claims the second that ended at the told edge, and ends there.
     Agreed,
-    /// It claims that second, but ends further from that edge than a true line's frame.
+    /// It claims that second, but ends further from that edge than a true line's frame of its
+    /// quality.
     Apart,
     /// It claims another second.
     Differed,
@@ -44,13 +45,13 @@ fn is_near(off_us: u32, edge_us: u32, end_us: u32) -> bool
     edge_us.wrapping_add(off_us).wrapping_sub(end_us) <= 2 * off_us
 }
 
-fn state_near(rules: &ClockRules, end_us: u32, told: Announced) -> LineState
+fn state_near(rules: &ClockRules, frame: &KeptFrame, told: Announced) -> LineState
     requires steady { rules.now.drift_us ≤ most_drift_us }
     requires small { told.bound_us ≤ most_vote_us + most_held_us }
-    ensures { result ≡ state_near rules.now end_us told }
+    ensures { result ≡ state_near rules.now frame.now.quality frame.now.end_us told }
 {
-    let off_us = rules.end_off_us() + told.bound_us;
-    if is_near(off_us, told.edge_us, end_us) {
+    let off_us = rules.half_us(frame.quality) + rules.drift_us.div_ceil(100) + told.bound_us;
+    if is_near(off_us, told.edge_us, frame.end_us) {
         LineState::Agreed
     } else {
         LineState::Apart
@@ -68,17 +69,17 @@ fn is_later(time_us: u32, later_us: u32) -> bool
 fn state_before(
     rules: &ClockRules,
     claim: Claim,
-    end_us: u32,
+    frame: &KeptFrame,
     edge_us: u32,
     before: Option<Announced>,
 ) -> LineState
     requires steady { rules.now.drift_us ≤ most_drift_us }
     requires small { ForSome before (λ a. a.bound_us ≤ most_vote_us + most_held_us) }
-    ensures { result ≡ state_before rules.now claim end_us edge_us before }
+    ensures { result ≡ state_before rules.now claim frame.now.quality frame.now.end_us edge_us before }
 {
     match before {
-        Some(told) if claim.at == told.second => state_near(rules, end_us, told),
-        None if is_later(end_us, edge_us) => LineState::Unjudged,
+        Some(told) if claim.at == told.second => state_near(rules, frame, told),
+        None if is_later(frame.end_us, edge_us) => LineState::Unjudged,
         _ => LineState::Differed,
     }
 }
@@ -86,23 +87,23 @@ fn state_before(
 fn state_claiming(
     rules: &ClockRules,
     claim: Claim,
-    end_us: u32,
+    frame: &KeptFrame,
     ended: Option<Announced>,
     before: Option<Announced>,
 ) -> LineState
     requires steady { rules.now.drift_us ≤ most_drift_us }
     requires small { AreSmallEnds ended before }
-    ensures { result ≡ state_claiming rules.now claim end_us ended before }
+    ensures { result ≡ state_claiming rules.now claim frame.now.quality frame.now.end_us ended before }
 {
     let Some(told) = ended else {
         return LineState::Unjudged;
     };
-    if is_later(told.edge_us, end_us) {
+    if is_later(told.edge_us, frame.end_us) {
         LineState::Unjudged
     } else if claim.at == told.second {
-        state_near(rules, end_us, told)
+        state_near(rules, frame, told)
     } else {
-        state_before(rules, claim, end_us, told.edge_us, before)
+        state_before(rules, claim, frame, told.edge_us, before)
     }
 }
 
@@ -131,13 +132,7 @@ pub fn state_seen(
         Told::Silence => LineState::Broken,
         Told::Fault(_) => LineState::Faulty,
         Told::Poor(_) => LineState::Poor,
-        Told::Claim(claim) if frame.is_even => state_claiming(
-            rules,
-            claim,
-            frame.end_us,
-            ended,
-            before,
-        ),
+        Told::Claim(claim) if frame.is_even => state_claiming(rules, claim, &frame, ended, before),
         Told::Claim(_) => LineState::Uneven,
     }
 }

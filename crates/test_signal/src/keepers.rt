@@ -8,11 +8,13 @@ ghost use Rattle.irig_vote.specs.declared.redundancy.Redundancy.TheVariants.{Thr
 
 use irig_frame::Symbol;
 use irig_gen::{GenFault, Generator, Zone};
-use irig_lines::{ClockFault, ClockRules, NO_DELAYS, Within, clock_fault, nearest_within};
+use irig_lines::{
+    ClockFault, ClockRules, NO_DELAYS, VoteLimits, Within, clock_fault, nearest_within,
+};
 use irig_port::{FlowPort, Limits};
 use irig_reader::{Cause, ReaderRules};
 use irig_time::{Leap, LeapTable, Rules, Timeline, UtcSecond};
-use irig_timekeeper::{Beat, LineState, Timekeeper, VoteLimits};
+use irig_timekeeper::{Beat, LineState, Timekeeper};
 use irig_vote::Redundancy;
 use std::test::Fail;
 
@@ -29,6 +31,13 @@ fn clock() -> ClockRules
     ensures reader { IsReaderRules result.reader_rules }
     ensures lines { result.redundancy ≡ Three }
 {
+    clock_within(VoteLimits::usual())
+}
+
+fn clock_within(limits: VoteLimits) -> ClockRules
+    ensures reader { IsReaderRules result.reader_rules }
+    ensures lines { result.redundancy ≡ Three }
+{
     ClockRules {
         reader_rules: ReaderRules {
             lock_after: 3,
@@ -36,6 +45,7 @@ fn clock() -> ClockRules
         },
         redundancy: Redundancy::Three,
         within: nearest_within(450),
+        limits,
         drift_us: 100,
         delays: NO_DELAYS,
         prefers_frames: false,
@@ -127,7 +137,7 @@ fn it_locks_holds_and_comes_back(rt: HostRuntime) -> Result<(), Fail> {
         };
         assert!(rt; row(&keeper, &beat, next_us) == expected(n + 1));
         assert!(rt; beat.missed == 0 && beat.moved == 0);
-        assert!(rt; keeper.wait(next_us.wrapping_add(200_000)) <= 1_005_000);
+        assert!(rt; keeper.wait(next_us.wrapping_add(200_000)) <= 1_006_000);
     }
     keeper.restart();
     assert!(rt; keeper.tick(BEGIN_US).is_none() && keeper.stamp(BEGIN_US).is_none());
@@ -220,25 +230,29 @@ fn clocks_that_ignore_a_leap_are_followed_behind_it(rt: HostRuntime) -> Result<(
     Ok(())
 }
 
-/// What a line is behind a frame whose clock says this quality, in a device with these limits.
+/// What a line is behind a frame whose clock says this quality, in a device with these limits; and how
+/// far off the edge of a vote may lie by two such lines, 0 if they have none.
 fn line_heard(
     clocks: &mut Generator,
     shown: &Timeline,
     quality: u8,
     limits: VoteLimits,
-) -> Option<LineState> {
-    let Ok(mut keeper) = Timekeeper::<FlowPort>::new_within(
+) -> Option<(LineState, u32)> {
+    let Ok(mut keeper) = Timekeeper::<FlowPort>::new(
         Rules::PLAIN,
-        clock(),
+        clock_within(limits),
         LeapTable::empty(),
-        limits,
     ) else {
         return None;
     };
     clocks.fault(GenFault::Quality(quality));
     let frame = clocks.frame(shown)?;
     tell_frame(&mut keeper, frame, BEGIN_US);
-    Some(keeper.line(0))
+    let state = keeper.line(0);
+    match poll(&mut keeper, BEGIN_US.wrapping_add(SECOND_US)) {
+        Some(beat) => Some((state, beat.bound_us)),
+        None => Some((state, 0)),
+    }
 }
 
 fn limits_from(poor_from: u8) -> Option<VoteLimits> {
@@ -248,7 +262,8 @@ fn limits_from(poor_from: u8) -> Option<VoteLimits> {
     })
 }
 
-/// Without a setting quality 7 has no vote, which is 1 ms; and by none has 8, which is 10 ms.
+/// Without a setting quality 7 has no vote, which is 1 ms; and by none has 8, which is 10 ms. The bound
+/// of a vote is 850 us, as in the test above, and as much more as the clocks may be off.
 #[test]
 fn clocks_that_say_that_they_are_off_are_poor(rt: HostRuntime) -> Result<(), Fail> {
     let zone = Zone {
@@ -263,13 +278,16 @@ fn clocks_that_say_that_they_are_off_are_poor(rt: HostRuntime) -> Result<(), Fai
         return Err(Fail::from("no plant"));
     };
     let rows = [
-        (6, VoteLimits::usual(), LineState::Unjudged),
-        (7, VoteLimits::usual(), LineState::Poor),
-        (7, widest, LineState::Unjudged),
-        (8, widest, LineState::Poor),
+        (0, VoteLimits::usual(), LineState::Unjudged, 850),
+        (4, VoteLimits::usual(), LineState::Unjudged, 851),
+        (5, VoteLimits::usual(), LineState::Unjudged, 860),
+        (6, VoteLimits::usual(), LineState::Unjudged, 950),
+        (7, VoteLimits::usual(), LineState::Poor, 0),
+        (7, widest, LineState::Unjudged, 1_850),
+        (8, widest, LineState::Poor, 0),
     ];
-    for (quality, limits, state) in rows {
-        assert!(rt; line_heard(&mut clocks, &shown, quality, limits) == Some(state));
+    for (quality, limits, state, bound_us) in rows {
+        assert!(rt; line_heard(&mut clocks, &shown, quality, limits) == Some((state, bound_us)));
     }
     assert!(rt; limits_from(9).is_none());
     Ok(())

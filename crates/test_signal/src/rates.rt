@@ -6,7 +6,7 @@ ghost use Rattle.irig_vote.specs.declared.redundancy.Redundancy.TheVariants.{Thr
 
 use irig_frame::Symbol;
 use irig_gen::{Generator, Zone};
-use irig_lines::{ClockRules, NO_DELAYS, nearest_within};
+use irig_lines::{ClockRules, NO_DELAYS, VoteLimits, nearest_within};
 use irig_port::FlowPort;
 use irig_reader::ReaderRules;
 use irig_time::{LeapTable, Rules, Timeline, UtcSecond};
@@ -83,6 +83,7 @@ fn a_counter_that_is_37_ppm_fast_is_measured(rt: HostRuntime) -> Result<(), Fail
         },
         redundancy: Redundancy::Three,
         within: nearest_within(10),
+        limits: VoteLimits::usual(),
         drift_us: 50,
         delays: NO_DELAYS,
         prefers_frames: false,

@@ -1,12 +1,12 @@
-use Rattle.std.proofs.Common.{◌≡◌, ◌∙◌, sym, ap, subst, arith}
+use Rattle.std.proofs.Common.{◌≡◌, ◌∙◌, Some, sym, ap, subst, arith}
 use Rattle.c_numbers.specs.declared.state.IrigState.{IrigState}
 use Rattle.c_numbers.specs.declared.setup.IrigSetup.{IrigSetup}
 use Rattle.c_numbers.specs.States.{state_in, IsState}
-use Rattle.c_numbers.specs.Setups.{keeper_limits_in, rules_in}
+use Rattle.c_numbers.specs.Setups.{rules_in}
 use Rattle.c_lines.specs.declared.line.IrigLines.{IrigLines}
 use Rattle.c_keeper.specs.declared.timekeeper.IrigTimekeeper.{IrigTimekeeper}
 use Rattle.c_lines.specs.Lines.{frames_in, lines_in, KeepNoMore}
-use Rattle.c_keeper.specs.Timekeepers.{edge_in}
+use Rattle.c_keeper.specs.Timekeepers.{edge_in, vote_limits_in}
 use Rattle.c_keeper.proofs.timekeeper.keep.Goals as goal
 
 pub returns-clause-is_state : goal.returns-clause-is_state
@@ -30,8 +30,8 @@ returns-clause-lines c read kept is =
     let setup = c.args.timekeeper.now.setup in
     let same_setup : q.setup ≡ setup = ap (λ (t : IrigTimekeeper). t.setup) others_then ∙ ap (λ (t : IrigTimekeeper). t.setup) others in
     let same_lines : q.lines ≡ c.keep_lines.new.lines = ap (λ (t : IrigTimekeeper). t.lines) others_then ∙ ap (λ (t : IrigTimekeeper). t.lines) others in
-    ap (λ (s : IrigSetup). lines_in (keeper_limits_in s) (rules_in s) q.lines) same_setup
-    ∙ (ap (λ (ls : IrigLines). lines_in (keeper_limits_in setup) (rules_in setup) ls) same_lines ∙ c.keep_lines.ensures.lines (keeper_limits_in setup) (rules_in setup) read kept is)
+    ap (λ (s : IrigSetup). lines_in (Some (vote_limits_in s).limits) (rules_in s) q.lines) same_setup
+    ∙ (ap (λ (ls : IrigLines). lines_in (Some (vote_limits_in setup).limits) (rules_in setup) ls) same_lines ∙ c.keep_lines.ensures.lines (Some (vote_limits_in setup).limits) (rules_in setup) read kept is)
 
 pub returns-clause-frames : goal.returns-clause-frames
 returns-clause-frames c =

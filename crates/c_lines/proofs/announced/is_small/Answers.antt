@@ -12,5 +12,5 @@ pub returns-else-announced-eq0 : goal.returns-else-announced-eq0
 returns-else-announced-eq0 c =
     let a = c.args.announced.now in
     let there : (a.is_told == 0) ≡ false = search rules in
-    let same = small (a.is_told == 0) 490899 (record { second = record { day = a.day; sod = a.sod }; edge_us = a.edge_us; bound_us = a.bound_us }) there in
-    (λ low. same.0 (let le : a.bound_us ≤ 490899 = search rules in le), λ h. (let le : a.bound_us ≤ 490899 = same.1 h in search rules))
+    let same = small (a.is_told == 0) 492899 (record { second = record { day = a.day; sod = a.sod }; edge_us = a.edge_us; bound_us = a.bound_us }) there in
+    (λ low. same.0 (let le : a.bound_us ≤ 492899 = search rules in le), λ h. (let le : a.bound_us ≤ 492899 = same.1 h in search rules))

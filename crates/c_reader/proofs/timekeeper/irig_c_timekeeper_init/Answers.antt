@@ -7,14 +7,14 @@ use Rattle.c_numbers.specs.declared.setup.IrigSetup.{IrigSetup}
 use Rattle.c_numbers.specs.declared.state.IrigState.{IrigState}
 use Rattle.c_numbers.specs.declared.table.IrigTable.{IrigTable}
 use Rattle.c_numbers.specs.LeapTables.{table_in}
-use Rattle.c_numbers.specs.Setups.{keeper_limits_in, rules_in, reader_rules_in, IsKeeperSetup}
+use Rattle.c_numbers.specs.Setups.{rules_in, reader_rules_in, IsKeeperSetup}
 use Rattle.c_keeper.specs.CheckWord.{check_of}
 use Rattle.c_lines.specs.Lines.{lines_in}
 use Rattle.c_keeper.specs.Lives.{made_in}
 use Rattle.c_keeper.specs.declared.timekeeper.IrigWires.{IrigWires}
-use Rattle.c_keeper.specs.Timekeepers.{clock_in, AreWires}
+use Rattle.c_keeper.specs.Timekeepers.{clock_in, vote_limits_in, AreWires}
 use Rattle.c_keeper.proofs.LivedLaws.{lived_new}
-use Rattle.c_keeper.proofs.ValueLaws.{none_announced, none_small}
+use Rattle.c_keeper.proofs.ValueLaws.{none_announced, none_small, same_limits}
 use Rattle.c_reader.proofs.timekeeper.irig_c_timekeeper_init.Goals as goal
 
 none_of : (o : Option ClockFault) → is_some o ≡ false → o ≡ None
@@ -31,11 +31,10 @@ returns-clause-fresh c done =
     let steady : clock_fault (reader_rules_in c.args.setup.now) c.args.wires.now.drift_us ≡ None = sym (c.clock_fault.ensures ∙ (ap (λ (r : ReaderRules). clock_fault r c.from.result) c.reader_rules_of.ensures ∙ ap (clock_fault (reader_rules_in c.args.setup.now)) c.from.ensures)) ∙ none_of c.clock_fault.result (sym c.is_some.ensures ∙ c.if-is_some.false) in
     record {
       rules = ap (λ (s : IrigSetup). rules_in s) new.setup;
-      limits = ap (λ (s : IrigSetup). keeper_limits_in s) new.setup;
       clock = refl;
       table = ap (λ (t : IrigTable). table_in t) new.table;
       heard = new.heard;
-      state = new.state ∙ ap (λ (s : IrigSetup). new_state (lines_in (keeper_limits_in s) (rules_in s) q.lines)) new.setup;
+      state = new.state ∙ ap (λ (s : IrigSetup). new_state (lines_in (Some (vote_limits_in s).limits) (rules_in s) q.lines)) new.setup;
       accepted = record {
         setup = subst (λ (s : IrigSetup). IsKeeperSetup s) (sym new.setup) is_setup;
         wires = subst AreWires (sym new.wires) wires;
@@ -52,6 +51,17 @@ returns-clause-fresh c done =
         sealed = c.check_of-timekeeper.ensures;
       };
     }
+
+pub returns-clause-exact : goal.returns-clause-exact
+returns-clause-exact c done =
+    let new = c.forget.ensures in
+    let is_setup : IsKeeperSetup c.args.setup.now = search rules in
+    let wires : AreWires c.args.wires.now = search rules in
+    let same : c.forget.new.timekeeper.wires.within_us ≡ c.args.wires.now.within_us = ap (λ (w : IrigWires). w.within_us) new.wires in
+    (omega (arith, same, wires.0, wires.1.0), ap (λ (s : IrigSetup). (vote_limits_in s).limits) new.setup ∙ same_limits c.args.setup.now is_setup)
+
+pub returns-clause-lines : goal.returns-clause-lines
+returns-clause-lines c limits rules done = c.forget.ensures.lines limits rules
 
 pub returns-clause-lived : goal.returns-clause-lived
 returns-clause-lived c done =

@@ -4,7 +4,7 @@ use Rattle.irig_timekeeper.specs.Life.{life_of}
 use Rattle.irig_timekeeper.specs.Lived.{made_with}
 use Rattle.c_keeper.specs.Lives.{calls_of}
 use Rattle.c_keeper.proofs.RowLaws.{none_lost_faulty, none_lost_truly}
-use Rattle.c_keeper.proofs.StampedLaws.{bounded_as, sound_device, stamped_as, stamped_faulty, stamped_off, stamped_together, stamped_truly}
+use Rattle.c_keeper.proofs.StampedLaws.{bounded_as, sound_device, stamped_as, stamped_faulty, stamped_off, stamped_quality, stamped_together, stamped_truly}
 use Rattle.c_reader.proofs.timekeeper.irig_c_timekeeper_stamp.Goals as goal
 
 pub returns-in-Some-clause-truth : goal.returns-in-Some-clause-truth
@@ -36,6 +36,13 @@ returns-in-Some-clause-clocks_off c t edges made off start time now past found f
     let k : Keeping = life_of (made_with made h.lines h.fresh) (calls_of past) in
     let at = sym (stamped_as q k c.args.time_us h.is) ∙ (sym c.in-Some.ensures.value ∙ (sym c.stamp_for_c.ensures ∙ e)) in
     stamped_off q t edges made start time now past found h (ap (stamp_at k) (sym clock) ∙ at) off few lives
+
+pub returns-in-Some-clause-quality : goal.returns-in-Some-clause-quality
+returns-in-Some-clause-quality c t edges made start time now past found h clock lives e =
+    let q = c.args.timekeeper.now in
+    let k : Keeping = life_of (made_with made h.lines h.fresh) (calls_of past) in
+    let at = sym (stamped_as q k c.args.time_us h.is) ∙ (sym c.in-Some.ensures.value ∙ (sym c.stamp_for_c.ensures ∙ e)) in
+    stamped_quality q t edges made start time now past found h (ap (stamp_at k) (sym clock) ∙ at) lives
 
 pub returns-in-Some-clause-together : goal.returns-in-Some-clause-together
 returns-in-Some-clause-together c t edges others made start time now e n tau there past found other h clock lives says here quartz same is =

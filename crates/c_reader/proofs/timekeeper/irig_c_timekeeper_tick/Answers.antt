@@ -3,9 +3,10 @@ use Rattle.std.proofs.Common.{cond, ◌≡◌, ◌∙◌, ◌∷◌, ◌++◌, �
 use Rattle.irig_sync.specs.Lines.{Pulse}
 use Rattle.irig_time.specs.declared.claim.Claim.{Claim}
 use Rattle.irig_time.specs.Timelines.{IsSecond}
-use Rattle.irig_lines.specs.Clocks.{IsTrueByItsClock}
+use Rattle.irig_lines.specs.Clocks.{IsTrueByItsClock, IsTrueByItsQuality}
 use Rattle.irig_reader.specs.declared.report.Report.{Report}
-use Rattle.irig_lines.specs.Exactness.{fault_early_us, fault_late_us, vote_us}
+use Rattle.irig_lines.specs.Exactness.{fault_early_us, fault_late_us}
+use Rattle.irig_lines.specs.Widths.{vote_us}
 use Rattle.irig_timekeeper.specs.Clock.{claim_voted, vote_of_lines}
 use Rattle.irig_lines.specs.declared.lines.Vote.{Vote}
 use Rattle.irig_timekeeper.specs.declared.clock.Beat.{Beat}
@@ -19,17 +20,18 @@ use Rattle.irig_lines.specs.declared.setup.ClockRules.{ClockRules}
 use Rattle.irig_timekeeper.specs.Lived.{made_with}
 use Rattle.irig_timekeeper.proofs.DoubtLaws.{says_nothing}
 use Rattle.irig_timekeeper.proofs.GuardedTicks.{tick_guards_vote}
-use Rattle.irig_lines.proofs.LineLaws.{true_lately, true_by_any}
+use Rattle.irig_lines.proofs.LineLaws.{true_by_any}
 use Rattle.irig_timekeeper.proofs.LivedLaws.{as_made}
 use Rattle.irig_timekeeper.proofs.StateLaws.{true_at_tick}
-use Rattle.irig_timekeeper.proofs.StrayLaws.{never_strays}
+use Rattle.irig_timekeeper.proofs.ClockLines.{qualities_are_even, qualities_tell_truly}
+use Rattle.irig_timekeeper.proofs.StrayLaws.{never_strays, no_strays}
 use Rattle.irig_timekeeper.proofs.VotedLaws.{nearer, tick_voted, tick_voted_by}
 use Rattle.c_numbers.specs.declared.setup.IrigSetup.{IrigSetup}
 use Rattle.c_numbers.specs.declared.table.IrigTable.{IrigTable}
 use Rattle.c_numbers.specs.LeapTables.{table_in}
 use Rattle.c_numbers.specs.Numbers.{sense_in}
 use Rattle.c_numbers.specs.Reports.{report_in}
-use Rattle.c_numbers.specs.Setups.{keeper_limits_in, redundancy_in, rules_in, IsKeeperSetup}
+use Rattle.c_numbers.specs.Setups.{redundancy_in, rules_in, IsKeeperSetup}
 use Rattle.c_keeper.specs.declared.second.IrigSecond.{IrigSecond}
 use Rattle.c_keeper.specs.declared.timekeeper.IrigTimekeeper.{IrigTimekeeper}
 use Rattle.c_keeper.specs.CheckWord.{check_of}
@@ -42,7 +44,7 @@ use Rattle.c_keeper.specs.Timekeepers.{answer_in, clock_in, clock_state_in, AreW
 use Rattle.c_keeper.proofs.AbsentLaws.{all_heard, pulses_there}
 use Rattle.c_keeper.proofs.AnnouncedLaws.{has_announced, has_announced_by_wait}
 use Rattle.c_keeper.proofs.LivedLaws.{lived_tick}
-use Rattle.c_keeper.proofs.LivesLaws.{announced_beat, clock_lines, faulty_lines, tells_truly, tells_in_order, tells_calmly, tells_apart, whole_lines}
+use Rattle.c_keeper.proofs.LivesLaws.{announced_beat, clock_lines, faulty_lines, quality_lines, tells_truly, tells_in_order, tells_calmly, tells_apart, whole_lines}
 use Rattle.c_keeper.proofs.StampedLaws.{lasts_as}
 use Rattle.c_keeper.proofs.ValueLaws.{answers_as, beat_of, clock_as, stands_as, steady_as}
 use Rattle.c_reader.proofs.MaskLaws.{in_no_mask}
@@ -78,7 +80,6 @@ returns-clause-after c k h =
     let new = c.tick_accepted.ensures.left in
     record {
       rules = ap (λ (s : IrigSetup). rules_in s) new.setup ∙ h.rules;
-      limits = ap (λ (s : IrigSetup). keeper_limits_in s) new.setup ∙ h.limits;
       clock = clock_as t q new.setup new.wires ∙ h.clock;
       table = ap (λ (x : IrigTable). table_in x) new.table ∙ h.table;
       heard = new.heard k.heard h.heard;
@@ -129,7 +130,6 @@ returns-clause-lines c beat done = c.tick_accepted.ensures.given.lines beat
 abbrev value_of : IrigTimekeeper → Keeping
 value_of t = record {
   rules = rules_in t.setup;
-  limits = keeper_limits_in t.setup;
   clock = clock_in t;
   table = table_in t.table;
   heard = nothing_heard;
@@ -181,7 +181,7 @@ returns-clause-truth c t edges now pulses u done clock steady sound some told vo
     let found = beat_of c.tick_accepted.result (answer_in numbers c.args.now_us) c.tick_accepted.ensures.given.said told in
     let beat = found.0 in
     let is_told = tick_voted IsTrue t edges k 0 0 (omega arith) now (pulses_there (redundancy_in numbers.setup) pulses) beat u steady
-    (λ end ps claim is frame soon. true_lately k.clock.within k.rules t k.clock.drift_us edges now end ps claim steady (subst (λ (w : ℕ). IsTrueLately w (rules_in numbers.setup) t edges now ps) exact is) frame soon) sound heard
+    (λ half end ps claim is frame soon. true_by_any k.clock k.rules t k.clock.drift_us edges half now end ps claim steady (subst (λ (w : ℕ). IsTrueLately w (rules_in numbers.setup) t edges now ps) exact is) frame soon) sound heard
     (ap (λ (x : ℕ). answer_in numbers x) (sym clock) ∙ found.1.is)
     (ap (λ (r : Report). r.cause) (sym found.1.told.report) ∙ voted)
     (ap (λ (r : Report). r.announce) (sym found.1.told.report) ∙ says) in (
@@ -208,15 +208,15 @@ returns-clause-any_counter c t d edges now pulses u done clock steady sound some
     let k = value_of numbers in
     let found = beat_of c.tick_accepted.result (answer_in numbers c.args.now_us) c.tick_accepted.ensures.given.said told in
     let beat = found.0 in
-    let far = vote_us numbers.wires.within_us d in
+    let far = vote_us k.clock d in
     let is_told = tick_voted_by IsTrue t edges k d 0 0 (omega arith) now (pulses_there (redundancy_in numbers.setup) pulses) beat u steady
-    (λ end ps claim is frame soon. true_by_any k.clock.within k.rules t d k.clock.drift_us edges now end ps claim steady (subst (λ (w : ℕ). IsTrueLately w (rules_in numbers.setup) t edges now ps) exact is) frame soon) sound heard
+    (λ half end ps claim is frame soon. true_by_any k.clock k.rules t d edges half now end ps claim steady (subst (λ (w : ℕ). IsTrueLately w (rules_in numbers.setup) t edges now ps) exact is) frame soon) sound heard
     (ap (λ (x : ℕ). answer_in numbers x) (sym clock) ∙ found.1.is)
     (ap (λ (r : Report). r.cause) (sym found.1.told.report) ∙ voted)
     (ap (λ (r : Report). r.announce) (sym found.1.told.report) ∙ says) in (
       beat,
       found.1.told,
-      nearer t edges (0 + is_told.far) (0 + is_told.far) far far now beat u (omega (arith, is_told.few, exact)) (omega (arith, is_told.few, exact)) is_told.told,
+      nearer t edges (0 + is_told.far) (0 + is_told.far) far far now beat u (omega (arith, is_told.few)) (omega (arith, is_told.few)) is_told.told,
     )
 
 pub returns-then-not-is_accepted-clause-lived : goal.returns-then-not-is_accepted-clause-lived
@@ -249,17 +249,17 @@ returns-clause-none_apart c t edges made start now line past done h clock well l
     in_no_mask c.tick_accepted.result (answer_in numbers c.args.now_us) made.clock after line low c.tick_accepted.ensures.given.said
     (λ beat is. c.tick_accepted.ensures.given.lines beat is ∙ (ap (λ (r : ClockRules). masks_of r (clock_state_in c.tick_accepted.new.timekeeper)) rules_are ∙ ap (λ (s : ClockState). masks_of made.clock s) lived.is.state))
     (true_at_tick (IsTrueLately made.clock.within.us) t edges (made_with made lived.lines lived.fresh) start now (calls_of past) (record { is = well.is; order = well.order; truth = well.truth })
-    (λ now end pulses claim is frame soon. true_lately made.clock.within made.rules t made.clock.drift_us edges now end pulses claim well.is.steady is frame soon) line low truly)
+    (λ now half end pulses claim is frame soon. true_by_any made.clock made.rules t made.clock.drift_us edges half now end pulses claim well.is.steady is frame soon) line low truly)
 
 pub returns-clause-life : goal.returns-clause-life
-returns-clause-life c t edges made start now past u h clock = tells_truly (IsTrueLately made.clock.within.us) 0 0 _ t edges made (whole_lines made.clock.within made.clock.drift_us) start now past c.tick_accepted.result u (returns-clause-lived c made past now h clock)
+returns-clause-life c t edges made start now past u h clock = tells_truly (IsTrueLately made.clock.within.us) 0 0 _ t edges made (whole_lines made.clock) start now past c.tick_accepted.result u (returns-clause-lived c made past now h clock)
 
 pub returns-clause-order : goal.returns-clause-order
 returns-clause-order c t edges made start before now earlier later first u v h clock =
-    tells_in_order (IsTrueLately made.clock.within.us) 0 0 _ t edges made (whole_lines made.clock.within made.clock.drift_us) start before now earlier later first c.tick_accepted.result u v (returns-clause-lived c made (later ++ (Ticked before first ∷ earlier)) now h clock)
+    tells_in_order (IsTrueLately made.clock.within.us) 0 0 _ t edges made (whole_lines made.clock) start before now earlier later first c.tick_accepted.result u v (returns-clause-lived c made (later ++ (Ticked before first ∷ earlier)) now h clock)
 
 pub returns-clause-calm : goal.returns-clause-calm
-returns-clause-calm c t edges made start now past h clock = tells_calmly (IsTrueLately made.clock.within.us) 0 0 _ t edges made (whole_lines made.clock.within made.clock.drift_us) start now past c.tick_accepted.result (returns-clause-lived c made past now h clock)
+returns-clause-calm c t edges made start now past h clock = tells_calmly (IsTrueLately made.clock.within.us) 0 0 _ t edges made (whole_lines made.clock) start now past c.tick_accepted.result (returns-clause-lived c made past now h clock)
 
 pub returns-clause-apart : goal.returns-clause-apart
 returns-clause-apart c made start before now earlier later first h clock =
@@ -292,15 +292,15 @@ returns-then-not-is_accepted-clause-announces_by_wait c t edges made start m lat
 
 pub returns-clause-faulty : goal.returns-clause-faulty
 returns-clause-faulty c t edges made start now past u h clock =
-    tells_truly (IsTrueOrFaulty made.clock.within.us) (fault_early_us made.clock.within.us made.clock.drift_us) (fault_late_us made.clock.within.us made.clock.drift_us) _ t edges made (faulty_lines made.clock.within made.clock.drift_us) start now past c.tick_accepted.result u (returns-clause-lived c made past now h clock)
+    tells_truly (IsTrueOrFaulty made.clock.within.us) (fault_early_us made.clock.within.us made.clock.drift_us) (fault_late_us made.clock.within.us made.clock.drift_us) _ t edges made (faulty_lines made.clock) start now past c.tick_accepted.result u (returns-clause-lived c made past now h clock)
 
 pub returns-clause-faulty_order : goal.returns-clause-faulty_order
 returns-clause-faulty_order c t edges made start before now earlier later first u v h clock =
-    tells_in_order (IsTrueOrFaulty made.clock.within.us) (fault_early_us made.clock.within.us made.clock.drift_us) (fault_late_us made.clock.within.us made.clock.drift_us) _ t edges made (faulty_lines made.clock.within made.clock.drift_us) start before now earlier later first c.tick_accepted.result u v (returns-clause-lived c made (later ++ (Ticked before first ∷ earlier)) now h clock)
+    tells_in_order (IsTrueOrFaulty made.clock.within.us) (fault_early_us made.clock.within.us made.clock.drift_us) (fault_late_us made.clock.within.us made.clock.drift_us) _ t edges made (faulty_lines made.clock) start before now earlier later first c.tick_accepted.result u v (returns-clause-lived c made (later ++ (Ticked before first ∷ earlier)) now h clock)
 
 pub returns-clause-faulty_calm : goal.returns-clause-faulty_calm
 returns-clause-faulty_calm c t edges made start now past h clock =
-    tells_calmly (IsTrueOrFaulty made.clock.within.us) (fault_early_us made.clock.within.us made.clock.drift_us) (fault_late_us made.clock.within.us made.clock.drift_us) _ t edges made (faulty_lines made.clock.within made.clock.drift_us) start now past c.tick_accepted.result (returns-clause-lived c made past now h clock)
+    tells_calmly (IsTrueOrFaulty made.clock.within.us) (fault_early_us made.clock.within.us made.clock.drift_us) (fault_late_us made.clock.within.us made.clock.drift_us) _ t edges made (faulty_lines made.clock) start now past c.tick_accepted.result (returns-clause-lived c made past now h clock)
 
 pub returns-clause-announces_by_wait : goal.returns-clause-announces_by_wait
 returns-clause-announces_by_wait c t edges made start m late now moments before u h clock =
@@ -320,6 +320,21 @@ returns-clause-strays c t edges made start now past h clock well =
     of true same = refl
     of false same = same
 
+pub returns-then-not-is_accepted-clause-quality_strays : goal.returns-then-not-is_accepted-clause-quality_strays
+returns-then-not-is_accepted-clause-quality_strays c t edges made start now past h clock = absurd (never (sym c.if-not-is_accepted.true ∙ c.is_accepted.ensures.1 h.is.accepted))
+
+pub returns-clause-quality_strays : goal.returns-clause-quality_strays
+returns-clause-quality_strays c t edges made start now past h clock well =
+    let lived = returns-clause-lived c made past now h clock in
+    c.tick_accepted.ensures.given.strays ∙ of (c.tick_accepted.result.is_told == 0)
+    (ap (λ (s : ClockState). s.strays) lived.is.state
+    ∙ no_strays (IsTrueByItsQuality made.clock) t edges (made_with made lived.lines lived.fresh) start (Tick now ∷ calls_of past) (qualities_tell_truly made.clock made.rules t edges) (qualities_are_even made.clock made.rules t edges)
+    (record { is = well.is; order = well.order; truth = well.truth }))
+  where
+    of : {n : ℕ} (b : Bool) → n ≡ 0 → cond b 0 n ≡ 0
+    of true same = refl
+    of false same = same
+
 pub returns-then-not-is_accepted-clause-clocks_off : goal.returns-then-not-is_accepted-clause-clocks_off
 returns-then-not-is_accepted-clause-clocks_off c t edges made off start now past u few h clock = absurd (never (sym c.if-not-is_accepted.true ∙ c.is_accepted.ensures.1 h.is.accepted))
 
@@ -331,12 +346,33 @@ returns-then-not-is_accepted-clause-clocks_off_calm c t edges made off start now
 
 pub returns-clause-clocks_off : goal.returns-clause-clocks_off
 returns-clause-clocks_off c t edges made off start now past u few h clock =
-    tells_truly (IsTrueByItsClock off made.clock.within.us made.clock.drift_us) off off _ t edges made (clock_lines off made.clock.within made.clock.drift_us few) start now past c.tick_accepted.result u (returns-clause-lived c made past now h clock)
+    tells_truly (IsTrueByItsClock off made.clock.within.us made.clock.drift_us) off off _ t edges made (clock_lines off made.clock few) start now past c.tick_accepted.result u (returns-clause-lived c made past now h clock)
 
 pub returns-clause-clocks_off_order : goal.returns-clause-clocks_off_order
 returns-clause-clocks_off_order c t edges made off start before now earlier later first u v few h clock =
-    tells_in_order (IsTrueByItsClock off made.clock.within.us made.clock.drift_us) off off _ t edges made (clock_lines off made.clock.within made.clock.drift_us few) start before now earlier later first c.tick_accepted.result u v (returns-clause-lived c made (later ++ (Ticked before first ∷ earlier)) now h clock)
+    tells_in_order (IsTrueByItsClock off made.clock.within.us made.clock.drift_us) off off _ t edges made (clock_lines off made.clock few) start before now earlier later first c.tick_accepted.result u v (returns-clause-lived c made (later ++ (Ticked before first ∷ earlier)) now h clock)
 
 pub returns-clause-clocks_off_calm : goal.returns-clause-clocks_off_calm
 returns-clause-clocks_off_calm c t edges made off start now past few h clock =
-    tells_calmly (IsTrueByItsClock off made.clock.within.us made.clock.drift_us) off off _ t edges made (clock_lines off made.clock.within made.clock.drift_us few) start now past c.tick_accepted.result (returns-clause-lived c made past now h clock)
+    tells_calmly (IsTrueByItsClock off made.clock.within.us made.clock.drift_us) off off _ t edges made (clock_lines off made.clock few) start now past c.tick_accepted.result (returns-clause-lived c made past now h clock)
+
+pub returns-then-not-is_accepted-clause-quality : goal.returns-then-not-is_accepted-clause-quality
+returns-then-not-is_accepted-clause-quality c t edges made start now past u h clock = absurd (never (sym c.if-not-is_accepted.true ∙ c.is_accepted.ensures.1 h.is.accepted))
+
+pub returns-then-not-is_accepted-clause-quality_order : goal.returns-then-not-is_accepted-clause-quality_order
+returns-then-not-is_accepted-clause-quality_order c t edges made start before now earlier later first u v h clock = absurd (never (sym c.if-not-is_accepted.true ∙ c.is_accepted.ensures.1 h.is.accepted))
+
+pub returns-then-not-is_accepted-clause-quality_calm : goal.returns-then-not-is_accepted-clause-quality_calm
+returns-then-not-is_accepted-clause-quality_calm c t edges made start now past h clock = absurd (never (sym c.if-not-is_accepted.true ∙ c.is_accepted.ensures.1 h.is.accepted))
+
+pub returns-clause-quality : goal.returns-clause-quality
+returns-clause-quality c t edges made start now past u h clock =
+    tells_truly (IsTrueByItsQuality made.clock) 0 0 _ t edges made (quality_lines made.clock) start now past c.tick_accepted.result u (returns-clause-lived c made past now h clock)
+
+pub returns-clause-quality_order : goal.returns-clause-quality_order
+returns-clause-quality_order c t edges made start before now earlier later first u v h clock =
+    tells_in_order (IsTrueByItsQuality made.clock) 0 0 _ t edges made (quality_lines made.clock) start before now earlier later first c.tick_accepted.result u v (returns-clause-lived c made (later ++ (Ticked before first ∷ earlier)) now h clock)
+
+pub returns-clause-quality_calm : goal.returns-clause-quality_calm
+returns-clause-quality_calm c t edges made start now past h clock =
+    tells_calmly (IsTrueByItsQuality made.clock) 0 0 _ t edges made (quality_lines made.clock) start now past c.tick_accepted.result (returns-clause-lived c made past now h clock)

@@ -47,7 +47,7 @@ returns-clause-most c made start now past h clock order =
     let said = c.wait_of.ensures
     ∙ (ap (λ (r : ClockRules). clock_wait r c.unread_state_of-state.result c.args.now_us) c.clock_rules_of.ensures
     ∙ ap (λ (s : ClockState). clock_wait (clock_in t) s c.args.now_us) c.unread_state_of-state.ensures.is) in
-    subst (λ (n : ℕ). n ≤ 1005000) (sym said) (waited_at_most t made start c.args.now_us now past h clock order)
+    subst (λ (n : ℕ). n ≤ 1006000) (sym said) (waited_at_most t made start c.args.now_us now past h clock order)
 
 pub returns-clause-above : goal.returns-clause-above
 returns-clause-above c made start now past h clock order alone none =

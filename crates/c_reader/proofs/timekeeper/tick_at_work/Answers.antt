@@ -44,6 +44,14 @@ stands : (t new : IrigTimekeeper) (now : ℕ) (left : ClockState) → left ≡ u
     → (clock_state_in new).lines ≡ (state_behind t now).lines → clock_state_in new ≡ state_behind t now
 stands t new now left is rest lines = read_again (clock_state_in new) left (state_behind t now) rest is lines
 
+-- ---- what was told of seconds that ended is small
+
+pub second_of-requires-clause-ended : goal.second_of-requires-clause-ended
+second_of-requires-clause-ended c = ended_kept c.keep.new.timekeeper c.tick-ticked.new.state c.keep.ensures.rest c.tick-ticked.ensures.ended
+
+pub second_of-requires-clause-ended_before : goal.second_of-requires-clause-ended_before
+second_of-requires-clause-ended_before c = ended_before_kept c.keep.new.timekeeper c.tick-ticked.new.state c.keep.ensures.rest c.tick-ticked.ensures.ended
+
 -- ---- what it says
 
 pub returns-clause-given : goal.returns-clause-given

@@ -6,4 +6,4 @@ use Rattle.irig_lives.proofs.laws.edges_lie_apart.Goals as goal
 
 pub returns : goal.returns
 returns _ made start before now earlier later beat then order answer answers =
-    edges_apart (device_of made) start (begins made.limits made.rules made.clock made.table made.lines start made.fresh) refl earlier later before now beat then order answer answers
+    edges_apart (device_of made) start (begins made.rules made.clock made.table made.lines start made.fresh) refl earlier later before now beat then order answer answers

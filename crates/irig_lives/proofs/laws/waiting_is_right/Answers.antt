@@ -16,7 +16,7 @@ returns-clause-waits _ e edge tick now at order soon none = waits e edge tick no
 pub returns-clause-votes : goal.returns-clause-votes
 returns-clause-votes _ made start now then edge calls vote order order' agree at ahead behind waited soon =
     let new = device_of made in
-    let begun = begins made.limits made.rules made.clock made.table made.lines start made.fresh in
+    let begun = begins made.rules made.clock made.table made.lines start made.fresh in
     let k : Keeping = after_calls new calls in
     let wait : wait_at k (now % 2 ^ 32) ≡ wait_by (now % 2 ^ 32) k.state.edge_us (Some vote) = ap (wait_by (now % 2 ^ 32) k.state.edge_us) agree in
     let long = waits_for new start begun now edge k.state.edge_us vote at ahead (omega (arith, behind)) in

@@ -7,27 +7,27 @@ use Rattle.irig_timekeeper.proofs.StampLaws.{stamped}
 use Rattle.irig_lives.proofs.laws_of_clocks.clocks_off_tell_truly.Goals as goal
 
 pub returns-clause-kept : goal.returns-clause-kept
-returns-clause-kept _ within rules t d off now end edges pulses claim is frame soon = clocks_are_true off within rules t d edges now end pulses claim is frame soon
+returns-clause-kept _ clock rules t off half now end edges pulses claim is frame soon = clocks_are_true off clock rules t edges half now end pulses claim is frame soon
 
 pub returns-clause-life : goal.returns-clause-life
 returns-clause-life _ t edges made off start now calls beat u few lives answer says =
-    device_true made.limits made.rules made.clock made.table made.lines start made.fresh (IsTrueByItsClock off made.clock.within.us made.clock.drift_us made.rules t edges) t edges off off lives.is (omega (arith, few))
-    (clocks_tell_truly off made.clock.within made.rules t made.clock.drift_us edges) calls now beat u lives.order lives.truth answer says
+    device_true made.rules made.clock made.table made.lines start made.fresh (IsTrueByItsClock off made.clock.within.us made.clock.drift_us made.rules t edges) t edges off off lives.is (omega (arith, few))
+    (clocks_tell_truly off made.clock made.rules t edges) calls now beat u lives.order lives.truth answer says
 
 pub returns-clause-order : goal.returns-clause-order
 returns-clause-order _ t edges made off start before now earlier later beat then u v few lives answer says answers again =
-    device_in_order made.limits made.rules made.clock made.table made.lines start made.fresh (IsTrueByItsClock off made.clock.within.us made.clock.drift_us made.rules t edges) t edges off off lives.is (omega (arith, few))
-    (clocks_tell_truly off made.clock.within made.rules t made.clock.drift_us edges) earlier later before now beat then u v lives.order lives.truth answer says answers again
+    device_in_order made.rules made.clock made.table made.lines start made.fresh (IsTrueByItsClock off made.clock.within.us made.clock.drift_us made.rules t edges) t edges off off lives.is (omega (arith, few))
+    (clocks_tell_truly off made.clock made.rules t edges) earlier later before now beat then u v lives.order lives.truth answer says answers again
 
 pub returns-clause-calm : goal.returns-clause-calm
 returns-clause-calm _ t edges made off start now calls beat few lives answer =
-    device_calm made.limits made.rules made.clock made.table made.lines start made.fresh (IsTrueByItsClock off made.clock.within.us made.clock.drift_us made.rules t edges) t edges off off lives.is (omega (arith, few))
-    (clocks_tell_truly off made.clock.within made.rules t made.clock.drift_us edges) calls now beat lives.order lives.truth answer
+    device_calm made.rules made.clock made.table made.lines start made.fresh (IsTrueByItsClock off made.clock.within.us made.clock.drift_us made.rules t edges) t edges off off lives.is (omega (arith, few))
+    (clocks_tell_truly off made.clock made.rules t edges) calls now beat lives.order lives.truth answer
 
 pub returns-clause-stamps : goal.returns-clause-stamps
 returns-clause-stamps _ t edges made off start time now calls stamp few is order truth past young e =
-    stamped made.limits made.rules made.clock made.table made.lines start made.fresh t edges off off off is (omega arith) (omega arith) (IsTrueByItsClock off made.clock.within.us made.clock.drift_us made.rules t edges) (omega (arith, few))
-    (clocks_tell_truly off made.clock.within made.rules t made.clock.drift_us edges) calls time now order truth past young stamp e
+    stamped made.rules made.clock made.table made.lines start made.fresh t edges off off off is (omega arith) (omega arith) (IsTrueByItsClock off made.clock.within.us made.clock.drift_us made.rules t edges) (omega (arith, few))
+    (clocks_tell_truly off made.clock made.rules t edges) calls time now order truth past young stamp e
 
 pub returns-clause-half : goal.returns-clause-half
 returns-clause-half _ t d off edges rules table far few is low =
@@ -35,4 +35,4 @@ returns-clause-half _ t d off edges rules table far few is low =
     omega (arith, most, few, is.short)
 
 pub returns-clause-right : goal.returns-clause-right
-returns-clause-right _ off d within rules t edges now pulses steady is = right_clock off within rules t d edges steady now pulses is
+returns-clause-right _ off d within rules t edges now pulses steady is = right_clock off within.us d rules t edges steady now pulses is

@@ -11,33 +11,33 @@ use Rattle.irig_timekeeper.proofs.StampLaws.{stamped}
 use Rattle.irig_lives.proofs.laws_of_faults.lines_with_faults_tell_truly.Goals as goal
 
 pub returns-clause-kept : goal.returns-clause-kept
-returns-clause-kept _ within rules t d now end edges pulses claim steady is frame soon = faults_are_true within rules t d edges steady now end pulses claim is frame soon
+returns-clause-kept _ clock rules t half now end edges pulses claim steady is frame soon = faults_are_true clock.within rules t clock.drift_us edges steady now end pulses claim is frame.late frame.on_time frame.last frame.carries frame.even soon
 
 pub returns-clause-life : goal.returns-clause-life
 returns-clause-life _ t edges made start now calls beat u lives answer says =
-    device_true made.limits made.rules made.clock made.table made.lines start made.fresh (IsTrueButForFaults made.clock.within.us made.rules t edges) t edges (fault_early_us made.clock.within.us made.clock.drift_us) (fault_late_us made.clock.within.us made.clock.drift_us) lives.is (let most = fault_small made.clock.within made.clock.drift_us lives.is.steady.few in omega (arith, most.0, most.1)) (faults_tell_truly made.clock.within made.rules t made.clock.drift_us edges lives.is.steady) calls now beat u lives.order lives.truth answer says
+    device_true made.rules made.clock made.table made.lines start made.fresh (IsTrueButForFaults made.clock.within.us made.rules t edges) t edges (fault_early_us made.clock.within.us made.clock.drift_us) (fault_late_us made.clock.within.us made.clock.drift_us) lives.is (let most = fault_small made.clock.within made.clock.drift_us lives.is.steady.few in omega (arith, most.0, most.1)) (faults_tell_truly made.clock made.rules t edges lives.is.steady) calls now beat u lives.order lives.truth answer says
 
 pub returns-clause-either : goal.returns-clause-either
 returns-clause-either _ t edges made start now calls beat u lives answer says =
-    device_true made.limits made.rules made.clock made.table made.lines start made.fresh (IsTrueOrFaulty made.clock.within.us made.rules t edges) t edges (fault_early_us made.clock.within.us made.clock.drift_us) (fault_late_us made.clock.within.us made.clock.drift_us) lives.is (let most = fault_small made.clock.within made.clock.drift_us lives.is.steady.few in omega (arith, most.0, most.1)) (either_tells_truly made.clock.within made.rules t made.clock.drift_us edges lives.is.steady) calls now beat u lives.order lives.truth answer says
+    device_true made.rules made.clock made.table made.lines start made.fresh (IsTrueOrFaulty made.clock.within.us made.rules t edges) t edges (fault_early_us made.clock.within.us made.clock.drift_us) (fault_late_us made.clock.within.us made.clock.drift_us) lives.is (let most = fault_small made.clock.within made.clock.drift_us lives.is.steady.few in omega (arith, most.0, most.1)) (either_tells_truly made.clock made.rules t edges lives.is.steady) calls now beat u lives.order lives.truth answer says
 
 pub returns-clause-order : goal.returns-clause-order
 returns-clause-order _ t edges made start before now earlier later beat then u v lives answer says answers again =
-    device_in_order made.limits made.rules made.clock made.table made.lines start made.fresh (IsTrueButForFaults made.clock.within.us made.rules t edges) t edges (fault_early_us made.clock.within.us made.clock.drift_us) (fault_late_us made.clock.within.us made.clock.drift_us) lives.is (let most = fault_small made.clock.within made.clock.drift_us lives.is.steady.few in omega (arith, most.0, most.1)) (faults_tell_truly made.clock.within made.rules t made.clock.drift_us edges lives.is.steady) earlier later before now beat then u v lives.order lives.truth answer says answers again
+    device_in_order made.rules made.clock made.table made.lines start made.fresh (IsTrueButForFaults made.clock.within.us made.rules t edges) t edges (fault_early_us made.clock.within.us made.clock.drift_us) (fault_late_us made.clock.within.us made.clock.drift_us) lives.is (let most = fault_small made.clock.within made.clock.drift_us lives.is.steady.few in omega (arith, most.0, most.1)) (faults_tell_truly made.clock made.rules t edges lives.is.steady) earlier later before now beat then u v lives.order lives.truth answer says answers again
 
 pub returns-clause-calm : goal.returns-clause-calm
 returns-clause-calm _ t edges made start now calls beat lives answer =
-    device_calm made.limits made.rules made.clock made.table made.lines start made.fresh (IsTrueButForFaults made.clock.within.us made.rules t edges) t edges (fault_early_us made.clock.within.us made.clock.drift_us) (fault_late_us made.clock.within.us made.clock.drift_us) lives.is (let most = fault_small made.clock.within made.clock.drift_us lives.is.steady.few in omega (arith, most.0, most.1)) (faults_tell_truly made.clock.within made.rules t made.clock.drift_us edges lives.is.steady) calls now beat lives.order lives.truth answer
+    device_calm made.rules made.clock made.table made.lines start made.fresh (IsTrueButForFaults made.clock.within.us made.rules t edges) t edges (fault_early_us made.clock.within.us made.clock.drift_us) (fault_late_us made.clock.within.us made.clock.drift_us) lives.is (let most = fault_small made.clock.within made.clock.drift_us lives.is.steady.few in omega (arith, most.0, most.1)) (faults_tell_truly made.clock made.rules t edges lives.is.steady) calls now beat lives.order lives.truth answer
 
 pub returns-clause-stamps : goal.returns-clause-stamps
 returns-clause-stamps _ t edges made start time now calls stamp is order truth past young e =
-    stamped made.limits made.rules made.clock made.table made.lines start made.fresh t edges (fault_early_us made.clock.within.us made.clock.drift_us) (fault_late_us made.clock.within.us made.clock.drift_us) (fault_early_us made.clock.within.us made.clock.drift_us) is (omega arith) (let most = fault_small made.clock.within made.clock.drift_us is.steady.few in omega (arith, most.2)) (IsTrueOrFaulty made.clock.within.us made.rules t edges) (let most = fault_small made.clock.within made.clock.drift_us is.steady.few in omega (arith, most.0, most.1))
-    (either_tells_truly made.clock.within made.rules t made.clock.drift_us edges is.steady) calls time now order truth past young stamp e
+    stamped made.rules made.clock made.table made.lines start made.fresh t edges (fault_early_us made.clock.within.us made.clock.drift_us) (fault_late_us made.clock.within.us made.clock.drift_us) (fault_early_us made.clock.within.us made.clock.drift_us) is (omega arith) (let most = fault_small made.clock.within made.clock.drift_us is.steady.few in omega (arith, most.2)) (IsTrueOrFaulty made.clock.within.us made.rules t edges) (let most = fault_small made.clock.within made.clock.drift_us is.steady.few in omega (arith, most.0, most.1))
+    (either_tells_truly made.clock made.rules t edges is.steady) calls time now order truth past young stamp e
 
 pub returns-clause-row : goal.returns-clause-row
 returns-clause-row _ t edges made start edge next calls beat then u lives row says none =
-    in_a_row made.limits made.rules made.clock made.table made.lines start made.fresh (IsTrueOrFaulty made.clock.within.us made.rules t edges) t edges (fault_early_us made.clock.within.us made.clock.drift_us) (fault_late_us made.clock.within.us made.clock.drift_us) lives.is (let most = fault_small made.clock.within made.clock.drift_us lives.is.steady.few in omega (arith, most.0, most.1))
-    (either_tells_truly made.clock.within made.rules t made.clock.drift_us edges lives.is.steady) calls beat then edge next u lives.order lives.truth row says none
+    in_a_row made.rules made.clock made.table made.lines start made.fresh (IsTrueOrFaulty made.clock.within.us made.rules t edges) t edges (fault_early_us made.clock.within.us made.clock.drift_us) (fault_late_us made.clock.within.us made.clock.drift_us) lives.is (let most = fault_small made.clock.within made.clock.drift_us lives.is.steady.few in omega (arith, most.0, most.1))
+    (either_tells_truly made.clock made.rules t edges lives.is.steady) calls beat then edge next u lives.order lives.truth row says none
 
 pub returns-clause-most : goal.returns-clause-most
 returns-clause-most _ within d few = fault_small within d few

@@ -4,6 +4,6 @@ use Rattle.irig_lives.proofs.MisledLaws.{truth, true_table, made, lines_mislead}
 use Rattle.irig_lives.proofs.laws_of_limits.a_majority_misleads.Goals as goal
 
 pub returns : goal.returns
-returns _ = λ rules clock range sound.
+returns _ = λ rules clock range sound some late.
     let fits = setup_is clock.reader_rules clock.drift_us sound in
-    (truth, made rules clock range fits.0 fits.1, refl, refl, inl (true_table 43201), lines_mislead rules clock range fits.0 fits.1)
+    (truth, made rules clock range fits.0 fits.1 some late, refl, refl, inl (true_table 43201), lines_mislead rules clock range fits.0 fits.1 some late)

@@ -1,10 +1,10 @@
-use Rattle.std.proofs.Common.{◌≡◌, ◌∙◌, ℕ, sym, ap, subst}
+use Rattle.std.proofs.Common.{◌≡◌, ◌∙◌, ℕ, sym, ap, subst, Some}
 use Rattle.std.proofs.Math.Logic.{∥∥₁_map}
 use Rattle.irig_sync.specs.Sync.{place_of}
 use Rattle.irig_timekeeper.specs.declared.clock.ClockState.{ClockState}
 use Rattle.irig_lines.specs.declared.lines.Line.{Line}
 use Rattle.irig_lines.specs.declared.lines.Lines.{Lines}
-use Rattle.irig_port.specs.Limits.{told_within}
+use Rattle.irig_port.specs.Limits.{told_within, quality_in}
 use Rattle.irig_port.specs.Hearing.{heard_at}
 use Rattle.irig_lines.specs.Steps.{IsKeptOfUtc, AreKeptOfUtc, line_at, with_line, line_heard}
 use Rattle.irig_timekeeper.specs.Keeping.{Keeping, heard_by, with_lines}
@@ -29,8 +29,8 @@ returns-clause-heard g c k s =
     let h = c.hear_port-place.ensures.heard k s in
     let same : c.line_at-line.result ≡ line_at k.state.lines port = c.line_at-line.ensures ∙ ap (λ (x : ClockState). line_at x.lines port) s.state in
     let place = c.hear_port-place.ensures.place ∙ ap (λ (l : Line). place_of l.sync c.args.rise_us c.args.width_us) same in
-    let told = told_within k.limits k.rules (heard_at c.hear_port-place.result (heard_by k.heard port) c.args.width_us) in
-    let new = c.hear_port-place.ensures.line k s ∙ ap (λ (l : Line). line_heard k.clock l c.args.rise_us c.args.width_us told) same in
+    let told = told_within (Some k.clock.limits.limits) k.rules (heard_at c.hear_port-place.result (heard_by k.heard port) c.args.width_us) in
+    let new = c.hear_port-place.ensures.line k s ∙ ap (λ (l : Line). line_heard k.clock l c.args.rise_us c.args.width_us told (quality_in (heard_at c.hear_port-place.result (heard_by k.heard port) c.args.width_us))) same in
     let lines = c.with_line-self.ensures ∙ ap (λ (x : ClockState). with_line x.lines port c.hear_port-place.new.line) h.state ∙ ap (with_line k.state.lines port) new in
     let then = pulse_by k port c.args.rise_us c.args.width_us c.hear_port-place.result place in
     let self = c.hear_port-place.new.self in
@@ -41,7 +41,6 @@ returns-clause-heard g c k s =
       d = subst (λ (x : Keeping). g.P.Port.stands_for self.d k.rules x.heard.d) then h.d;
       e = subst (λ (x : Keeping). g.P.Port.stands_for self.e k.rules x.heard.e) then h.e;
       rules = h.rules;
-      limits = h.limits;
       clock = h.clock;
       table = h.table;
       state = ap (λ (x : ClockState). with_lines x c.with_line-self.result) h.state ∙ ap (with_lines k.state) lines ∙ ap (λ (x : Keeping). x.state) then;

@@ -9,7 +9,7 @@ use Rattle.irig_lines.specs.Lines.{IsTrueLately}
 use Rattle.irig_timekeeper.specs.Lived.{made_with}
 use Rattle.irig_timekeeper.specs.States.{state_of}
 use Rattle.irig_timekeeper.specs.LineTruths.{is_untrue, IsSaidRightly}
-use Rattle.irig_lines.proofs.LineLaws.{true_lately}
+use Rattle.irig_lines.proofs.LineLaws.{true_by_any}
 use Rattle.irig_timekeeper.proofs.LivedLaws.{as_made}
 use Rattle.irig_timekeeper.proofs.StateLaws.{true_line, said_rightly}
 use Rattle.irig_timekeeper.proofs.keeper.Timekeeper.line.Goals as goal
@@ -21,7 +21,7 @@ returns-clause-truth g c t edges made start now calls h well order line =
     let low : c.args.line < 5 = omega (arith, c.requires, at_most_five c.args.self.now.clock.redundancy) in
     ap is_untrue value
     ∙ true_line (IsTrueLately made.clock.within.us) t edges (made_with made h.lines h.fresh) start now calls (record { is = well.is; order = well.order; truth = well.truth })
-    (λ now end pulses claim is frame soon. true_lately made.clock.within made.rules t made.clock.drift_us edges now end pulses claim well.is.steady is frame soon) order c.args.line low line
+    (λ now half end pulses claim is frame soon. true_by_any made.clock made.rules t made.clock.drift_us edges half now end pulses claim well.is.steady is frame soon) order c.args.line low line
 
 pub returns-clause-said : goal.returns-clause-said
 returns-clause-said g c t edges made start now calls h well order =
@@ -32,4 +32,4 @@ returns-clause-said g c t edges made start now calls h well order =
     subst (λ (s : ClockState). IsSaidRightly made.clock s made.rules t edges (last_tick start calls) (pulses_on c.args.line calls) c.state_of.result) (sym h.is.state)
     (subst (λ (x : LineState). IsSaidRightly made.clock k.state made.rules t edges (last_tick start calls) (pulses_on c.args.line calls) x) (sym value)
     (said_rightly (IsTrueLately made.clock.within.us) t edges (made_with made h.lines h.fresh) start now calls (record { is = well.is; order = well.order; truth = well.truth })
-    (λ now end pulses claim is frame soon. true_lately made.clock.within made.rules t made.clock.drift_us edges now end pulses claim well.is.steady is frame soon) order c.args.line low))
+    (λ now half end pulses claim is frame soon. true_by_any made.clock made.rules t made.clock.drift_us edges half now end pulses claim well.is.steady is frame soon) order c.args.line low))

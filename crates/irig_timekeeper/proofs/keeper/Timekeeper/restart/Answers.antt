@@ -20,7 +20,6 @@ returns-clause-lived g c made calls h =
         d = subst (λ (r : Rules). g.P.Port.stands_for c.clear-4.new.self r []) same.rules (c.clear-4.ensures k.rules k.heard.d h.is.d);
         e = subst (λ (r : Rules). g.P.Port.stands_for c.clear-5.new.self r []) same.rules (c.clear-5.ensures k.rules k.heard.e h.is.e);
         rules = h.is.rules ∙ same.rules;
-        limits = h.is.limits ∙ same.limits;
         clock = h.is.clock ∙ same.clock;
         table = h.is.table ∙ same.table;
         state = new.ensures.new;

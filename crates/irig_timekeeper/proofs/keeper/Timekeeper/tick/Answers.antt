@@ -9,7 +9,7 @@ use Rattle.irig_timekeeper.specs.Life.Call.{Tick}
 use Rattle.irig_lines.specs.Lines.{IsTrueLately}
 use Rattle.irig_timekeeper.specs.Lived.{made_with}
 use Rattle.irig_timekeeper.proofs.LifeLaws.{device_true}
-use Rattle.irig_lines.proofs.LineLaws.{true_lately}
+use Rattle.irig_lines.proofs.LineLaws.{true_by_any}
 use Rattle.irig_timekeeper.proofs.StrayLaws.{never_doubts, never_unsteady}
 use Rattle.irig_timekeeper.proofs.DoubtLaws.{says_rule}
 use Rattle.irig_timekeeper.proofs.GuardedTicks.{tick_guards_vote}
@@ -27,8 +27,8 @@ returns-clause-life g c t edges made start now calls beat u h clock well told sa
     ∙ (ap (λ (rules : ClockRules). clock_answer rules self.table self.state c.args.now_us) h.is.clock
     ∙ (ap (λ (table : TableValue). clock_answer k.clock table self.state c.args.now_us) h.is.table
     ∙ (ap (λ (s : ClockState). clock_answer k.clock k.table s c.args.now_us) h.is.state ∙ ap (answer_at k) clock))) in
-    device_true made.limits made.rules made.clock made.table h.lines start h.fresh (IsTrueLately made.clock.within.us made.rules t edges) t edges 0 0 well.is (omega arith)
-    (λ now end pulses claim is frame soon. true_lately made.clock.within made.rules t made.clock.drift_us edges now end pulses claim well.is.steady is frame soon)
+    device_true made.rules made.clock made.table h.lines start h.fresh (IsTrueLately made.clock.within.us made.rules t edges) t edges 0 0 well.is (omega arith)
+    (λ now half end pulses claim is frame soon. true_by_any made.clock made.rules t made.clock.drift_us edges half now end pulses claim well.is.steady is frame soon)
     calls now beat u well.order well.truth (sym value ∙ told) says
 
 pub returns-clause-rule : goal.returns-clause-rule

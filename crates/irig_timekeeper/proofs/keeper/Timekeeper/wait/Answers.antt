@@ -15,4 +15,4 @@ returns-clause-most g c made start now calls h clock order =
     let value = c.wait_of.ensures
     ∙ (ap (λ (rules : ClockRules). clock_wait rules self.state c.args.now_us) h.is.clock
     ∙ (ap (λ (s : ClockState). clock_wait k.clock s c.args.now_us) h.is.state ∙ ap (wait_at k) clock)) in
-    subst (λ (n : ℕ). n ≤ 1005000) (sym value) (waits_at_most (made_with made h.lines h.fresh) start now calls order)
+    subst (λ (n : ℕ). n ≤ 1006000) (sym value) (waits_at_most (made_with made h.lines h.fresh) start now calls order)

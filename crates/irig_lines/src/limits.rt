@@ -1,7 +1,7 @@
 //! Which frames of a timekeeper's lines have a vote.
 
 ghost use Rattle.std.specs.Prelude.{◌≡◌, ◌≤◌, ◌<◌, MatchOption};
-ghost use Rattle.irig_timekeeper.specs.VoteLimits.{most_poor_from, usual_limits};
+ghost use Rattle.irig_lines.specs.VoteLimits.{most_poor_from, usual_limits};
 
 use irig_port::Limits;
 
@@ -24,6 +24,13 @@ impl VoteLimits {
             return None;
         }
         Some(VoteLimits { limits })
+    }
+
+    /// The limits: `poor_from` is at most 8.
+    pub fn limits(self) -> Limits
+        ensures { result ≡ self.limits }
+    {
+        self.limits
     }
 
     /// Those of a timekeeper that is given none: a frame of any day has a vote, but from quality 7 on none
