@@ -4,7 +4,8 @@
 
 in chrony.conf, and then `capture | python3 feed_chrony.py /run/chrony.irig.sock`. What captures three
 lines writes a row `line,rise_us,width_us` when a pulse has ended, by CLOCK_MONOTONIC, which does not
-wrap. The delay is twice the most bound of a voted edge, 1,099 us. Of three clocks 123.456 ms ahead of the
+wrap. Rows that are none, or of pulses that have not ended, are dropped, and so are seconds while there
+is no chronyd; the standard error says which. The delay is twice the most bound of a voted edge, 1,099 us. Of three clocks 123.456 ms ahead of the
 system's (tests/chrony) `chronyc tracking` of chrony 4.3 then says
 
     Reference ID    : 49524947 (IRIG)
@@ -24,11 +25,13 @@ import socket
 import struct
 import sys
 import time
-from typing import Callable, Iterator, List, Tuple
+from typing import Callable, Iterable, Iterator, List, Tuple
 
 from irig import Second, Timekeeper
 
+LINES = 3
 LATE_US = 200_000  # so long behind a pulse's end its row may come
+EARLY_US = 1_000  # and so long before it, as what captures may round
 WORD = 1 << 32
 MAGIC = 0x534F434B
 SAMPLE = struct.Struct("@lldiiii")  # sock_sample of chrony: a timeval, an offset, pulse, leap, -, magic
@@ -49,6 +52,18 @@ def sample(second: Second, edge_us: int) -> bytes:
     return SAMPLE.pack(began_ns // 10**9, began_ns % 10**9 // 1000, offset, 0, 0, 0, MAGIC)
 
 
+def pulses_in(rows: Iterable[bytes]) -> Iterator[Pulse]:
+    """The pulses of rows. One that has not ended would have the timekeeper ticked ahead of its time."""
+    for row in rows:
+        try:
+            line, rise, width = map(int, row.split(b","))
+            if not (0 <= line < LINES and 0 <= width < WORD and rise + width <= now_us() + EARLY_US):
+                raise ValueError
+            yield line, rise, width
+        except ValueError:
+            print(f"dropped: {row!r}", file=sys.stderr)
+
+
 def batches(file: int, keep_time: Callable[[], float]) -> Iterator[List[Pulse]]:
     """The pulses that have come, and none where nothing came for as long as `keep_time` says."""
     rest = b""
@@ -60,7 +75,9 @@ def batches(file: int, keep_time: Callable[[], float]) -> Iterator[List[Pulse]]:
         if not data:
             return
         *rows, rest = (rest + data).split(b"\n")
-        yield [(int(line), int(rise), int(width)) for line, rise, width in (row.split(b",") for row in rows)]
+        pulses = list(pulses_in(rows))
+        if pulses:
+            yield pulses
 
 
 class Feeder:
@@ -91,15 +108,23 @@ class Feeder:
                 self.come_to(self.due_us())
 
 
-def main() -> None:
-    chrony = socket.socket(socket.AF_UNIX, socket.SOCK_DGRAM)
-    chrony.connect(sys.argv[1])
+def sender(path: str) -> Send:
+    """What sends to the socket that is there then: a chronyd that starts makes it anew."""
 
     def send(second: Second, edge_us: int) -> None:
-        chrony.send(sample(second, edge_us))
-        print(second, flush=True)
+        try:
+            with socket.socket(socket.AF_UNIX, socket.SOCK_DGRAM) as chrony:
+                chrony.sendto(sample(second, edge_us), path)
+        except OSError as error:
+            print(f"dropped: {second}: {path}: {error}", file=sys.stderr)
+        else:
+            print(second, flush=True)
 
-    Feeder(send).feed(sys.stdin.fileno())
+    return send
+
+
+def main() -> None:
+    Feeder(sender(sys.argv[1])).feed(sys.stdin.fileno())
 
 
 if __name__ == "__main__":
