@@ -68,6 +68,11 @@ def read_text(name: str) -> str:
     return source.decode()
 
 
+def shown(text: str) -> str:
+    """A text of others, with escapes for what is not printable, such as what a terminal or XML obeys."""
+    return "".join(letter if letter.isprintable() else ascii(letter)[1:-1] for letter in text)
+
+
 def reason_of(error: OSError | ValueError) -> str:
     """What is wrong, in words."""
     if isinstance(error, UnicodeDecodeError):

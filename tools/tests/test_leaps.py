@@ -62,6 +62,12 @@ class Beside(unittest.TestCase):
             1, "2016-12-31: the list has insert, the scenario delete\n"
             "2017-06-30: the list has none, the scenario insert\n"))
 
+    def test_what_a_terminal_obeys(self) -> None:
+        leaps = [{"day": "2020-01-0\n\33[31m", "kind": "\x9b1m\u202e\udcff"}]
+        self.assertEqual(self.beside(leaps), (
+            1, "2016-12-31: the list has insert, the scenario none\n"
+            "2020-01-0\\n\\x1b[31m: the list has none, the scenario \\x9b1m\\u202e\\udcff\n"))
+
 
 class Leaps(unittest.TestCase):
     def test_the_list(self) -> None:
