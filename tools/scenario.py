@@ -7,10 +7,9 @@ What builds it is `irig.scenarios` of the package in python/, which builds more 
 from __future__ import annotations
 
 import argparse
-import sys
 from typing import Dict, List, Union
 
-from parts.command import Command, fail
+from parts.command import Command, fail, put
 from parts.plant import count, leap, one_of, reader
 
 from irig.scenarios import Leap, Reader, Scenario
@@ -45,6 +44,8 @@ def _step(scenario: Scenario, word: str) -> None:
     def numbers(texts: List[str]) -> List[int]:
         return [int(one_of(text, range(scenario.generators))) for text in texts]
 
+    if name in ("seconds", "dark", "lose"):
+        scenario.timeline.second(scenario.edge + count(parts[0]))  # a ValueError behind the last year
     if name == "until":
         scenario.until(":".join(parts))
     elif name == "seconds":
@@ -98,7 +99,7 @@ def main() -> None:
             _step(scenario, word)
     except ValueError as error:
         fail("scenario.py", f"{word}: {error}" if word else error)
-    sys.stdout.write(scenario.text())
+    put("scenario.py", scenario.text())
 
 
 if __name__ == "__main__":

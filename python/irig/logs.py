@@ -285,8 +285,12 @@ def port_word(text: str) -> PortWord:
     return PortWord(text, "another second", second=Second.read(text))
 
 
+def _has_meaning(number: int, name: str) -> bool:
+    return number in MEANINGS and MEANINGS[number].name == name
+
+
 def _fault_word(text: str, number: int, name: str, place: Optional[str]) -> PortWord:
-    if number not in MEANINGS or MEANINGS[number].name != name:
+    if not _has_meaning(number, name):
         raise ValueError(f"{text!r} is no fault of docs/FAULTS.md")
     is_number = place is not None and place.isdecimal()
     where: Detail = int(place or 0) if is_number else place
@@ -304,7 +308,9 @@ def last_line(line: str) -> Optional[LastLine]:
     if table:
         return TableBroken(table[1])
     refusal = REFUSAL.fullmatch(line)
-    return RefusedLine(int(refusal[1]), int(refusal[2]), refusal[3]) if refusal else None
+    if not refusal or not _has_meaning(int(refusal[2]), refusal[3]):
+        return None
+    return RefusedLine(int(refusal[1]), int(refusal[2]), refusal[3])
 
 
 # ---- ticks

@@ -367,7 +367,7 @@ def plant_in(scenario: Union[str, bytes]) -> Optional[Plant]:
         leaps = [Leap(leap["day"], leap["kind"]) for leap in value["leaps"]]
         timeline = Timeline(Second.read(value["start"]), leaps)
         return Plant(timeline, [reader["name"] for reader in value["readers"]])
-    except (ValueError, TypeError, KeyError):
+    except (ValueError, TypeError, KeyError, RecursionError):
         return None
 
 
@@ -389,7 +389,7 @@ def _edges_of_line(line: str, readers: Iterable[str]) -> List[Tuple[str, int]]:
         return []
     try:
         value = json.loads(line)
-    except ValueError:
+    except (ValueError, RecursionError):
         return []
     if not isinstance(value, dict):
         return []

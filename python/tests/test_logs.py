@@ -96,6 +96,7 @@ class Lines(unittest.TestCase):
             (['{"version":1'], "line 1 is of a scenario"),
             ([" 2 relay ok ok good"], "line 1 is no line of a log"),
             ([" 2 relay ok ok fault:3:Parity"], "line 1 is no line of a log"),
+            (["refused: line 1: 999 foo"], "line 1 is no line of a log"),
             ([" 2 relay ok ok poor:9"], "line 1 is no line of a log"),
             ([edge, " 1 relay ok ok ok"], "line 2: edge 1 of relay comes after edge 1"),
             ([edge, " 2 relay ok ok ok", " 2 relay ok ok ok"], "line 3: edge 2 of relay comes after"),

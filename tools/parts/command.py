@@ -36,6 +36,16 @@ def fail(name: str, reason: object) -> NoReturn:
     sys.exit(2)
 
 
+def put(name: str, text: str) -> None:
+    """Prints a text, all of it."""
+    try:
+        sys.stdout.write(text)
+        sys.stdout.flush()
+    except OSError:
+        os.dup2(os.open(os.devnull, os.O_WRONLY), sys.stdout.fileno())  # which takes the rest at the end
+        fail(name, "standard output took no more: is the disk full, or has its reader ended?")
+
+
 def need_matplotlib(name: str) -> None:
     """Goes on in Debian's Python if this one has no matplotlib."""
     if not find_spec("matplotlib"):

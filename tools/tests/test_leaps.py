@@ -6,7 +6,7 @@ import subprocess
 import tempfile
 import unittest
 
-from loading import ROOT
+from loading import ROOT, loaded
 from irig.scenarios import Leap, Reader, Scenario, Table
 
 PROGRAM = ROOT / "crates/irig_main/out/irig_main"
@@ -20,6 +20,7 @@ STEPS = """
 """.split()
 ROWS = "".join(f"{step}\t{offset}\t# a leap second\n" for offset, step in enumerate(STEPS, 10))
 LIST = f"#$\t3960835200\n#@\t3991593600\n{ROWS}#h\t49db2447 571e5e1b 2f002a53 9c8da8e4 39b8e49e\n"
+FAR = loaded(ROOT / "tools/leaps").hashed("1", "1" + "0" * 20, [])
 
 SINCE_2000 = ["2005-12-31", "2008-12-31", "2012-06-30", "2015-06-30", "2016-12-31"]
 
@@ -42,11 +43,14 @@ class Beside(unittest.TestCase):
     """A scenario from 2016-06-15 on, and the list, which has one leap second from then to 2026-06-28."""
 
     def beside(self, leaps: list) -> tuple:
-        plant = json.dumps({"version": 1, "start": "2016-06-15T12:00:00Z", "leaps": leaps})
+        return self.beside_line(json.dumps({"version": 1, "start": "2016-06-15T12:00:00Z", "leaps": leaps}))
+
+    def beside_line(self, plant: str) -> tuple:
         with tempfile.NamedTemporaryFile("w", suffix=".jsonl") as file:
             file.write(plant + "\n")
             file.flush()
             ran = run(LIST, f"--beside={file.name}")
+        self.assertNotIn("Traceback", ran.stderr)
         return ran.returncode, ran.stdout
 
     def test_the_same(self) -> None:
@@ -61,6 +65,11 @@ class Beside(unittest.TestCase):
         self.assertEqual(self.beside(leaps), (
             1, "2016-12-31: the list has insert, the scenario delete\n"
             "2017-06-30: the list has none, the scenario insert\n"))
+
+    def test_no_plant_lines(self) -> None:
+        plants = ['{"leaps":[],"start":[1]}', '{"leaps":[{"day":5,"kind":1}],"start":"2000"}', "[" * 200_000]
+        for plant in plants:
+            self.assertEqual(self.beside_line(plant), (2, ""))
 
     def test_what_a_terminal_obeys(self) -> None:
         leaps = [{"day": "2020-01-0\n\33[31m", "kind": "\x9b1m\u202e\udcff"}]
@@ -80,6 +89,14 @@ class Leaps(unittest.TestCase):
         leaps = values(LIST, "--since", "2015-06-30")["leaps"]
         self.assertEqual([leap["day"] for leap in leaps], SINCE_2000[3:])
 
+    def test_a_full_disk(self) -> None:
+        with tempfile.NamedTemporaryFile("w") as file, open("/dev/full", "w") as full:
+            file.write(LIST)
+            file.flush()
+            ran = subprocess.run([ROOT / "tools/leaps", file.name], stdout=full, stderr=subprocess.PIPE, text=True)
+        self.assertEqual((ran.returncode, ran.stderr.splitlines()[2:]), (2, [
+            "leaps: standard output took no more: is the disk full, or has its reader ended?"]))
+
     def test_expired(self) -> None:
         self.assertIn("expired on 2026-06-28", run(LIST).stderr)
 
@@ -89,6 +106,7 @@ class Leaps(unittest.TestCase):
             "an offset": LIST.replace("\t36\t", "\t37\t"),
             "the expiry": LIST.replace("3991593600", "4991593600"),
             "a line less": LIST.replace("3692217600\t37\t# a leap second\n", ""),
+            "far in the future": "#$\t1\n#@\t1" + "0" * 20 + f"\n#h\t{FAR}\n",
             "no hash": LIST.replace("#h", "#"),
             "nothing": "",
         }.items():

@@ -1,6 +1,7 @@
 #!/usr/bin/env python3
 """Tests of the command scenario.py: the examples that it was made for, and what it says of mistakes;
 and of the help of all tools. python/tests tests what it builds scenarios by."""
+import os
 import subprocess
 import sys
 import unittest
@@ -45,6 +46,7 @@ class Command(unittest.TestCase):
             "restart:rely": "'rely' is none of relay",
             "until:noon": "a part is missing; see scenario.py --help",
             "until:2016-06-15T11:00:00Z": "[^\n]+ is no second of the timeline [^\n]+",
+            "seconds:9999999999999": "[^\n]+ seconds from [^\n]+ is not from 2000-01-02 to 2099-12-30",
             "seconds:-3": "'-3' is no whole number from 0 on",
             "lose:1:3": "'3' is none of 0, 1, 2",
             "lose:1:0:relay,rely": "'rely' is none of relay",
@@ -76,6 +78,18 @@ class Command(unittest.TestCase):
                 first, example = ran.stdout.split("\n\n")[:2]
                 self.assertEqual(first, "for example:")
                 self.assertIn(f"tools/{tool} ", example)
+
+    def test_an_output_that_takes_no_more(self) -> None:
+        day = "scenario --lock-after=2 --holdover=10 --seed=7".split()
+        for tool, words in (("scenario.py", ["seconds:1"]), ("scenario.py", ["lose:9999:0"]), ("study", day)):
+            source, sink = os.pipe()
+            os.close(source)
+            with os.fdopen(sink) as closed, open("/dev/full", "w") as full:
+                for out in (closed, full):
+                    command = [ROOT / "tools" / tool, *words]
+                    ran = subprocess.run(command, stdout=out, stderr=subprocess.PIPE, text=True)
+                    self.assertEqual((ran.returncode, ran.stderr), (
+                        2, f"{tool}: standard output took no more: is the disk full, or has its reader ended?\n"))
 
     def test_an_interrupt_prints_nothing(self) -> None:
         for code, said in (("raise KeyboardInterrupt", ""), ("raise SystemExit('tool: no')", "tool: no\n")):

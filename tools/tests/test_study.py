@@ -227,9 +227,11 @@ class Tables(InAFolder):
             (",".join(study.COLUMNS), "no lines"),
             (",".join(study.COLUMNS) + "\n5,x,,1,1,1,1,1,1,1,1\n", "'x'"),
             (",".join(study.COLUMNS) + "\n5,1\n", "shorter"),
+            (",".join(study.COLUMNS) + "\n5,10,,1,0,0,0,0,0,0,0\n", "a run of no edges"),
+            (",".join(study.COLUMNS) + "\n5," + "a" * 200_000, "field larger than field limit"),
         ):
             self.file.write_text(text)
-            self.says(ran("table", self.file, "silence"), says)
+            self.says(ran("table", self.file, "availability"), says)
         self.says(ran("table", self.folder / "none.csv", "silence"), "No such file")
 
     def says(self, found: subprocess.CompletedProcess, text: str) -> None:

@@ -12,7 +12,7 @@ import browser
 from loading import ROOT, InAFolder, loaded
 from parts.log_lanes import PORT_STATES, STATES
 
-from irig.scenarios import made_edges
+from irig.scenarios import made_edges, plant_in
 
 VIEW = ROOT / "tools/view"
 PROGRAM = ROOT / "crates/irig_main/out/irig_main"
@@ -88,8 +88,9 @@ class Page(InAFolder):
 
     def test_lines_that_give_no_edges(self) -> None:
         lines = ['{"do":"seconds","n":0}', '{"do":"seconds","n":"3"}', '{"do":"tick","r":"no"}', '"tick"',
-                 '["tick"', '{"do":"tick","r":["relay"]}', '{"do":"carry","g":0,"r":"relay"}']
+                 '["tick"', '{"tick":' * 100_000, '{"do":"tick","r":["relay"]}', '{"do":"carry","g":0,"r":"relay"}']
         self.assertEqual(made_edges(lines, ["relay"]), {"relay": []})
+        self.assertIsNone(plant_in("[" * 100_000))
 
     def test_a_run_of_the_program(self) -> None:
         if not PROGRAM.exists():
