@@ -359,6 +359,15 @@ class Pictures(unittest.TestCase):
         compare_pictures(self, ROOT / "tools/gallery", ROOT / "docs/gallery", program)
 
 
+class Names(unittest.TestCase):
+    def test_a_title_that_is_not_printable(self) -> None:
+        if why := why_not():
+            self.skipTest(why)
+        ran, picture = plot(ONE_EDGE, "--title", "\33\udcff")
+        self.assertEqual((ran.returncode, ran.stderr), (0, ""))
+        self.assertIn("\\x1b\\udcff: how each reader stood", picture)
+
+
 class Refusals(unittest.TestCase):
     """One line for each mistake, status 2, and no picture."""
 

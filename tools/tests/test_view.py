@@ -81,6 +81,13 @@ class Page(InAFolder):
         view = loaded(VIEW)
         self.assertIn("<title>a&lt;b&gt;&amp;</title>", view.page_of("a<b>&", view.data_of("", LOG)))
 
+    def test_a_name_that_is_no_utf_8(self) -> None:
+        name, page = self.folder / "\udcff.jsonl", self.folder / "page.html"
+        name.write_text(SCENARIO)
+        (self.folder / "plant.log").write_text(LOG)
+        subprocess.run([VIEW, name, "--log", self.folder / "plant.log", "-o", page], check=True, timeout=120)
+        self.assertIn("<title>\\udcff.jsonl</title>", page.read_text())
+
     def test_braces_in_data_are_no_places(self) -> None:
         view = loaded(VIEW)
         data = {"x": "{{script}} }} {{"}
