@@ -126,10 +126,12 @@ def random_quality(random: Random, poor_from: int) -> int:
     return random.choice((0, poor_from - 1, random.randrange(poor_from), random.randrange(9)))
 
 
-def false_lines(random: Random, world: World, lines: list[int], seconds: int, zone: Zone) -> list[list[Pulse]]:
-    """Lines of clocks that have one fault, or are too late or early, whatever quality they say, from some second on."""
+def false_lines(
+    random: Random, world: World, lines: list[int], seconds: int, zone: Zone, said: int = 0
+) -> list[list[Pulse]]:
+    """Lines of clocks that have one fault, or are too late or early and say this quality, from some second on."""
     fault, true = random.choice((None, v.fault_of(random_fault(random), 1))), random.randrange(seconds)
-    said, apart = random.randrange(8), 2 * (world.within - 1)
+    apart = 2 * (world.within - 1)
     frames = [*world.frames(seconds, zone)[:true], *world.frames(seconds, zone, fault or quality_fault(said))[true:]]
     ends = (apart, apart + 1, apart + OFF[said], apart + OFF[said] + 1, 3_000 - OFF[said], 3_001 - OFF[said], 5_000)
     lates = [sign * end for end in ends for sign in (-1, 1)] if fault is None else (0,)
@@ -167,7 +169,7 @@ def random_life(random: Random) -> tuple[World, Device, list[Call]]:
     world, redundancy = random_world(random), random.choice((1, 3, 3, 3, 5))
     seconds, zones = {1: 6, 3: 4, 5: 2}[redundancy], [Zone(local, False) for local in (0, 11, -10)]
     few = random.sample(range(redundancy), random.randint(0, redundancy // 2 + (random.random() < 0.4)))
-    lines = false_lines(random, world, few, seconds, random.choice(zones))
+    lines = false_lines(random, world, few, seconds, random.choice(zones), random.randrange(8))
     others = set(range(redundancy)) - set(few)
     day, poor_from = world.timeline.start.day, random.choice((7, 7, 8, 8, random.randint(1, 8)))
     qualities = [random_quality(random, poor_from) for _ in others]

@@ -72,7 +72,8 @@ class Coded:
 
 @dataclass(frozen=True)
 class Poor:
-    """What a port tells of a frame without a vote: of quality 10 to 15 (docs/READER.md), of a timekeeper 7 to 15."""
+    """What a port tells of a frame without a vote: of quality 10 to 15 (docs/READER.md); of a timekeeper's line, of the
+    quality from which the setup says that it has none (docs/EXACTNESS.md)."""
 
     quality: int
 
