@@ -110,11 +110,11 @@ static bool is_padding_of_timekeeper(size_t byte) {
                of_line == 39 || of_line > offsetof(irig_line, is_heard);
     size_t of_wires = byte - offsetof(irig_timekeeper, wires);
     if (byte < offsetof(irig_timekeeper, edge_us))
-        return of_wires > offsetof(irig_wires, prefers_frames);
+        return of_wires == offsetof(irig_wires, prefers_frames) + 1;
     if (byte < last_at) return false;
     if (byte < offsetof(irig_timekeeper, begin_us)) return of_second > 16;
     return byte > offsetof(irig_timekeeper, anchors) + offsetof(irig_anchors, has_young) &&
-           byte < offsetof(irig_timekeeper, check);
+           byte < offsetof(irig_timekeeper, pace);
 }
 
 static const kind kinds[] = {

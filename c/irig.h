@@ -61,9 +61,9 @@ IRIG_ASSERT(sizeof(irig_count) == 8u);
 
 /* The number of the layout: of the structures, and of what calls take and answer. The linker finds it
  * in the name of each call but irig_version, so that no program is linked with a library of another
- * layout. `undefined reference to irig_reader_init_layout_6` says that this header and the library
+ * layout. `undefined reference to irig_reader_init_layout_7` says that this header and the library
  * are of different ones: take both of one version, and compile all that includes the header. */
-#define IRIG_LAYOUT 6
+#define IRIG_LAYOUT 7
 #define IRIG_JOINED(name, number) name##_layout_##number
 #define IRIG_NAME(name, number) IRIG_JOINED(name, number)
 
@@ -342,10 +342,14 @@ typedef struct irig_wires {
     uint8_t prefers_frames; /* 0: where the lines and the table lead to different seconds at a
                              * month's end, none is announced (IRIG_CAUSE_LEAP_GUARD). Any other:
                              * what the lines say is followed */
+    uint32_t wander_ppb; /* 0 to 100,000: how many ns the length of one second by the counter may
+                          * differ from that of any other one that lies no more than the holdover
+                          * and 4,000 s from it (docs/COUNTER.md). By 0 nothing is learned of it */
 } irig_wires;
-IRIG_ASSERT((sizeof(irig_wires) == 16u) && (offsetof(irig_wires, drift_us) == 2u) &&
+IRIG_ASSERT((sizeof(irig_wires) == 20u) && (offsetof(irig_wires, drift_us) == 2u) &&
             (offsetof(irig_wires, delay_us) == 4u) &&
-            (offsetof(irig_wires, prefers_frames) == 14u));
+            (offsetof(irig_wires, prefers_frames) == 14u) &&
+            (offsetof(irig_wires, wander_ppb) == 16u));
 
 /* A line of a timekeeper. */
 typedef struct irig_line {
@@ -392,6 +396,14 @@ typedef struct irig_anchors {
 IRIG_ASSERT((sizeof(irig_anchors) == 28u) && (offsetof(irig_anchors, young) == 12u) &&
             (offsetof(irig_anchors, has_old) == 24u) && (offsetof(irig_anchors, has_young) == 25u));
 
+/* How long the next seconds are by the counter, as votes have taught it. */
+typedef struct irig_pace {
+    uint32_t second_ns; /* in ns of the counter. 0 if nothing is learned */
+    uint32_t within_ns; /* how much longer or shorter than that one may be */
+    uint32_t rest_ns;   /* how far behind its us the last edge lies that was counted, 0 to 999 */
+} irig_pace;
+IRIG_ASSERT((sizeof(irig_pace) == 12u) && (offsetof(irig_pace, rest_ns) == 8u));
+
 /* A timekeeper. All that is said of an irig_reader is true of it: its fields are there to be looked
  * at between calls, it may be copied and kept, and `check` is made of all numbers before it. */
 typedef struct irig_timekeeper {
@@ -415,21 +427,23 @@ typedef struct irig_timekeeper {
     uint32_t strays;       /* how many votes contradicted those before them */
     uint32_t doubt;        /* seconds to be voted yet before one is held again */
     irig_anchors anchors;  /* from where the length of a second is measured */
+    irig_pace pace;        /* what is learned of it: by that seconds are held over */
     uint64_t check;
 } irig_timekeeper;
-IRIG_ASSERT((sizeof(irig_timekeeper) == 1072u) && (offsetof(irig_timekeeper, state) == 536u) &&
+IRIG_ASSERT((sizeof(irig_timekeeper) == 1088u) && (offsetof(irig_timekeeper, state) == 536u) &&
             (offsetof(irig_timekeeper, lines) == 552u) &&
             (offsetof(irig_timekeeper, wires) == 912u) &&
-            (offsetof(irig_timekeeper, has_edge) == 936u) &&
-            (offsetof(irig_timekeeper, has_interval) == 937u) &&
-            (offsetof(irig_timekeeper, bound_us) == 938u) &&
-            (offsetof(irig_timekeeper, last) == 940u) &&
-            (offsetof(irig_timekeeper, before) == 960u) &&
-            (offsetof(irig_timekeeper, ended) == 980u) &&
-            (offsetof(irig_timekeeper, begin_us) == 1020u) &&
-            (offsetof(irig_timekeeper, doubt) == 1032u) &&
-            (offsetof(irig_timekeeper, anchors) == 1036u) &&
-            (offsetof(irig_timekeeper, check) == 1064u));
+            (offsetof(irig_timekeeper, has_edge) == 940u) &&
+            (offsetof(irig_timekeeper, has_interval) == 941u) &&
+            (offsetof(irig_timekeeper, bound_us) == 942u) &&
+            (offsetof(irig_timekeeper, last) == 944u) &&
+            (offsetof(irig_timekeeper, before) == 964u) &&
+            (offsetof(irig_timekeeper, ended) == 984u) &&
+            (offsetof(irig_timekeeper, begin_us) == 1024u) &&
+            (offsetof(irig_timekeeper, doubt) == 1036u) &&
+            (offsetof(irig_timekeeper, anchors) == 1040u) &&
+            (offsetof(irig_timekeeper, pace) == 1068u) &&
+            (offsetof(irig_timekeeper, check) == 1080u));
 
 /* What each line of a timekeeper is: bit p of a mask is line p. Each line is in exactly one. */
 typedef struct irig_masks {

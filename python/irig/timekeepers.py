@@ -155,6 +155,9 @@ class Timekeeper(Ruled):
         2 * (within_us - 1) for a vote, or further apart by what their clocks say of themselves
     drift_us: the most by which its counter is wrong, in microseconds a second, 0 to 100; then
         (holdover + 2) * drift_us may be 490,000 at most
+    wander_ppb: how many nanoseconds the length of one second by its counter may differ from that of any
+        other one that lies no more than the holdover and 4,000 seconds from it, 0 to 100,000. By 0 it
+        learns nothing of its counter, and holds over by drift_us alone
     delay_us: how many microseconds later than at its clock each line's pulses rise here, -4,000 to
         4,000, below 0 if it is early: this is taken off
     prefers_frames: whether it follows the frames where they contradict its leap table on a leap second.
@@ -175,6 +178,7 @@ class Timekeeper(Ruled):
         *,
         drift_us: int,
         within_us: int = 450,
+        wander_ppb: int = 0,
         delay_us: Sequence[int] = (),
         prefers_frames: bool = False,
         ports: Literal[1, 3, 5] = 3,
@@ -191,9 +195,11 @@ class Timekeeper(Ruled):
             lock_after, holdover, ports, parity, sense, sbs, not_before, poor
         )
         exact, drift = within("within_us", within_us, 1, 450), within("drift_us", drift_us, 0, 100)
+        wander = within("wander_ppb", wander_ppb, 0, 100_000)
         delays = [within("delay_us", delay, -4000, 4000) for delay in delay_us]
         within("how many of delay_us", len(delays), 0, ports)
-        self._held, wires = c.Timekeeper(), c.Wires(exact, drift, c.Delays(*delays), bool(prefers_frames))
+        wires = c.Wires(exact, drift, c.Delays(*delays), bool(prefers_frames), wander)
+        self._held = c.Timekeeper()
         check(c.timekeeper_init(self._held, setup, table_of(until, leaps), wires))
 
     def hear(self, line: int, rise_us: int, width_us: int) -> int:
@@ -270,6 +276,12 @@ class Timekeeper(Ruled):
         return int(self._held.wires.within_us)
 
     @property
+    def wander_ppb(self) -> int:
+        """How much the length of a second by its counter may change, in nanoseconds: 0 if it learns
+        nothing of it."""
+        return int(self._held.wires.wander_ppb)
+
+    @property
     def delay_us(self) -> Tuple[int, ...]:
         """How late each line is."""
         return tuple(self._held.wires.delay_us[: self.ports])
@@ -290,6 +302,6 @@ class Timekeeper(Ruled):
     def __repr__(self) -> str:
         return (
             f"Timekeeper(lock_after={self.lock_after}, holdover={self.holdover}, "
-            f"drift_us={self.drift_us}, within_us={self.within_us}, "
+            f"drift_us={self.drift_us}, within_us={self.within_us}, wander_ppb={self.wander_ppb}, "
             f"prefers_frames={self.prefers_frames}, ports={self.ports})"
         )

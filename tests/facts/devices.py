@@ -211,7 +211,7 @@ def clock(device: Device) -> Antt:
     limits = Antt(f"limits_of {record(not_before=0, poor_from=device.poor_from)}")
     delays = record(**dict(zip("abcde", map(integer, device.delays))))
     exact = {"within": Antt(f"within_of {device.within}"), "limits": limits, "drift_us": device.drift,
-             "delays": delays, "prefers_frames": device.prefers_frames}  # fmt: skip
+             "delays": delays, "prefers_frames": device.prefers_frames, "wander_ppb": 0}  # fmt: skip
     return record(reader_rules=device.reader_rules, redundancy=v.ports(device.redundancy), **exact)
 
 

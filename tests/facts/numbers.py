@@ -56,10 +56,11 @@ def random_setup(random: Random) -> tuple[Antt, Antt]:
     late = record(**{line: integer(random.randint(-4_000, 4_000)) for line in "abcde"})
     table = record(until=until, len=count, leaps=numbers)
     prefers = random.choice((0, 0, 1, random.randrange(256)))
-    wires = record(within_us=within, drift_us=drift, delays=late, prefers_frames=prefers)
+    wander = random.choice((0, 1_000, random.randint(0, 100_000)))
+    wires = record(within_us=within, drift_us=drift, delays=late, prefers_frames=prefers, wander_ppb=wander)
     limits = Antt(f"limits_of {record(not_before=not_before, poor_from=poor_from or 7)}")
     exact = {"within": Antt(f"within_of {within}"), "limits": limits, "drift_us": drift, "delays": late,
-             "prefers_frames": prefers != 0}  # fmt: skip
+             "prefers_frames": prefers != 0, "wander_ppb": wander}  # fmt: skip
     clock = record(reader_rules=reader_rules, redundancy=v.ports(ports), **exact)
     made = record(rules=rules, clock=clock, table=Table(until, tuple(leaps[:count])))
     return Antt(f"(made_in {setup} {table} {wires})"), made

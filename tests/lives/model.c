@@ -447,7 +447,8 @@ static uint32_t begin(const irig_setup *setup, const irig_table *table, const ir
                       uint32_t now_us) {
     (void)now_us;
     bool is_exact = wires->within_us >= 1 && wires->within_us <= 450;
-    if (!is_exact || wires->drift_us > 100 || setup->poor_from > 8) return IRIG_FAULT_VALUE;
+    bool is_steady = wires->drift_us <= 100 && wires->wander_ppb <= 100000;
+    if (!is_exact || !is_steady || setup->poor_from > 8) return IRIG_FAULT_VALUE;
     if ((uint64_t)(setup->holdover + 2) * wires->drift_us + 10000 > 500000) return IRIG_FAULT_DRIFT;
     k.reader.setup = *setup;
     if (setup->poor_from == 0) k.reader.setup.poor_from = 7;

@@ -238,20 +238,23 @@ static bool holdover_is_bounded(life *l, const subject *s) {
         uint32_t holdover;
         irig_wires wires;
         uint32_t answer;
-    } TRIED[] = {{4898, {450, 100, {0}, 0}, IRIG_DONE},
-                 {4899, {450, 100, {0}, 0}, IRIG_FAULT_DRIFT},
-                 {48998, {1, 10, {0}, 0}, IRIG_DONE},
-                 {48999, {1, 10, {0}, 0}, IRIG_FAULT_DRIFT},
-                 {489998, {450, 1, {0}, 0}, IRIG_DONE},
-                 {489999, {450, 1, {0}, 0}, IRIG_FAULT_DRIFT},
-                 {1000000, {450, 0, {0}, 0}, IRIG_DONE},
-                 {1000000, {450, 1, {0}, 0}, IRIG_FAULT_DRIFT},
-                 {0, {450, 101, {0}, 0}, IRIG_FAULT_VALUE},
-                 {0, {450, UINT16_MAX, {0}, 0}, IRIG_FAULT_VALUE},
-                 {0, {0, 0, {0}, 0}, IRIG_FAULT_VALUE},
-                 {0, {451, 0, {0}, 0}, IRIG_FAULT_VALUE},
-                 {1000000, {UINT16_MAX, 100, {0}, 0}, IRIG_FAULT_VALUE},
-                 {1000000, {450, 100, {0}, 0}, IRIG_FAULT_DRIFT}};
+    } TRIED[] = {{4898, {450, 100, {0}, 0, 0}, IRIG_DONE},
+                 {4899, {450, 100, {0}, 0, 0}, IRIG_FAULT_DRIFT},
+                 {48998, {1, 10, {0}, 0, 0}, IRIG_DONE},
+                 {48999, {1, 10, {0}, 0, 0}, IRIG_FAULT_DRIFT},
+                 {489998, {450, 1, {0}, 0, 0}, IRIG_DONE},
+                 {489999, {450, 1, {0}, 0, 0}, IRIG_FAULT_DRIFT},
+                 {1000000, {450, 0, {0}, 0, 0}, IRIG_DONE},
+                 {1000000, {450, 1, {0}, 0, 0}, IRIG_FAULT_DRIFT},
+                 {0, {450, 101, {0}, 0, 0}, IRIG_FAULT_VALUE},
+                 {0, {450, UINT16_MAX, {0}, 0, 0}, IRIG_FAULT_VALUE},
+                 {0, {450, 100, {0}, 0, 100000}, IRIG_DONE},
+                 {0, {450, 100, {0}, 0, 100001}, IRIG_FAULT_VALUE},
+                 {0, {450, 100, {0}, 0, UINT32_MAX}, IRIG_FAULT_VALUE},
+                 {0, {0, 0, {0}, 0, 0}, IRIG_FAULT_VALUE},
+                 {0, {451, 0, {0}, 0, 0}, IRIG_FAULT_VALUE},
+                 {1000000, {UINT16_MAX, 100, {0}, 0, 0}, IRIG_FAULT_VALUE},
+                 {1000000, {450, 100, {0}, 0, 0}, IRIG_FAULT_DRIFT}};
     begin_row(l, 1);
     for (size_t i = 0; i < sizeof TRIED / sizeof *TRIED; i++) {
         l->setup.holdover = TRIED[i].holdover;
@@ -262,7 +265,7 @@ static bool holdover_is_bounded(life *l, const subject *s) {
 
 /* No clock that says that it may be 10 ms off can be given a vote. */
 static bool poor_from_is_bounded(life *l, const subject *s) {
-    irig_wires wires = {450, 100, {0}, 0};
+    irig_wires wires = {450, 100, {0}, 0, 0};
     begin_row(l, 1);
     for (uint32_t from = 0; from <= UINT8_MAX; from++) {
         l->setup.poor_from = (uint8_t)from;

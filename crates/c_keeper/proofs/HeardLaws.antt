@@ -112,7 +112,7 @@ one_more t q k port rise width place l there behind is seal h =
         setup = h.accepted.setup;
         wires = h.accepted.wires;
         bound = h.accepted.bound;
-        known = h.accepted.known;
+        known = record { interval = h.accepted.known.interval; pace = h.accepted.known.pace };
         steady = h.accepted.steady;
         is_state = h.accepted.is_state;
         last = h.accepted.last;

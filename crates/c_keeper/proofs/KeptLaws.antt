@@ -62,5 +62,5 @@ kept_by_tick c table s now = by (vote_of_lines c s now)
     voted vote edges = pick s.lines (edges == 0) _ _ (taken_from now s.lines) (taken_from now s.lines)
 
     by : (vote : Option Vote) → AreKeptFrom s.lines (clock_by c table (settled_at c s now) now vote).lines
-    by None = own (edges_own s.edge_us now)
+    by None = own (edges_own (settled_at c s now).pace s.edge_us now)
     by (Some vote) = voted vote (edges_to_vote s.edge_us vote.edge_us)

@@ -15,7 +15,7 @@ use Rattle.irig_lines.specs.Exactness.{most_drift_us, fault_early_us, fault_late
 use Rattle.irig_lines.specs.Widths.{vote_us}
 use Rattle.irig_lines.specs.Edges.{IsQuartz}
 use Rattle.irig_timekeeper.specs.Keeping.{Keeping, answer_at}
-use Rattle.irig_timekeeper.specs.Life.{Call, AreInOrder, AreTrueLately, AreTrueAtTicks, AreTrueOver, after_calls, device_of}
+use Rattle.irig_timekeeper.specs.Life.{Call, AreInOrder, AreTrueLately, AreTrueAtTicks, AreTrueOver, after_calls, device_of, LivesTruly}
 use Rattle.irig_timekeeper.specs.Life.Call.{Hear, Tick}
 use Rattle.irig_lines.specs.Lines.{IsTrueLately, IsTrueOrFaulty}
 use Rattle.irig_timekeeper.specs.Lived.{MadeOf, made_with}
@@ -24,12 +24,13 @@ use Rattle.irig_timekeeper.specs.Truth.{IsToldInHoldover, IsLaterSecond, AreApar
 use Rattle.irig_timekeeper.specs.Healing as device
 use Rattle.irig_timekeeper.proofs.FaultLines.{either_tells_truly, fault_small}
 use Rattle.irig_timekeeper.proofs.HealLaws.{healed, in_order, calm_since}
-use Rattle.irig_timekeeper.proofs.LifeLaws.{TellAlwaysTruly, begins, device_calm, device_in_order, device_true}
+use Rattle.irig_timekeeper.proofs.LearnLaws.{steps_plainly, steps_so, steps_truly}
+use Rattle.irig_timekeeper.proofs.LifeLaws.{StepsIn, TellAlwaysTruly, begins, device_calm, device_in_order, device_true}
 use Rattle.irig_lines.proofs.LineLaws.{true_by_any}
 use Rattle.irig_timekeeper.proofs.OrderLaws.{edges_apart}
 use Rattle.c_numbers.specs.Reports.{report_in}
 use Rattle.irig_lines.specs.Clocks.{IsTrueByItsClock, IsTrueByItsQuality}
-use Rattle.irig_timekeeper.proofs.ClockLines.{clocks_tell_truly, qualities_tell_truly}
+use Rattle.irig_timekeeper.proofs.ClockLines.{clocks_tell_truly, qualities_are_even, qualities_tell_truly}
 use Rattle.c_keeper.specs.declared.second.IrigSecond.{IrigSecond}
 use Rattle.c_keeper.specs.declared.timekeeper.IrigTimekeeper.{IrigTimekeeper}
 use Rattle.c_keeper.specs.Lives.{Moment, HasLived, HaveTold, HasHealed, GoesOnTruly, beat_in, calls_of}
@@ -91,35 +92,40 @@ as_told s beat t edges early late c now u same h = record {
 
 -- what such lines keep is true, and ends as near its edge as that of a line that is so exact by a clock of
 -- its quality, and at most so much earlier or later
-pub record AreLinesSo (c : ClockRules) (IsTrue : Rules → TimelineValue → (ℕ → ℕ) → ℕ → List Pulse → Type 0) (early late : ℕ) : Type 0 where
-  pub room : c.drift_us ≤ most_drift_us → early + late ≤ 3002
-  pub truly : (rules : Rules) (t : TimelineValue) (edges : ℕ → ℕ) → IsQuartz c.drift_us edges → TellAlwaysTruly (IsTrue rules t edges) c rules t edges early late
+pub record AreLinesSo (made : MadeOf) (IsTrue : Rules → TimelineValue → (ℕ → ℕ) → ℕ → List Pulse → Type 0) (early late : ℕ) : Type 0 where
+  pub room : made.clock.drift_us ≤ most_drift_us → early + late ≤ 3002
+  pub truly : (rules : Rules) (t : TimelineValue) (edges : ℕ → ℕ) → IsQuartz made.clock.drift_us edges → TellAlwaysTruly (IsTrue rules t edges) made.clock rules t edges early late
+  pub goes_on : (t : TimelineValue) (edges : ℕ → ℕ) (lines : Lines) (fresh : AreNewLines lines) (start : ℕ) (calls : List Call) → LivesTruly IsTrue t edges (made_with made lines fresh) start calls → StepsIn edges early late (device_of (made_with made lines fresh)) start calls
 
-pub whole_lines : (c : ClockRules) → AreLinesSo c (IsTrueLately c.within.us) 0 0
-whole_lines c = record {
+pub whole_lines : (made : MadeOf) → AreLinesSo made (IsTrueLately made.clock.within.us) 0 0
+whole_lines made = record {
   room = λ few. omega arith;
-  truly = λ rules t edges steady now half end pulses claim is frame soon. true_by_any c rules t c.drift_us edges half now end pulses claim steady is frame soon;
+  truly = λ rules t edges steady now half end pulses claim is frame soon. true_by_any made.clock rules t made.clock.drift_us edges half now end pulses claim steady is frame soon;
+  goes_on = λ t edges lines fresh start calls lives. steps_truly t edges (made_with made lines fresh) start calls lives;
 }
 
--- they may have faults
-pub faulty_lines : (c : ClockRules) → AreLinesSo c (IsTrueOrFaulty c.within.us) (fault_early_us c.within.us c.drift_us) (fault_late_us c.within.us c.drift_us)
-faulty_lines c = record {
-  room = λ few. (let most = fault_small c.within c.drift_us few in omega (arith, most.0, most.1));
-  truly = λ rules t edges steady. either_tells_truly c rules t edges steady;
+-- they may have faults, of a device that learns nothing from them
+pub faulty_lines : (made : MadeOf) → made.clock.wander_ppb ≡ 0 → AreLinesSo made (IsTrueOrFaulty made.clock.within.us) (fault_early_us made.clock.within.us made.clock.drift_us) (fault_late_us made.clock.within.us made.clock.drift_us)
+faulty_lines made plain = record {
+  room = λ few. (let most = fault_small made.clock.within made.clock.drift_us few in omega (arith, most.0, most.1));
+  truly = λ rules t edges steady. either_tells_truly made.clock rules t edges steady;
+  goes_on = λ t edges lines fresh start calls lives. steps_plainly t edges (made_with made lines fresh) start calls (fault_early_us made.clock.within.us made.clock.drift_us) (fault_late_us made.clock.within.us made.clock.drift_us) plain lives.is;
 }
 
--- they may be so by clocks that are off
-pub clock_lines : (off : ℕ) (c : ClockRules) → off ≤ 1000 → AreLinesSo c (IsTrueByItsClock off c.within.us c.drift_us) off off
-clock_lines off c few = record {
+-- they may be so by clocks that are off, of such a device
+pub clock_lines : (off : ℕ) (made : MadeOf) → made.clock.wander_ppb ≡ 0 → off ≤ 1000 → AreLinesSo made (IsTrueByItsClock off made.clock.within.us made.clock.drift_us) off off
+clock_lines off made plain few = record {
   room = λ low. omega (arith, few);
-  truly = λ rules t edges steady. clocks_tell_truly off c rules t edges;
+  truly = λ rules t edges steady. clocks_tell_truly off made.clock rules t edges;
+  goes_on = λ t edges lines fresh start calls lives. steps_plainly t edges (made_with made lines fresh) start calls off off plain lives.is;
 }
 
 -- or by clocks that are no further off than they say
-pub quality_lines : (c : ClockRules) → AreLinesSo c (IsTrueByItsQuality c) 0 0
-quality_lines c = record {
+pub quality_lines : (made : MadeOf) → AreLinesSo made (IsTrueByItsQuality made.clock) 0 0
+quality_lines made = record {
   room = λ few. omega arith;
-  truly = λ rules t edges steady. qualities_tell_truly c rules t edges;
+  truly = λ rules t edges steady. qualities_tell_truly made.clock rules t edges;
+  goes_on = λ t edges lines fresh start calls lives. steps_so (IsTrueByItsQuality made.clock) t edges (made_with made lines fresh) start calls (qualities_tell_truly made.clock made.rules t edges) (qualities_are_even made.clock made.rules t edges) lives;
 }
 
 module _ (IsTrue : Rules → TimelineValue → (ℕ → ℕ) → ℕ → List Pulse → Type 0) (t : TimelineValue) (edges : ℕ → ℕ) (made : MadeOf) (start : ℕ) (lines : Lines) (fresh : AreNewLines lines) where
@@ -134,6 +140,7 @@ module _ (IsTrue : Rules → TimelineValue → (ℕ → ℕ) → ℕ → List Pu
       let vote = mended.0.vote h.vote in
       record {
         is = h.is;
+        plain = h.plain;
         order = h.order;
         later = calls_of h.later;
         mend = h.mend;
@@ -147,14 +154,14 @@ module _ (IsTrue : Rules → TimelineValue → (ℕ → ℕ) → ℕ → List Pu
         since = h.since;
       }
 
-  healed_tells : (early late : ℕ) → AreLinesSo made.clock IsTrue early late → (now : ℕ) (calls : List Call) (beat : Beat) (u : UtcSecond) → device.HasHealed IsTrue t edges (made_with made lines fresh) start calls
+  healed_tells : (early late : ℕ) → AreLinesSo made IsTrue early late → (now : ℕ) (calls : List Call) (beat : Beat) (u : UtcSecond) → device.HasHealed IsTrue t edges (made_with made lines fresh) start calls
       → AreInOrder start made.clock.redundancy (Tick now ∷ calls) → AreTrueLately (IsTrue made.rules t edges) (f_of made.clock.redundancy) now calls
       → answer_at (after_calls new calls) (now % 2 ^ 32) ≡ Some beat → beat.report.announce ≡ Some u
       → IsToldInHoldover t edges early late made.clock now beat u
   healed_tells early late so now calls beat u h =
       subst Tells (sym h.are) (λ order here answer says.
       healed (IsTrue made.rules t edges) t edges early late new start (begins made.rules made.clock made.table lines start fresh) tt h.is (so.room h.is.steady.few)
-      (so.truly made.rules t edges h.is.steady) (omega arith)
+      (so.truly made.rules t edges h.is.steady) (record { off = h.plain; none = refl }) (omega arith)
       h.earlier h.later h.mend now h.vote h.beat beat u order h.truth (here, h.since) h.voted h.answer answer says)
     where
       Tells : List Call → Type 0
@@ -162,7 +169,7 @@ module _ (IsTrue : Rules → TimelineValue → (ℕ → ℕ) → ℕ → List Pu
           → answer_at (after_calls new calls) (now % 2 ^ 32) ≡ Some beat → beat.report.announce ≡ Some u
           → IsToldInHoldover t edges early late made.clock now beat u
 
-module _ (IsTrue : Rules → TimelineValue → (ℕ → ℕ) → ℕ → List Pulse → Type 0) (early late : ℕ) (q : IrigTimekeeper) (t : TimelineValue) (edges : ℕ → ℕ) (made : MadeOf) (so : AreLinesSo made.clock IsTrue early late) where
+module _ (IsTrue : Rules → TimelineValue → (ℕ → ℕ) → ℕ → List Pulse → Type 0) (early late : ℕ) (q : IrigTimekeeper) (t : TimelineValue) (edges : ℕ → ℕ) (made : MadeOf) (so : AreLinesSo made IsTrue early late) where
   -- what is announced in a life is true
   pub tells_truly : (start now : ℕ) (past : List Moment) (s : IrigSecond) (u : UtcSecond) → HasLived q made (Ticked now s ∷ past)
       → GoesOnTruly IsTrue t edges made start now [] past → (report_in s.report).announce ≡ Some u
@@ -173,7 +180,8 @@ module _ (IsTrue : Rules → TimelineValue → (ℕ → ℕ) → ℕ → List Pu
       as_told s beat.0 t edges early late made.clock now u beat.1.told
       (elim g.sound [
         | inl well ↦ device_true made.rules made.clock made.table h.lines start h.fresh (IsTrue made.rules t edges) t edges early late well.is (so.room well.is.steady.few)
-            (so.truly made.rules t edges well.is.steady) (calls_of past) now beat.0 u g.order (g.truth.0, well.truth) beat.1.is announces
+            (so.truly made.rules t edges well.is.steady) (calls_of past) now beat.0 u g.order (g.truth.0, well.truth)
+            (so.goes_on t edges h.lines h.fresh start (Tick now ∷ calls_of past) (record { is = well.is; learns = well.learns; order = g.order; truth = (g.truth.0, well.truth) })) beat.1.is announces
         | inr mended ↦ healed_tells IsTrue t edges made start h.lines h.fresh early late so now (calls_of past) beat.0 u (as_device IsTrue t edges made start h.lines h.fresh past h.told.1 mended) g.order g.truth.0 beat.1.is announces
       ])
 
@@ -185,11 +193,12 @@ module _ (IsTrue : Rules → TimelineValue → (ℕ → ℕ) → ℕ → List Pu
       let jumps = ap (λ (r : Report). r.cause) (sym beat.1.told.report) ∙ jump in
       elim g.sound [
         | inl well ↦ device_calm made.rules made.clock made.table h.lines start h.fresh (IsTrue made.rules t edges) t edges early late well.is (so.room well.is.steady.few)
-            (so.truly made.rules t edges well.is.steady) (calls_of past) now beat.0 g.order (g.truth.0, well.truth) beat.1.is jumps
+            (so.truly made.rules t edges well.is.steady) (calls_of past) now beat.0 g.order (g.truth.0, well.truth)
+            (so.goes_on t edges h.lines h.fresh start (Tick now ∷ calls_of past) (record { is = well.is; learns = well.learns; order = g.order; truth = (g.truth.0, well.truth) })) beat.1.is jumps
         | inr mended ↦
             let d = as_device IsTrue t edges made start h.lines h.fresh past h.told.1 mended in
             calm_since (IsTrue made.rules t edges) t edges early late (new IsTrue t edges made start h.lines h.fresh) start (begins made.rules made.clock made.table h.lines start h.fresh) tt d.is (so.room d.is.steady.few)
-            (so.truly made.rules t edges d.is.steady)
+            (so.truly made.rules t edges d.is.steady) (record { off = d.plain; none = refl })
             d.earlier d.mend d.vote d.beat d.truth d.voted d.answer d.later (calls_of past) now d.are d.since g.order g.truth.0 beat.0 beat.1.is jumps
       ]
 
@@ -208,14 +217,17 @@ module _ (IsTrue : Rules → TimelineValue → (ℕ → ℕ) → ℕ → List Pu
       let says_one = ap (λ (r : Report). r.announce) (sym one.1.told.report) ∙ says in
       let says_two = ap (λ (r : Report). r.announce) (sym two.1.told.report) ∙ then in
       elim g.sound [
-        | inl well ↦ device_in_order made.rules made.clock made.table h.lines start h.fresh (IsTrue made.rules t edges) t edges early late well.is (so.room well.is.steady.few)
+        | inl well ↦
+            let all_true = true_at_all (IsTrue made.rules t edges) (f_of made.clock.redundancy) (Tick now ∷ calls_of later) (Tick before ∷ calls_of earlier) g.truth well.truth in
+            device_in_order made.rules made.clock made.table h.lines start h.fresh (IsTrue made.rules t edges) t edges early late well.is (so.room well.is.steady.few)
             (so.truly made.rules t edges well.is.steady) (calls_of earlier) (calls_of later) before now one.0 two.0 u v order
-            (true_at_all (IsTrue made.rules t edges) (f_of made.clock.redundancy) (Tick now ∷ calls_of later) (Tick before ∷ calls_of earlier) g.truth well.truth)
+            all_true
+            (so.goes_on t edges h.lines h.fresh start (Tick now ∷ (calls_of later ++ (Tick before ∷ calls_of earlier))) (record { is = well.is; learns = well.learns; order = order; truth = all_true }))
             one.1.is says_one answers says_two
         | inr mended ↦
             let d = as_device IsTrue t edges made start h.lines h.fresh (Ticked before first ∷ earlier) told mended in
             in_order (IsTrue made.rules t edges) t edges early late made_new start (begins made.rules made.clock made.table h.lines start h.fresh) tt d.is (so.room d.is.steady.few)
-            (so.truly made.rules t edges d.is.steady)
+            (so.truly made.rules t edges d.is.steady) (record { off = d.plain; none = refl })
             d.earlier d.mend d.vote d.beat d.truth d.voted d.answer d.later before (calls_of earlier) (calls_of later) now one.0 two.0 u v d.are d.since order g.truth one.1.is says_one answers says_two
       ]
 

@@ -1,7 +1,7 @@
 -- A tick that finds nothing to do says nothing, and leaves the clock as it is.
 use Rattle.std.specs.Prelude.{◌||◌, ◌&&◌, not, nat_le, nat_lt}
-use Rattle.std.proofs.Common.{◌≡◌, ◌∙◌, ◌==◌, ℕ, ◌+◌, ◌-◌, ◌*◌, ◌%◌, ◌<◌, ◌≤◌, Bool, true, false, if◌then◌else◌, Option, Some, None, is_none, refl, ap, sym, arith, inl, inr}
-use Rattle.std.proofs.lemmas.Bool.{eq-eqb, eqb-true}
+use Rattle.std.proofs.Common.{◌≡◌, ◌∙◌, ◌==◌, ℕ, ◌+◌, ◌-◌, ◌*◌, ◌/◌, ◌%◌, ◌<◌, ◌≤◌, Bool, true, false, if◌then◌else◌, Option, Some, None, is_none, refl, ap, sym, arith, inl, inr}
+use Rattle.std.proofs.lemmas.Bool.{cases_Bool, eq-eqb, eqb-true}
 use Rattle.irig_sync.specs.declared.sync.Sync.{Sync}
 use Rattle.irig_sync.specs.Sync.{clock_gap, is_idle}
 use Rattle.irig_time.specs.declared.rules.Rules.{Rules}
@@ -20,7 +20,7 @@ use Rattle.irig_lines.specs.declared.rate.Anchor.{Anchor}
 use Rattle.irig_lines.specs.Steps.{agreed, are_uneven, if_come, line_settled, settled, still_kept, still_seen}
 use Rattle.irig_lines.proofs.PartLaws.{split}
 use Rattle.irig_timekeeper.specs.declared.clock.ClockState.{ClockState}
-use Rattle.irig_timekeeper.specs.Clock.{after_own, anchors_unless, answer_by, clock_after, clock_answer, clock_by, doubted_s, is_unsteady, knowing, settled_at, vote_of_lines}
+use Rattle.irig_timekeeper.specs.Clock.{after_own, anchors_unless, answer_by, clock_after, clock_answer, clock_by, doubted_s, is_unsteady, knowing, settled_at, vote_of_lines, pace_unless}
 use Rattle.c_numbers.specs.LeapTables.{table_in}
 use Rattle.c_numbers.specs.Setups.{rules_in}
 use Rattle.c_lines.specs.declared.line.IrigLine.{IrigLine}
@@ -31,6 +31,8 @@ use Rattle.c_lines.specs.Quiet.{are_quiet, is_quiet_line}
 use Rattle.c_keeper.specs.declared.anchors.IrigAnchor.{IrigAnchor}
 use Rattle.c_keeper.specs.Anchors.{anchor_in, anchors_in, are_young, is_young}
 use Rattle.c_keeper.specs.Quiet.{IsAtRest}
+use Rattle.irig_lines.specs.declared.pace.Pace.{Pace}
+use Rattle.c_keeper.specs.Paces.{pace_in}
 use Rattle.c_keeper.specs.Timekeepers.{clock_in, clock_state_in, edge_in, interval_in, HasShortInterval}
 
 -- ---- a line
@@ -129,20 +131,22 @@ steady : (none uneven : Bool) (edges : ℕ) → edges ≡ 0 → (none && (not (e
 steady true uneven edges zero = rw zero refl
 steady false uneven edges zero = refl
 
-settled_same : (c : ClockRules) (now : ℕ) (s : ClockState) → AreQuiet now s.lines → edges_own s.edge_us now ≡ 0 → settled_at c s now ≡ s
+settled_same : (c : ClockRules) (now : ℕ) (s : ClockState) → AreQuiet now s.lines → edges_own s.pace s.edge_us now ≡ 0 → settled_at c s now ≡ s
 settled_same c now s h none =
     let lines = same_lines now s.lines h in
-    let no : is_unsteady c s now ≡ false = steady (is_none (vote_of_lines c s now)) (are_uneven c (settled now s.lines)) (edges_own s.edge_us now) none in
+    let no : is_unsteady c s now ≡ false = steady (is_none (vote_of_lines c s now)) (are_uneven c (settled now s.lines)) (edges_own s.pace s.edge_us now) none in
     let strays : (if is_unsteady c s now then (s.strays + 1) % 4294967296 else s.strays) ≡ s.strays = ap (λ (b : Bool). if b then (s.strays + 1) % 4294967296 else s.strays) no in
     let doubt : (if is_unsteady c s now then doubted_s c else s.doubt) ≡ s.doubt = ap (λ (b : Bool). if b then doubted_s c else s.doubt) no in
     let anchors : anchors_unless (is_unsteady c s now) s.anchors ≡ s.anchors = ap (λ (b : Bool). anchors_unless b s.anchors) no in
-    λ i. record s { lines = lines i; anchors = anchors i; strays = strays i; doubt = doubt i }
+    let pace : pace_unless (is_unsteady c s now) s.pace ≡ s.pace = ap (λ (b : Bool). pace_unless b s.pace) no in
+    λ i. record s { lines = lines i; anchors = anchors i; pace = pace i; strays = strays i; doubt = doubt i }
 
-quiet_answer : (c : ClockRules) (table : TableValue) (now : ℕ) (s : ClockState) → AreQuiet now s.lines → edges_own s.edge_us now ≡ 0 → clock_answer c table s now ≡ None
+quiet_answer : (c : ClockRules) (table : TableValue) (now : ℕ) (s : ClockState) → AreQuiet now s.lines → edges_own s.pace s.edge_us now ≡ 0 → clock_answer c table s now ≡ None
 quiet_answer c table now s h none =
-    ap (λ (vote : Option Vote). answer_by c table (settled_at c s now) now vote) (no_vote c now s h) ∙ rw none refl
+    ap (λ (vote : Option Vote). answer_by c table (settled_at c s now) now vote) (no_vote c now s h)
+    ∙ (ap (λ (x : ClockState). answer_by c table x now None) (settled_same c now s h none) ∙ rw none refl)
 
-quiet_after : (c : ClockRules) (table : TableValue) (now : ℕ) (s : ClockState) → AreQuiet now s.lines → edges_own s.edge_us now ≡ 0 → carried_on c.drift_us 0 s.interval ≡ s.interval
+quiet_after : (c : ClockRules) (table : TableValue) (now : ℕ) (s : ClockState) → AreQuiet now s.lines → edges_own s.pace s.edge_us now ≡ 0 → carried_on c.drift_us 0 s.interval ≡ s.interval
     → anchors_on 0 s.interval s.anchors ≡ s.anchors → clock_after c table s now ≡ s
 quiet_after c table now s h none known serve =
     let anchors = ap (λ (x : Option Interval). anchors_on 0 x s.anchors) known ∙ serve in
@@ -213,11 +217,27 @@ anchors_still t is = by (t.has_interval == 0) is
         let young = aged_nowhere t.anchors.has_young t.anchors.young both.1 in
         λ i. record { old = old i; young = young i }
 
+-- whether a second has come by the own counter does not depend on what was learned
+none_by_any : (pace : Option Pace) (o : Option ℕ) (now : ℕ) → edges_own None o now ≡ 0 → edges_own pace o now ≡ 0
+none_by_any pace None now none = refl
+none_by_any None (Some e) now none = none
+none_by_any (Some p) (Some e) now none = elim (cases_Bool (nat_lt (clock_gap e now) 2147483648)) [
+  | inl near ↦
+      let nothing : (clock_gap e now - 6000) / 1000000 ≡ 0 = rw near at none in
+      let low : nat_lt (clock_gap e now) 1006000 ≡ true = less (clock_gap e now) (omega (arith, nothing)) in
+      rw (near, low) refl
+  | inr far ↦ rw far refl
+]
+  where
+    less : (g : ℕ) → g < 1006000 → nat_lt g 1006000 ≡ true
+    less g h = grind (arith, h)
+
 -- it says nothing, and nothing changes
-pub at_rest : (t : IrigTimekeeper) (now : ℕ) → edges_own (edge_in t) now ≡ 0 → are_young t.has_interval t.anchors ≡ true → are_quiet now t.lines ≡ true → HasShortInterval t → t.begin_us < 4294967296 → IsAtRest t now
+pub at_rest : (t : IrigTimekeeper) (now : ℕ) → edges_own None (edge_in t) now ≡ 0 → are_young t.has_interval t.anchors ≡ true → are_quiet now t.lines ≡ true → HasShortInterval t → t.begin_us < 4294967296 → IsAtRest t now
 at_rest t now none young is short fits =
     let lines = quiet_lines now (Some (clock_in t).limits.limits) (rules_in t.setup) t.lines is in
+    let nothing = none_by_any (pace_in t.pace) (edge_in t) now none in
     record {
-      answer = quiet_answer (clock_in t) (table_in t.table) now (clock_state_in t) lines none;
-      state = quiet_after (clock_in t) (table_in t.table) now (clock_state_in t) lines none (known_still t (clock_in t).drift_us short fits) (anchors_still t young);
+      answer = quiet_answer (clock_in t) (table_in t.table) now (clock_state_in t) lines nothing;
+      state = quiet_after (clock_in t) (table_in t.table) now (clock_state_in t) lines nothing (known_still t (clock_in t).drift_us short fits) (anchors_still t young);
     }

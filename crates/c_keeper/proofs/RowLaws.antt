@@ -90,7 +90,7 @@ module _ (q : IrigTimekeeper) (made : MadeOf) (past : List Moment) (h : HasLived
   announces : first.0.report.announce ≡ Some u
   announces = ap (λ (r : Report). r.announce) (sym first.1.told.report) ∙ says
 
-  module _ (IsTrue : Rules → TimelineValue → (ℕ → ℕ) → ℕ → List Pulse → Type 0) (early late : ℕ) (t : TimelineValue) (edges : ℕ → ℕ) (so : AreLinesSo made.clock IsTrue early late) (start : ℕ)
+  module _ (IsTrue : Rules → TimelineValue → (ℕ → ℕ) → ℕ → List Pulse → Type 0) (early late : ℕ) (t : TimelineValue) (edges : ℕ → ℕ) (so : AreLinesSo made IsTrue early late) (start : ℕ)
       (lives : GoesOnTruly IsTrue t edges made start row.now row.between base) (none : then.missed ≡ 0) where
     order : AreInOrder start made.clock.redundancy (Tick row.now ∷ (calls_of row.between ++ calls_of base))
     order = subst (λ (x : List Call). AreInOrder start made.clock.redundancy (Tick row.now ∷ x)) mid_is lives.order
@@ -100,12 +100,12 @@ module _ (q : IrigTimekeeper) (made : MadeOf) (past : List Moment) (h : HasLived
     close = elim lives.sound [
       | inl well ↦
           let truly = so.truly made.rules t edges well.is.steady in
-          let told = (device_true made.rules made.clock made.table h.lines start h.fresh (IsTrue made.rules t edges) t edges early late well.is (so.room well.is.steady.few) truly (calls_of row.earlier) row.before first.0 u well.order well.truth first.1.is announces).told in
+          let told = (device_true made.rules made.clock made.table h.lines start h.fresh (IsTrue made.rules t edges) t edges early late well.is (so.room well.is.steady.few) truly (calls_of row.earlier) row.before first.0 u well.order well.truth (so.goes_on t edges h.lines h.fresh start (calls_of base) (record { is = well.is; learns = well.learns; order = well.order; truth = well.truth })) first.1.is announces).told in
           told_in_a_row made.rules made.clock made.table h.lines start h.fresh (IsTrue made.rules t edges) t edges early late well.is (so.room well.is.steady.few) truly (calls_of past) first.0 last.0 edge next u as_row order lives.truth told announces missed
       | inr mended ↦
           let d = as_device IsTrue t edges made start h.lines h.fresh base told_base mended in
           in_a_row_since made.rules made.clock made.table h.lines start h.fresh (IsTrue made.rules t edges) t edges early late d.is (so.room d.is.steady.few) (so.truly made.rules t edges d.is.steady)
-          (calls_of past) first.0 last.0 edge next u as_row d.earlier d.later d.mend d.vote d.beat d.truth d.voted d.answer d.are d.since order lives.truth announces missed
+          (calls_of past) first.0 last.0 edge next u as_row d.earlier d.later d.mend d.vote d.beat d.truth d.voted d.answer d.are d.since order lives.truth (record { off = d.plain; none = refl }) announces missed
     ]
       where
         missed : last.0.missed ≡ 0
@@ -117,8 +117,8 @@ module _ (q : IrigTimekeeper) (made : MadeOf) (past : List Moment) (h : HasLived
 
   pub none_lost_truly : (t : TimelineValue) (edges : ℕ → ℕ) (start time : ℕ) → GoesOnTruly (IsTrueLately made.clock.within.us) t edges made start row.now row.between base → then.missed ≡ 0 → edge ≤ time → time ≤ next + 1000000 + then.bound_us
       → (stamp : Stamp) × (stamp_at (life_of (made_with made h.lines h.fresh) (calls_of past)) (time % 2 ^ 32) ≡ Some stamp)
-  none_lost_truly t edges start time lives none = lost_none (IsTrueLately made.clock.within.us) 0 0 t edges (whole_lines made.clock) start lives none time
+  none_lost_truly t edges start time lives none = lost_none (IsTrueLately made.clock.within.us) 0 0 t edges (whole_lines made) start lives none time
 
-  pub none_lost_faulty : (t : TimelineValue) (edges : ℕ → ℕ) (start time : ℕ) → GoesOnTruly (IsTrueOrFaulty made.clock.within.us) t edges made start row.now row.between base → then.missed ≡ 0 → edge ≤ time → time ≤ next + 1000000 + then.bound_us
+  pub none_lost_faulty : made.clock.wander_ppb ≡ 0 → (t : TimelineValue) (edges : ℕ → ℕ) (start time : ℕ) → GoesOnTruly (IsTrueOrFaulty made.clock.within.us) t edges made start row.now row.between base → then.missed ≡ 0 → edge ≤ time → time ≤ next + 1000000 + then.bound_us
       → (stamp : Stamp) × (stamp_at (life_of (made_with made h.lines h.fresh) (calls_of past)) (time % 2 ^ 32) ≡ Some stamp)
-  none_lost_faulty t edges start time lives none = lost_none (IsTrueOrFaulty made.clock.within.us) (fault_early_us made.clock.within.us made.clock.drift_us) (fault_late_us made.clock.within.us made.clock.drift_us) t edges (faulty_lines made.clock) start lives none time
+  none_lost_faulty plain t edges start time lives none = lost_none (IsTrueOrFaulty made.clock.within.us) (fault_early_us made.clock.within.us made.clock.drift_us) (fault_late_us made.clock.within.us made.clock.drift_us) t edges (faulty_lines made plain) start lives none time

@@ -44,7 +44,7 @@ stamped_as t k time h = ap (λ (s : ClockState). stamp_of s.last s.before time) 
 -- ---- a stamp is true
 
 -- off by so much more, as frames of such lines end before their edges and behind them
-module _ (IsTrue : Rules → TimelineValue → (ℕ → ℕ) → ℕ → List Pulse → Type 0) (early late more : ℕ) (low : early ≤ more) (high : late ≤ more) (q : IrigTimekeeper) (t : TimelineValue) (edges : ℕ → ℕ) (made : MadeOf) (so : AreLinesSo made.clock IsTrue early late) (start time now : ℕ)
+module _ (IsTrue : Rules → TimelineValue → (ℕ → ℕ) → ℕ → List Pulse → Type 0) (early late more : ℕ) (low : early ≤ more) (high : late ≤ more) (q : IrigTimekeeper) (t : TimelineValue) (edges : ℕ → ℕ) (made : MadeOf) (so : AreLinesSo made IsTrue early late) (start time now : ℕ)
     (past : List Moment) (stamp : Stamp) (h : HasLived q made past) (e : stamp_at (life_of (made_with made h.lines h.fresh) (calls_of past)) (time % 2 ^ 32) ≡ Some stamp) where
   stamped_healed : (mended : HasHealedBefore IsTrue t edges made start past time) → AreInOrder start made.clock.redundancy (Tick now ∷ calls_of past) → time ≤ now → now ≤ time + 1800000000 → IsStampedTruly t edges more time stamp
   stamped_healed mended order behind young =
@@ -54,7 +54,7 @@ module _ (IsTrue : Rules → TimelineValue → (ℕ → ℕ) → ℕ → List Pu
       let same = (beat_of vote.second _ told.is vote.told).1.told in
       let ordered = order_before start made.clock.redundancy d.later (Tick d.mend ∷ d.earlier) (subst (AreInOrder start made.clock.redundancy) d.are d.order) in
       stamped_since made.rules made.clock made.table h.lines start h.fresh (IsTrue made.rules t edges) t edges early late more d.is (so.room d.is.steady.few) low high
-      (so.truly made.rules t edges d.is.steady)
+      (so.truly made.rules t edges d.is.steady) d.plain
       d.earlier d.mend d.vote d.beat d.truth ordered d.voted d.answer mended.edge time now
       (record { clock = sym same.edge_us ∙ mended.at.clock; come = mended.at.come; soon = mended.at.soon })
       (elim mended.when [ inl after ↦ inl after | inr silent ↦ inr (ap (λ (r : Report). r.announce) (sym same.report) ∙ silent) ])
@@ -63,22 +63,23 @@ module _ (IsTrue : Rules → TimelineValue → (ℕ → ℕ) → ℕ → List Pu
   stamped_so : StampsTruly IsTrue t edges made start time now past → IsStampedTruly t edges more time stamp
   stamped_so lives = elim lives.sound [
     | inl well ↦ stamped made.rules made.clock made.table h.lines start h.fresh t edges early late more well.is low high (IsTrue made.rules t edges) (so.room well.is.steady.few)
-        (so.truly made.rules t edges well.is.steady) (calls_of past) time now lives.order well.truth lives.behind lives.young stamp e
+        (so.truly made.rules t edges well.is.steady) (calls_of past) time now lives.order well.truth
+        (so.goes_on t edges h.lines h.fresh start (calls_of past) (record { is = well.is; learns = well.learns; order = well.order; truth = well.truth })) lives.behind lives.young stamp e
     | inr mended ↦ stamped_healed mended lives.order lives.behind lives.young
   ]
 
 module _ (q : IrigTimekeeper) (t : TimelineValue) (edges : ℕ → ℕ) (made : MadeOf) (start time now : ℕ) (past : List Moment) (stamp : Stamp) (h : HasLived q made past) (e : stamp_at (life_of (made_with made h.lines h.fresh) (calls_of past)) (time % 2 ^ 32) ≡ Some stamp) where
   pub stamped_truly : StampsTruly (IsTrueLately made.clock.within.us) t edges made start time now past → IsStampedTruly t edges 0 time stamp
-  stamped_truly = stamped_so (IsTrueLately made.clock.within.us) 0 0 0 (omega arith) (omega arith) q t edges made (whole_lines made.clock) start time now past stamp h e
+  stamped_truly = stamped_so (IsTrueLately made.clock.within.us) 0 0 0 (omega arith) (omega arith) q t edges made (whole_lines made) start time now past stamp h e
 
-  pub stamped_faulty : StampsTruly (IsTrueOrFaulty made.clock.within.us) t edges made start time now past → IsStampedTruly t edges (fault_early_us made.clock.within.us made.clock.drift_us) time stamp
-  stamped_faulty = stamped_so (IsTrueOrFaulty made.clock.within.us) (fault_early_us made.clock.within.us made.clock.drift_us) (fault_late_us made.clock.within.us made.clock.drift_us) (fault_early_us made.clock.within.us made.clock.drift_us) (omega arith) (late_below made.clock.within.us made.clock.drift_us) q t edges made (faulty_lines made.clock) start time now past stamp h e
+  pub stamped_faulty : made.clock.wander_ppb ≡ 0 → StampsTruly (IsTrueOrFaulty made.clock.within.us) t edges made start time now past → IsStampedTruly t edges (fault_early_us made.clock.within.us made.clock.drift_us) time stamp
+  stamped_faulty plain = stamped_so (IsTrueOrFaulty made.clock.within.us) (fault_early_us made.clock.within.us made.clock.drift_us) (fault_late_us made.clock.within.us made.clock.drift_us) (fault_early_us made.clock.within.us made.clock.drift_us) (omega arith) (late_below made.clock.within.us made.clock.drift_us) q t edges made (faulty_lines made plain) start time now past stamp h e
 
-  pub stamped_off : (off : ℕ) → off ≤ 1000 → StampsTruly (IsTrueByItsClock off made.clock.within.us made.clock.drift_us) t edges made start time now past → IsStampedTruly t edges off time stamp
-  stamped_off off few = stamped_so (IsTrueByItsClock off made.clock.within.us made.clock.drift_us) off off off (omega arith) (omega arith) q t edges made (clock_lines off made.clock few) start time now past stamp h e
+  pub stamped_off : (off : ℕ) → made.clock.wander_ppb ≡ 0 → off ≤ 1000 → StampsTruly (IsTrueByItsClock off made.clock.within.us made.clock.drift_us) t edges made start time now past → IsStampedTruly t edges off time stamp
+  stamped_off off plain few = stamped_so (IsTrueByItsClock off made.clock.within.us made.clock.drift_us) off off off (omega arith) (omega arith) q t edges made (clock_lines off made plain few) start time now past stamp h e
 
   pub stamped_quality : StampsTruly (IsTrueByItsQuality made.clock) t edges made start time now past → IsStampedTruly t edges 0 time stamp
-  stamped_quality = stamped_so (IsTrueByItsQuality made.clock) 0 0 0 (omega arith) (omega arith) q t edges made (quality_lines made.clock) start time now past stamp h e
+  stamped_quality = stamped_so (IsTrueByItsQuality made.clock) 0 0 0 (omega arith) (omega arith) q t edges made (quality_lines made) start time now past stamp h e
 
 -- the device of such a life
 pub sound_device : (t : TimelineValue) (edges : ℕ → ℕ) (made : MadeOf) (start time now : ℕ) (past : List Moment) → StampsTruly (IsTrueLately made.clock.within.us) t edges made start time now past → IsDevice t made.clock.drift_us edges made.clock.reader_rules made.table

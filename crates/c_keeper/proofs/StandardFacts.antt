@@ -20,8 +20,8 @@ abbrev all_silent : IrigLines
 all_silent = record { a = silent; b = silent; c = silent; d = silent; e = silent }
 
 -- the weights of the first number of the first line, of the last one of the last, and of a second's
-pub known_weights : (weighted 381 (lines_numbers (record all_silent { a = record silent { sync = record { rise_us = 1000; place = 0; was_marker = 0 } } })) ≡ 381000)
-    × (weighted 381 (lines_numbers (record all_silent { e = record silent { is_uneven = 1 } })) ≡ 539)
+pub known_weights : (weighted 389 (lines_numbers (record all_silent { a = record silent { sync = record { rise_us = 1000; place = 0; was_marker = 0 } } })) ≡ 389000)
+    × (weighted 389 (lines_numbers (record all_silent { e = record silent { is_uneven = 1 } })) ≡ 547)
     × (weighted 311 (announced_numbers (record { day = 1; sod = 0; edge_us = 0; bound_us = 0; is_told = 1000 })) ≡ 319311)
 known_weights = (refl, refl, refl)
 

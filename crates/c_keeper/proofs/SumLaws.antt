@@ -10,10 +10,10 @@ use Rattle.c_keeper.specs.CheckWord.{changing_numbers, check_of, clock_numbers, 
 
 -- what the numbers that calls change add up to is what their parts do
 pub by_parts : (t : IrigTimekeeper)
-    → weighted 279 (changing_numbers t) ≡ weighted 279 (state_numbers t.state) + (weighted 291 (clock_numbers t) + weighted 381 (lines_numbers t.lines))
+    → weighted 279 (changing_numbers t) ≡ weighted 279 (state_numbers t.state) + (weighted 291 (clock_numbers t) + weighted 389 (lines_numbers t.lines))
 by_parts t =
     append_at 279 291 (state_numbers t.state) (clock_numbers t ++ lines_numbers t.lines) refl
-    ∙ ap (λ (n : ℕ). weighted 279 (state_numbers t.state) + n) (append_at 291 381 (clock_numbers t) (lines_numbers t.lines) refl)
+    ∙ ap (λ (n : ℕ). weighted 279 (state_numbers t.state) + n) (append_at 291 389 (clock_numbers t) (lines_numbers t.lines) refl)
 
 pub fixed_parts : (t : IrigTimekeeper) → weighted 3 (fixed_numbers t) ≡ weighted 3 (setup_numbers t.setup) + weighted 19 (table_numbers t.table)
 fixed_parts t = append_at 3 19 (setup_numbers t.setup) (table_numbers t.table) refl

@@ -73,7 +73,7 @@ left_checked t q now check h = record {
   stands = h.stands;
   heard = h.heard;
   bound = h.bound;
-  known = h.known;
+  known = record { interval = h.known.interval; pace = h.known.pace };
   is_state = h.is_state;
   last = h.last;
   before = h.before;

@@ -8,7 +8,7 @@ use Rattle.irig_lines.specs.declared.lines.Lines.{Lines}
 use Rattle.irig_lines.specs.declared.lines.Vote.{Vote}
 use Rattle.irig_lines.specs.declared.setup.ClockRules.{ClockRules}
 use Rattle.irig_lines.specs.Counting.{edges_own, edges_to_vote, is_gone}
-use Rattle.irig_timekeeper.specs.Clock.{answer_by, beaten, clock_after, clock_answer, clock_by, knowing, knowing_vote, own_edge, settled_at, step_to, vote_of_lines}
+use Rattle.irig_timekeeper.specs.Clock.{answer_by, beaten, clock_after, clock_answer, clock_by, knowing, knowing_vote, own_edge, settled_at, step_to, vote_of_lines, learning, serving_on}
 use Rattle.irig_lines.specs.Steps.{line_settled, settled, still_seen, taken}
 use Rattle.c_lines.specs.Lines.{unread_frame, unread_line, unread_lines}
 use Rattle.c_keeper.specs.Timekeepers.{unread}
@@ -47,22 +47,22 @@ answer_unread c table s now = by (vote_of_lines c s now)
 
 -- by its own counter, whether a second came or none
 own : (c : ClockRules) (table : TableValue) (s : ClockState) (edges : ℕ) (none : Bool)
-    → knowing c (unread s) edges (if none then unread s else beaten c (unread s) (unread_lines s.lines) None (step_to c table s edges None) (edges - 1) (own_edge s.edge_us edges) s.bound_us)
-    ≡ unread (knowing c s edges (if none then s else beaten c s s.lines None (step_to c table s edges None) (edges - 1) (own_edge s.edge_us edges) s.bound_us))
+    → knowing c (unread s) edges (if none then unread s else serving_on edges (beaten c (unread s) (unread_lines s.lines) None (step_to c table s edges None) (edges - 1) (own_edge s.pace s.edge_us edges) s.bound_us))
+    ≡ unread (knowing c s edges (if none then s else serving_on edges (beaten c s s.lines None (step_to c table s edges None) (edges - 1) (own_edge s.pace s.edge_us edges) s.bound_us)))
 own c table s edges true = refl
 own c table s edges false = refl
 
 -- by a vote
 voted : (c : ClockRules) (table : TableValue) (s : ClockState) (vote : Vote) (edges : ℕ) (none : Bool)
-    → knowing_vote c (unread s) vote edges (if none then record (unread s) { lines = taken (unread_lines s.lines); edge_us = Some vote.edge_us; bound_us = vote.bound_us; moved = (s.moved + 1) % 2 ^ 32 }
-    else beaten c (unread s) (taken (unread_lines s.lines)) (Some vote.claim) (step_to c table s edges (Some vote.claim)) (edges - 1) vote.edge_us vote.bound_us)
-    ≡ unread (knowing_vote c s vote edges (if none then record s { lines = taken s.lines; edge_us = Some vote.edge_us; bound_us = vote.bound_us; moved = (s.moved + 1) % 2 ^ 32 }
-    else beaten c s (taken s.lines) (Some vote.claim) (step_to c table s edges (Some vote.claim)) (edges - 1) vote.edge_us vote.bound_us))
+    → learning c (knowing_vote c (unread s) vote edges (if none then record (unread s) { lines = taken (unread_lines s.lines); edge_us = Some vote.edge_us; bound_us = vote.bound_us; moved = (s.moved + 1) % 2 ^ 32 }
+    else beaten c (unread s) (taken (unread_lines s.lines)) (Some vote.claim) (step_to c table s edges (Some vote.claim)) (edges - 1) vote.edge_us vote.bound_us))
+    ≡ unread (learning c (knowing_vote c s vote edges (if none then record s { lines = taken s.lines; edge_us = Some vote.edge_us; bound_us = vote.bound_us; moved = (s.moved + 1) % 2 ^ 32 }
+    else beaten c s (taken s.lines) (Some vote.claim) (step_to c table s edges (Some vote.claim)) (edges - 1) vote.edge_us vote.bound_us)))
 voted c table s vote edges true = refl
 voted c table s vote edges false = refl
 
 by_vote : (c : ClockRules) (table : TableValue) (s : ClockState) (now : ℕ) (vote : Option Vote) → clock_by c table (unread s) now vote ≡ unread (clock_by c table s now vote)
-by_vote c table s now None = own c table s (edges_own s.edge_us now) (edges_own s.edge_us now == 0)
+by_vote c table s now None = own c table s (edges_own s.pace s.edge_us now) (edges_own s.pace s.edge_us now == 0)
 by_vote c table s now (Some vote) = voted c table s vote (edges_to_vote s.edge_us vote.edge_us) (edges_to_vote s.edge_us vote.edge_us == 0)
 
 -- and leaves the same but for what it has not read

@@ -61,7 +61,7 @@ clock_as t q setup wires =
     ap (λ (s : IrigSetup). clock_of s q.wires) setup ∙ ap (λ (w : IrigWires). clock_of t.setup w) wires
   where
     clock_of : IrigSetup → IrigWires → ClockRules
-    clock_of s w = record { reader_rules = reader_rules_in s; redundancy = redundancy_in s; within = within_of w.within_us; limits = vote_limits_in s; drift_us = w.drift_us; delays = delays_in w.delays; prefers_frames = not (w.prefers_frames == 0) }
+    clock_of s w = record { reader_rules = reader_rules_in s; redundancy = redundancy_in s; within = within_of w.within_us; limits = vote_limits_in s; drift_us = w.drift_us; wander_ppb = w.wander_ppb; delays = delays_in w.delays; prefers_frames = not (w.prefers_frames == 0) }
 
 pub steady_as : (t q : IrigTimekeeper) → q.setup ≡ t.setup → q.wires ≡ t.wires → clock_fault (reader_rules_in t.setup) t.wires.drift_us ≡ None
     → clock_fault (reader_rules_in q.setup) q.wires.drift_us ≡ None

@@ -4,6 +4,7 @@ use Rattle.irig_lines.specs.declared.setup.ClockRules.{ClockRules}
 use Rattle.irig_timekeeper.specs.declared.clock.ClockState.{ClockState}
 use Rattle.irig_lines.specs.declared.lines.Vote.{Vote}
 use Rattle.irig_timekeeper.specs.Clock.{claim_voted, vote_of_lines}
+use Rattle.irig_lines.specs.declared.pace.Pace.{Pace}
 use Rattle.irig_lines.specs.Counting.{edges_own}
 use Rattle.irig_timekeeper.specs.Keeping.{Keeping, wait_at}
 use Rattle.irig_timekeeper.specs.Life.{Made, AreInOrder, device_of, last_tick, life_of}
@@ -58,17 +59,17 @@ module _ (t : IrigTimekeeper) (made : MadeOf) (start time now : ℕ) (past : Lis
     edge_there : IfEdgeAt (edge_in t) (last_tick start (calls_of past))
     edge_there = subst (λ (s : ClockState). IfEdgeAt s.edge_us (last_tick start (calls_of past))) (sym h.is.state) (edge_in_life whole start (calls_of past) order.3)
 
-    pub waited_above : edges_own (edge_in t) time ≡ 0 → 1 ≤ wait_in t time
-    waited_above none = subst (λ (n : ℕ). 1 ≤ n) (sym waits_by_edge) (of (edge_in t) edge_there (ap (edges_own (edge_in t)) (sym clock) ∙ none))
+    pub waited_above : (pace : Option Pace) → edges_own pace (edge_in t) time ≡ 0 → 1 ≤ wait_in t time
+    waited_above pace none = subst (λ (n : ℕ). 1 ≤ n) (sym waits_by_edge) (of (edge_in t) edge_there (ap (edges_own pace (edge_in t)) (sym clock) ∙ none))
       where
-        of : (o : Option ℕ) → IfEdgeAt o (last_tick start (calls_of past)) → edges_own o (now % 2 ^ 32) ≡ 0 → 1 ≤ wait_by (now % 2 ^ 32) o None
+        of : (o : Option ℕ) → IfEdgeAt o (last_tick start (calls_of past)) → edges_own pace o (now % 2 ^ 32) ≡ 0 → 1 ≤ wait_by (now % 2 ^ 32) o None
         of None at none = omega arith
-        of (Some e) at none = (waits e at.0 (last_tick start (calls_of past)) now at.1 order.0 (omega (arith, order.1)) none).0
+        of (Some e) at none = (waits e at.0 (last_tick start (calls_of past)) now at.1 order.0 (omega (arith, order.1)) pace none).0
 
-    pub waited_counts : (then e : ℕ) → AreInOrder start made.clock.redundancy (Tick then ∷ calls_of past) → edge_in t ≡ Some e → now + wait_in t time ≤ then → 1 ≤ edges_own (Some e) (then % 2 ^ 32)
-    waited_counts then e order' is waited =
+    pub waited_counts : (pace : Option Pace) (then e : ℕ) → AreInOrder start made.clock.redundancy (Tick then ∷ calls_of past) → edge_in t ≡ Some e → now + wait_in t time ≤ then → 1 ≤ edges_own pace (Some e) (then % 2 ^ 32)
+    waited_counts pace then e order' is waited =
         let at : IfEdgeAt (Some e) (last_tick start (calls_of past)) = subst (λ (o : Option ℕ). IfEdgeAt o (last_tick start (calls_of past))) is edge_there in
         let wait : wait_in t time ≡ wait_by (now % 2 ^ 32) (Some e) None = waits_by_edge ∙ ap (λ (o : Option ℕ). wait_by (now % 2 ^ 32) o None) is in
         let then_is : now + wait_by (now % 2 ^ 32) (Some e) None + (then - (now + wait_by (now % 2 ^ 32) (Some e) None)) ≡ then = omega (arith, wait, waited) in
-        subst (λ (x : ℕ). 1 ≤ edges_own (Some e) (x % 2 ^ 32)) then_is
-        (counts_then e at.0 (last_tick start (calls_of past)) now (then - (now + wait_by (now % 2 ^ 32) (Some e) None)) at.1 order.0 (omega (arith, then_is, order'.1)))
+        subst (λ (x : ℕ). 1 ≤ edges_own pace (Some e) (x % 2 ^ 32)) then_is
+        (counts_then pace e at.0 (last_tick start (calls_of past)) now (then - (now + wait_by (now % 2 ^ 32) (Some e) None)) at.1 order.0 (omega (arith, then_is, order'.1)))

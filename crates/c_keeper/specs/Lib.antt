@@ -10,3 +10,4 @@ pub mod Anchors
 pub mod Quiet
 pub mod Rates
 pub mod Ticks
+pub mod Paces

@@ -56,6 +56,7 @@ made_in setup table wires = record {
     within = within_of wires.within_us;
     limits = vote_limits_in setup;
     drift_us = wires.drift_us;
+    wander_ppb = wires.wander_ppb;
     delays = delays_in wires.delays;
     prefers_frames = not (wires.prefers_frames == 0);
   };
@@ -103,13 +104,14 @@ pub record HasLived (timekeeper : IrigTimekeeper) (made : MadeOf) (past : List M
 
 -- ---- lives in which what is announced is true
 
--- one of its ticks told a second by a vote, as `agreed` says; at it and at each tick since, all but at
--- most f lines were such true lines. What came before may be anything
+-- it learns nothing from votes, and one of its ticks told a second by a vote, as `agreed` says; at it and
+-- at each tick since, all but at most f lines were such true lines. What came before may be anything
 pub record HasHealed
     (IsTrue : Rules → TimelineValue → (ℕ → ℕ) → ℕ → List Pulse → Type 0) (t : TimelineValue)
     (edges : ℕ → ℕ) (made : MadeOf) (start : ℕ) (past : List Moment)
     : Type 0 where
   pub is : IsDevice t made.clock.drift_us edges made.clock.reader_rules made.table
+  pub plain : made.clock.wander_ppb ≡ 0
   pub order : AreInOrder start made.clock.redundancy (calls_of past)
   pub later : List Moment
   pub mend : ℕ

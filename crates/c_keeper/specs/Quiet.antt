@@ -9,7 +9,7 @@ use Rattle.c_lines.specs.Quiet.{are_quiet}
 -- nor has a second come by the own counter, and what is measured from still serves
 abbrev pub is_quiet : IrigTimekeeper → ℕ → Bool
 is_quiet t now =
-    edges_own (edge_in t) now == 0 && (are_young t.has_interval t.anchors && are_quiet now t.lines)
+    edges_own None (edge_in t) now == 0 && (are_young t.has_interval t.anchors && are_quiet now t.lines)
 
 -- a tick then says nothing, and leaves its clock as it is
 pub record IsAtRest (t : IrigTimekeeper) (now : ℕ) : Type 0 where

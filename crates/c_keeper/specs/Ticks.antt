@@ -18,7 +18,7 @@ use Rattle.c_keeper.specs.declared.second.IrigSecond.{IrigSecond}
 use Rattle.c_keeper.specs.declared.timekeeper.IrigTimekeeper.{IrigTimekeeper}
 use Rattle.c_keeper.specs.Seconds.{against_at, IsSecondOf}
 use Rattle.c_keeper.specs.States.{masks_of}
-use Rattle.c_keeper.specs.Timekeepers.{answer_in, clock_in, clock_state_in, state_behind, vote_in, HasShortInterval}
+use Rattle.c_keeper.specs.Timekeepers.{answer_in, clock_in, clock_state_in, state_behind, vote_in, CountsSoundly}
 
 -- the second is the one that a tick at this time gives of the old numbers, of which it makes the new
 pub record IsGivenAtTick (old new : IrigTimekeeper) (now : ℕ) (s : IrigSecond) : Type 0 where
@@ -43,7 +43,7 @@ pub record IsLeftAtTick (old new : IrigTimekeeper) (now : ℕ) : Type 0 where
   pub stands : clock_state_in new ≡ state_behind old now
   pub heard : (heard : Heard) → HaveHeard old.lines heard → HaveHeard new.lines heard
   pub bound : new.bound_us ≤ most_vote_us
-  pub known : HasShortInterval new
+  pub known : CountsSoundly new
   pub is_state : IsState new.setup.lock_after new.state
   pub last : IsAnnounced new.last
   pub before : IsAnnounced new.before

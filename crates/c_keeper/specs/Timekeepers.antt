@@ -27,6 +27,7 @@ use Rattle.c_keeper.specs.declared.timekeeper.IrigDelays.{IrigDelays}
 use Rattle.c_keeper.specs.declared.timekeeper.IrigWires.{IrigWires}
 use Rattle.c_lines.specs.Lines.{lines_in, unread_lines, HaveHeard, KeepNoMore}
 use Rattle.c_keeper.specs.Anchors.{anchors_in}
+use Rattle.c_keeper.specs.Paces.{pace_in, MayCount}
 use Rattle.c_keeper.specs.CheckWord.{IsSealed}
 use Rattle.c_lines.specs.Announced.{announced_in, IsAnnounced, IsSmall}
 
@@ -46,6 +47,7 @@ clock_in t = record {
   within = within_of t.wires.within_us;
   limits = vote_limits_in t.setup;
   drift_us = t.wires.drift_us;
+  wander_ppb = t.wires.wander_ppb;
   delays = delays_in t.wires.delays;
   prefers_frames = not (t.wires.prefers_frames == 0);
 }
@@ -69,6 +71,7 @@ clock_state_in t = record {
   bound_us = t.bound_us;
   interval = interval_in t;
   anchors = anchors_in t.anchors;
+  pace = pace_in t.pace;
   strays = t.strays;
   doubt = t.doubt;
   moved = t.moved;
@@ -90,15 +93,27 @@ IsDelay delay = unsigned_abs delay ≤ 4000
 abbrev pub AreDelays : IrigDelays → Type 0
 AreDelays x = IsDelay x.a × (IsDelay x.b × (IsDelay x.c × (IsDelay x.d × IsDelay x.e)))
 
--- lines may be so exact and so late, and a counter so wrong
+-- lines may be so exact and so late, and a counter so wrong, and wander by no more than 100 ppm
 abbrev pub AreWires : IrigWires → Type 0
 AreWires w =
     (1 ≤ w.within_us)
-    × ((w.within_us ≤ most_within_us) × ((w.drift_us ≤ most_drift_us) × AreDelays w.delays))
+    × ((w.within_us ≤ most_within_us)
+    × ((w.drift_us ≤ most_drift_us) × ((w.wander_ppb ≤ 100000) × AreDelays w.delays)))
 
 -- there is no such interval, or it is so short that seconds can be counted by it
 abbrev pub HasShortInterval : IrigTimekeeper → Type 0
 HasShortInterval t = (t.has_interval ≡ 0) ⊎ (t.long_us ≤ 2 * most_held_us)
+
+-- setup and wires have a meaning
+pub record IsSetUp (t : IrigTimekeeper) : Type 0 where
+  pub setup : IsKeeperSetup t.setup
+  pub wires : AreWires t.wires
+  pub steady : clock_fault (reader_rules_in t.setup) t.wires.drift_us ≡ None
+
+-- seconds can be counted by what is known of the edge, and by what is learned
+pub record CountsSoundly (t : IrigTimekeeper) : Type 0 where
+  pub interval : HasShortInterval t
+  pub pace : MayCount t.pace
 
 -- its calls accept the numbers
 pub record IsAccepted (t : IrigTimekeeper) : Type 0 where
@@ -106,7 +121,7 @@ pub record IsAccepted (t : IrigTimekeeper) : Type 0 where
   pub wires : AreWires t.wires
   pub steady : clock_fault (reader_rules_in t.setup) t.wires.drift_us ≡ None
   pub bound : t.bound_us ≤ most_vote_us
-  pub known : HasShortInterval t
+  pub known : CountsSoundly t
   pub is_state : IsState t.setup.lock_after t.state
   pub last : IsAnnounced t.last
   pub before : IsAnnounced t.before

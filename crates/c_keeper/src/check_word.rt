@@ -3,10 +3,11 @@
 ghost use Rattle.std.specs.Prelude.{◌≡◌, ◌↔◌, ◌+◌, ◌*◌, ◌%◌, ◌^◌, ◌<◌, List, ◌∷◌, ◌++◌, ℕ};
 ghost use Rattle.c_numbers.specs.CheckWord.{setup_numbers, table_numbers, weighted, AreSumsOf};
 ghost use Rattle.c_lines.specs.CheckWord.{announced_numbers, flags_of, line_numbers, lines_numbers};
-ghost use Rattle.c_keeper.specs.CheckWord.{anchor_numbers, changing_numbers, clock_numbers, delay_number, wires_numbers, check_of, IsSealed};
+ghost use Rattle.c_keeper.specs.CheckWord.{anchor_numbers, changing_numbers, clock_numbers, delay_number, pace_numbers, wires_numbers, check_of, IsSealed};
 ghost use Rattle.c_lines.specs.Lines.{with_numbers};
 
 use crate::anchors::IrigAnchors;
+use crate::pace::IrigPace;
 use crate::timekeeper::{IrigTimekeeper, IrigWires};
 use c_lines::{IrigLine, line_at, line_change, lines_sums, put_line, with_announced};
 use c_numbers::{Sums, with_state};
@@ -22,7 +23,8 @@ fn with_wires(sums: Sums, wires: &IrigWires) -> Sums
     ensures { (ns : List ℕ) → AreSumsOf sums ns
         → AreSumsOf result (wires_numbers wires.now ++ ns) }
 {
-    sums.with_first(u64::from(wires.prefers_frames))
+    sums.with_first(u64::from(wires.wander_ppb))
+        .with_first(u64::from(wires.prefers_frames))
         .with_first(delay_number(wires.delays.e))
         .with_first(delay_number(wires.delays.d))
         .with_first(delay_number(wires.delays.c))
@@ -47,6 +49,14 @@ fn with_anchors(sums: Sums, anchors: &IrigAnchors) -> Sums
         .with_first(u64::from(anchors.has_old))
 }
 
+fn with_pace(sums: Sums, pace: &IrigPace) -> Sums
+    ensures { (ns : List ℕ) → AreSumsOf sums ns → AreSumsOf result (pace_numbers pace.now ++ ns) }
+{
+    sums.with_first(u64::from(pace.rest_ns))
+        .with_first(u64::from(pace.within_ns))
+        .with_first(u64::from(pace.second_ns))
+}
+
 fn with_clock(sums: Sums, timekeeper: &IrigTimekeeper) -> Sums
     ensures { (ns : List ℕ) → AreSumsOf sums ns
         → AreSumsOf result (clock_numbers timekeeper.now ++ ns) }
@@ -56,7 +66,8 @@ fn with_clock(sums: Sums, timekeeper: &IrigTimekeeper) -> Sums
         &timekeeper.ended,
     );
     let told = with_announced(with_announced(ended, &timekeeper.before), &timekeeper.last);
-    let counted = with_anchors(told, &timekeeper.anchors)
+    let measured = with_pace(with_anchors(told, &timekeeper.anchors), &timekeeper.pace);
+    let counted = measured
         .with_first(u64::from(timekeeper.doubt))
         .with_first(u64::from(timekeeper.strays))
         .with_first(u64::from(timekeeper.long_us))
@@ -104,7 +115,7 @@ pub fn set_line(timekeeper: &mut IrigTimekeeper, port: u8, line: &IrigLine)
     } }
     ensures sealed { IsSealed timekeeper.new ↔ IsSealed timekeeper.old }
 {
-    let weight = 381 + 32 * u64::from(port);
+    let weight = 389 + 32 * u64::from(port);
     let change = line_change(weight, line_at(&timekeeper.lines, port), line);
     put_line(&mut timekeeper.lines, port, line);
     timekeeper.check = timekeeper.check.wrapping_add(change);

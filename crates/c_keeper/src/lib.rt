@@ -8,6 +8,7 @@
 mod anchors;
 mod check_word;
 mod laws;
+mod pace;
 mod pulse;
 mod quiet;
 mod rate;
@@ -20,6 +21,7 @@ mod timekeeper;
 pub use anchors::{IrigAnchor, IrigAnchors};
 pub use check_word::{check_of, set_line};
 pub use laws::another_number_is_told;
+pub use pace::IrigPace;
 pub use pulse::hear;
 pub use quiet::is_quiet;
 pub use rate::{IrigRate, rate_at, rate_for_c};

@@ -20,7 +20,8 @@ pub fn is_quiet(timekeeper: &IrigTimekeeper, now_us: u32) -> bool
 {
     // What the proof has to know of a number that is not read here.
     prove!(timekeeper.begin_us <= u32::MAX);
-    edges_own(edge_of(timekeeper), now_us) == 0
+    // Whether one has come does not depend on what was learned.
+    edges_own(None, edge_of(timekeeper), now_us) == 0
         && are_young(timekeeper.has_interval, &timekeeper.anchors)
         && are_quiet(&timekeeper.lines, now_us)
 }

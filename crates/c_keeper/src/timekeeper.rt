@@ -20,12 +20,15 @@ ghost use Rattle.c_keeper.specs.CheckWord.{IsSealed};
 ghost use Rattle.irig_lines.specs.Delays.{delay_at};
 ghost use Rattle.irig_lines.specs.Exactness.{most_drift_us, most_vote_us};
 ghost use Rattle.irig_lines.specs.Intervals.{IsShort};
+ghost use Rattle.irig_lines.specs.Paces.{IsSound};
+ghost use Rattle.c_keeper.specs.Paces.{MayCount};
 ghost use Rattle.irig_lines.specs.Refusals.{clock_fault};
 ghost use Rattle.c_lines.specs.Announced.{announced_in, IsAnnounced, IsSmall};
-ghost use Rattle.c_keeper.specs.Timekeepers.{clock_in, clock_state_in, delays_in, edge_in, interval_in, unread, vote_limits_in, AreDelays, AreWires, HasShortInterval, IsAccepted, IsDelay};
+ghost use Rattle.c_keeper.specs.Timekeepers.{clock_in, clock_state_in, delays_in, edge_in, interval_in, unread, vote_limits_in, AreDelays, AreWires, CountsSoundly, HasShortInterval, IsAccepted, IsDelay, IsSetUp};
 
 use crate::anchors::{IrigAnchors, NOTHING_MEASURED, anchors_for_c, anchors_of};
 use crate::check_word::{changing_sum, check_of};
+use crate::pace::{IrigPace, NOTHING_LEARNED, may_count, pace_for_c, pace_of};
 use c_lines::{
     IrigAnnounced, IrigLines, NOTHING_ANNOUNCED, announced_for_c, announced_of, is_announced,
     is_small, keep_lines, keep_no_more, line_at, lines_of_nothing, seen_of, unread_lines_of,
@@ -54,6 +57,9 @@ pub struct IrigWires {
     /// 0 if a vote that contradicts the leap table is held back at a month's end; any other, if it is
     /// followed.
     pub prefers_frames: u8,
+    /// How many nanoseconds a second the device's counter may come to run otherwise than votes show, over
+    /// the holdover and 4,000 s: 0 to 100,000. By 0 it learns nothing from votes.
+    pub wander_ppb: u32,
 }
 
 /// How late five lines are, one behind another.
@@ -110,6 +116,8 @@ pub struct IrigTimekeeper {
     pub doubt: u32,
     /// From which the length of a second is measured.
     pub anchors: IrigAnchors,
+    /// What is learned of it.
+    pub pace: IrigPace,
     /// What all other numbers add up to, each times a weight of its own: it tells if one of them is
     /// changed by anything but the calls of the library.
     pub check: u64,
@@ -125,6 +133,7 @@ pub fn clock_rules_of(timekeeper: &IrigTimekeeper) -> ClockRules
         within: nearest_within(u32::from(timekeeper.wires.within_us)),
         limits: limits_of(timekeeper),
         drift_us: u32::from(timekeeper.wires.drift_us),
+        wander_ppb: timekeeper.wires.wander_ppb,
         delays: delays_of(&timekeeper.wires.delays),
         prefers_frames: timekeeper.wires.prefers_frames != 0,
     }
@@ -197,22 +206,13 @@ pub fn are_wires(wires: &IrigWires) -> bool
     1 <= wires.within_us
         && wires.within_us <= 450
         && wires.drift_us <= 100
+        && wires.wander_ppb <= 100_000
         && are_delays(&wires.delays)
 }
 
-// Whether setup, wires and the seconds that it announced have a meaning, lines that it has not keep
-// no frame, and its check word is that of its numbers, if `fixed` is what setup and table add to it.
-fn is_sound(fixed: u64, timekeeper: &IrigTimekeeper) -> bool
-    requires { fixed ≡ (weighted 3 (setup_numbers timekeeper.now.setup)
-        + weighted 19 (table_numbers timekeeper.now.table)) % 2 ^ 64 }
-    ensures { IsTrue result ↔ (IsKeeperSetup timekeeper.now.setup × (AreWires timekeeper.now.wires
-        × ((clock_fault (reader_rules_in timekeeper.now.setup) timekeeper.now.wires.drift_us
-        ≡ None)
-        × ((timekeeper.now.bound_us ≤ most_vote_us) × (HasShortInterval timekeeper.now
-        × (IsAnnounced timekeeper.now.last × (IsAnnounced timekeeper.now.before
-        × (IsSmall timekeeper.now.ended × (IsSmall timekeeper.now.ended_before
-        × (KeepNoMore (ports_in (redundancy_in timekeeper.now.setup)) timekeeper.now.lines
-        × IsSealed timekeeper.now)))))))))) }
+// Whether setup and wires have a meaning.
+fn is_set_up(timekeeper: &IrigTimekeeper) -> bool
+    ensures { IsTrue result ↔ IsSetUp timekeeper.now }
 {
     is_keeper_setup(&timekeeper.setup)
         && are_wires(&timekeeper.wires)
@@ -221,8 +221,23 @@ fn is_sound(fixed: u64, timekeeper: &IrigTimekeeper) -> bool
             u32::from(timekeeper.wires.drift_us),
         )
         .is_none()
+}
+
+// Whether setup, wires and the seconds that it announced have a meaning, lines that it has not keep
+// no frame, and its check word is that of its numbers, if `fixed` is what setup and table add to it.
+fn is_sound(fixed: u64, timekeeper: &IrigTimekeeper) -> bool
+    requires { fixed ≡ (weighted 3 (setup_numbers timekeeper.now.setup)
+        + weighted 19 (table_numbers timekeeper.now.table)) % 2 ^ 64 }
+    ensures { IsTrue result ↔ (IsSetUp timekeeper.now
+        × ((timekeeper.now.bound_us ≤ most_vote_us) × (CountsSoundly timekeeper.now
+        × (IsAnnounced timekeeper.now.last × (IsAnnounced timekeeper.now.before
+        × (IsSmall timekeeper.now.ended × (IsSmall timekeeper.now.ended_before
+        × (KeepNoMore (ports_in (redundancy_in timekeeper.now.setup)) timekeeper.now.lines
+        × IsSealed timekeeper.now)))))))) }
+{
+    is_set_up(timekeeper)
         && timekeeper.bound_us <= 2_899
-        && is_short(timekeeper)
+        && counts_soundly(timekeeper)
         && is_announced(&timekeeper.last)
         && is_announced(&timekeeper.before)
         && is_small(&timekeeper.ended)
@@ -249,6 +264,7 @@ pub fn unread_state_of(timekeeper: &IrigTimekeeper) -> ClockState
     ensures counting { count_of result.reader < timekeeper.now.setup.lock_after }
     ensures small { result.bound_us ≤ most_vote_us }
     ensures known { IsShort result.interval }
+    ensures paced { IsSound result.pace }
     ensures ended { AreSmall result }
     ensures valid { AreKeptOfUtc result.lines }
     ensures announced { AnnouncedOfUtc result }
@@ -264,6 +280,7 @@ pub fn unread_state_of(timekeeper: &IrigTimekeeper) -> ClockState
         bound_us: u32::from(timekeeper.bound_us),
         interval: interval_of(timekeeper),
         anchors: anchors_of(&timekeeper.anchors),
+        pace: pace_of(&timekeeper.pace),
         strays: timekeeper.strays,
         doubt: timekeeper.doubt,
         moved: timekeeper.moved,
@@ -301,6 +318,13 @@ fn is_short(timekeeper: &IrigTimekeeper) -> bool
     ensures { IsTrue result ↔ HasShortInterval timekeeper.now }
 {
     timekeeper.has_interval == 0 || timekeeper.long_us <= 980_000
+}
+
+// Whether seconds can be counted by what is known of the edge, and by what is learned.
+fn counts_soundly(timekeeper: &IrigTimekeeper) -> bool
+    ensures { IsTrue result ↔ CountsSoundly timekeeper.now }
+{
+    is_short(timekeeper) && may_count(&timekeeper.pace)
 }
 
 pub(crate) fn interval_of(timekeeper: &IrigTimekeeper) -> Option<Interval>
@@ -385,6 +409,7 @@ pub fn stamp_at(timekeeper: &IrigTimekeeper, time_us: u32) -> Option<Stamp>
 pub fn keep(timekeeper: &mut IrigTimekeeper, state: &ClockState)
     requires counting { count_of state.now.reader < timekeeper.old.setup.lock_after }
     requires small { state.now.bound_us ≤ most_vote_us }
+    requires paced { IsSound state.now.pace }
     ensures lines { (read : Lines) → AreKeptFrom (clock_state_in timekeeper.old).lines read
         → unread_lines read ≡ state.now.lines → (clock_state_in timekeeper.new).lines ≡ read }
     ensures rest { record (clock_state_in timekeeper.new) { lines = state.now.lines } ≡ state.now }
@@ -392,6 +417,7 @@ pub fn keep(timekeeper: &mut IrigTimekeeper, state: &ClockState)
     ensures heard { (heard : Heard) → HaveHeard timekeeper.old.lines heard
         → HaveHeard timekeeper.new.lines heard }
     ensures is_state { IsState timekeeper.new.setup.lock_after timekeeper.new.state }
+    ensures counts { MayCount timekeeper.new.pace }
     ensures absent { (ports : ℕ) → KeepNoMore ports timekeeper.old.lines
         → KeepNoMore ports timekeeper.new.lines }
     ensures setup { timekeeper.new.setup ≡ timekeeper.old.setup }
@@ -405,6 +431,7 @@ pub fn keep(timekeeper: &mut IrigTimekeeper, state: &ClockState)
     timekeeper.bound_us = state.bound_us as u16;
     set_interval(timekeeper, state.interval);
     timekeeper.anchors = anchors_for_c(&state.anchors);
+    timekeeper.pace = pace_for_c(state.pace);
     timekeeper.strays = state.strays;
     timekeeper.doubt = state.doubt;
     timekeeper.moved = state.moved;
@@ -429,6 +456,7 @@ pub fn forget(timekeeper: &mut IrigTimekeeper)
     ensures ended_before { timekeeper.new.ended_before.is_told ≡ 0 }
     ensures bound { timekeeper.new.bound_us ≡ 0 }
     ensures interval { timekeeper.new.has_interval ≡ 0 }
+    ensures pace { timekeeper.new.pace.second_ns ≡ 0 }
     ensures absent { (ports : ℕ) → KeepNoMore ports timekeeper.new.lines }
     ensures setup { timekeeper.new.setup ≡ timekeeper.old.setup }
     ensures table { timekeeper.new.table ≡ timekeeper.old.table }
@@ -441,6 +469,7 @@ pub fn forget(timekeeper: &mut IrigTimekeeper)
     timekeeper.bound_us = 0;
     set_interval(timekeeper, None);
     timekeeper.anchors = NOTHING_MEASURED;
+    timekeeper.pace = NOTHING_LEARNED;
     timekeeper.strays = 0;
     timekeeper.doubt = 0;
     timekeeper.moved = 0;
@@ -465,6 +494,7 @@ pub fn restart(timekeeper: &mut IrigTimekeeper)
     ensures ended_before { timekeeper.new.ended_before.is_told ≡ 0 }
     ensures bound { timekeeper.new.bound_us ≡ 0 }
     ensures interval { timekeeper.new.has_interval ≡ 0 }
+    ensures pace { timekeeper.new.pace.second_ns ≡ 0 }
     ensures absent { (ports : ℕ) → KeepNoMore ports timekeeper.new.lines }
     ensures setup { timekeeper.new.setup ≡ timekeeper.old.setup }
     ensures table { timekeeper.new.table ≡ timekeeper.old.table }

@@ -18,6 +18,8 @@ ghost use Rattle.irig_timekeeper.specs.declared.stamp.Stamp.{Stamp};
 ghost use Rattle.irig_lines.specs.declared.lines.Vote.{Vote};
 ghost use Rattle.irig_lines.specs.declared.rate.Rate.{Rate};
 ghost use Rattle.irig_timekeeper.specs.Measures.{IsMeasured};
+ghost use Rattle.irig_timekeeper.specs.Learning.{IsLearned};
+ghost use Rattle.irig_lines.specs.declared.pace.Pace.{Pace};
 ghost use Rattle.irig_timekeeper.specs.Clock.{lasted};
 ghost use Rattle.irig_lines.specs.Counting.{edges_own};
 ghost use Rattle.irig_lines.specs.Clocks.{IsTrueByItsClock, IsTrueByItsQuality};
@@ -42,6 +44,7 @@ ghost use Rattle.c_numbers.specs.Voices.{voices_to};
 ghost use Rattle.c_keeper.specs.Announcing.{AreAsked, ComeInARow, GoesByWait, HasAnnounced};
 ghost use Rattle.c_keeper.specs.CheckWord.{IsSealed};
 ghost use Rattle.c_lines.specs.Lines.{frames_in, lines_in, numbers_at};
+ghost use Rattle.c_keeper.specs.Paces.{pace_in};
 ghost use Rattle.c_keeper.specs.Lives.{Moment, AreTogether, HasLived, HasHealed, HasItsBound, GoesOnTruly, StampsTruly, agreed_in, beat_in, calls_of, made_in, since_vote};
 ghost use Rattle.c_keeper.specs.Lives.Moment.{Pulsed, Ticked, Waited};
 ghost use Rattle.c_keeper.specs.Rates.{rate_in, rate_told};
@@ -102,6 +105,7 @@ pub extern "C" fn irig_c_timekeeper_init(
       within = within_of wires.now.within_us;
       limits = vote_limits_in setup.now;
       drift_us = wires.now.drift_us;
+      wander_ppb = wires.now.wander_ppb;
       delays = delays_in wires.now.delays;
       prefers_frames = not (wires.now.prefers_frames == 0);
     } }
@@ -297,6 +301,13 @@ pub extern "C" fn irig_c_timekeeper_tick(
         → IsTrueLately made.clock.within.us made.rules t edges (now - 1500000)
         (pulses_on line (calls_of past))
         → (bit_at second.new.lines.apart line ≡ 0) × (bit_at second.new.lines.differed line ≡ 0) }
+    // What it has learned of its counter, in such a life: by its `pace` the next 2,000 seconds are that
+    // long (the law `what_is_learned_is_so`).
+    ensures learned { (t : TimelineValue) (edges : ℕ → ℕ) (made : MadeOf) (start now : ℕ)
+        (past : List Moment) (pace : Pace) → HasLived timekeeper.old made past
+        → now_us ≡ now % 2 ^ 32 → LivesWell (IsTrueLately made.clock.within.us) t edges made start
+        (Tick now ∷ calls_of past) → pace_in timekeeper.new.pace ≡ Some pace
+        → IsLearned edges now (edge_in timekeeper.new) pace }
     // How many seconds have to be voted yet before one is announced again without a vote.
     ensures doubt { result ≡ 0 → second.new.doubt
         ≡ (if second.new.is_told == 0 then 0 else (clock_state_in timekeeper.new).doubt) }
@@ -323,7 +334,8 @@ pub extern "C" fn irig_c_timekeeper_tick(
     // last 1.2 s (the law `lines_with_faults_tell_truly`).
     ensures faulty { (t : TimelineValue) (edges : ℕ → ℕ) (made : MadeOf) (start now : ℕ)
         (past : List Moment) (u : UtcSecond) → HasLived timekeeper.old made past
-        → now_us ≡ now % 2 ^ 32 → GoesOnTruly (IsTrueOrFaulty made.clock.within.us) t edges made start now [] past
+        → now_us ≡ now % 2 ^ 32 → made.clock.wander_ppb ≡ 0
+        → GoesOnTruly (IsTrueOrFaulty made.clock.within.us) t edges made start now [] past
         → (report_in second.new.report).announce ≡ Some u
         → IsToldInHoldover t edges (fault_early_us made.clock.within.us made.clock.drift_us)
         (fault_late_us made.clock.within.us made.clock.drift_us) made.clock now
@@ -333,11 +345,13 @@ pub extern "C" fn irig_c_timekeeper_tick(
         (u v : UtcSecond)
         → HasLived timekeeper.old made (later ++ (Ticked before first ∷ earlier))
         → now_us ≡ now % 2 ^ 32
+        → made.clock.wander_ppb ≡ 0
         → GoesOnTruly (IsTrueOrFaulty made.clock.within.us) t edges made start now later (Ticked before first ∷ earlier)
         → (report_in first.report).announce ≡ Some u
         → (report_in second.new.report).announce ≡ Some v → IsLaterSecond t u v }
     ensures faulty_calm { (t : TimelineValue) (edges : ℕ → ℕ) (made : MadeOf) (start now : ℕ)
         (past : List Moment) → HasLived timekeeper.old made past → now_us ≡ now % 2 ^ 32
+        → made.clock.wander_ppb ≡ 0
         → GoesOnTruly (IsTrueOrFaulty made.clock.within.us) t edges made start now [] past
         → ¬ ((report_in second.new.report).cause ≡ Cause.Jump) }
     // So it is in both lives by clocks that are at most `off` us off UTC: the edge lies no further off than
@@ -345,6 +359,7 @@ pub extern "C" fn irig_c_timekeeper_tick(
     ensures clocks_off { (t : TimelineValue) (edges : ℕ → ℕ) (made : MadeOf) (off start now : ℕ)
         (past : List Moment) (u : UtcSecond) → off ≤ 1000 → HasLived timekeeper.old made past
         → now_us ≡ now % 2 ^ 32
+        → made.clock.wander_ppb ≡ 0
         → GoesOnTruly (IsTrueByItsClock off made.clock.within.us made.clock.drift_us) t edges made
         start now [] past
         → (report_in second.new.report).announce ≡ Some u
@@ -354,6 +369,7 @@ pub extern "C" fn irig_c_timekeeper_tick(
         (u v : UtcSecond) → off ≤ 1000
         → HasLived timekeeper.old made (later ++ (Ticked before first ∷ earlier))
         → now_us ≡ now % 2 ^ 32
+        → made.clock.wander_ppb ≡ 0
         → GoesOnTruly (IsTrueByItsClock off made.clock.within.us made.clock.drift_us) t edges made
         start now later (Ticked before first ∷ earlier)
         → (report_in first.report).announce ≡ Some u
@@ -361,6 +377,7 @@ pub extern "C" fn irig_c_timekeeper_tick(
     ensures clocks_off_calm { (t : TimelineValue) (edges : ℕ → ℕ) (made : MadeOf)
         (off start now : ℕ) (past : List Moment) → off ≤ 1000
         → HasLived timekeeper.old made past → now_us ≡ now % 2 ^ 32
+        → made.clock.wander_ppb ≡ 0
         → GoesOnTruly (IsTrueByItsClock off made.clock.within.us made.clock.drift_us) t edges made
         start now [] past
         → ¬ ((report_in second.new.report).cause ≡ Cause.Jump) }
@@ -478,7 +495,8 @@ pub extern "C" fn irig_c_timekeeper_wait(timekeeper: &IrigTimekeeper, now_us: u3
     ensures above { (made : MadeOf) (start now : ℕ) (past : List Moment)
         → HasLived timekeeper.now made past → now_us ≡ now % 2 ^ 32
         → AreInOrder start made.clock.redundancy (Tick now ∷ calls_of past)
-        → agreed_in timekeeper.now now_us ≡ None → edges_own (edge_in timekeeper.now) now_us ≡ 0
+        → agreed_in timekeeper.now now_us ≡ None → edges_own (pace_in timekeeper.now.pace)
+        (edge_in timekeeper.now) now_us ≡ 0
         → 1 ≤ result }
     // a tick after so long, or later, has the vote, if lines agree on an edge and it comes by 94 ms
     // behind that (irig_lives, the law `waiting_is_right`)
@@ -495,7 +513,8 @@ pub extern "C" fn irig_c_timekeeper_wait(timekeeper: &IrigTimekeeper, now_us: u3
         → AreInOrder start made.clock.redundancy (Tick now ∷ calls_of past)
         → AreInOrder start made.clock.redundancy (Tick tick ∷ calls_of past)
         → agreed_in timekeeper.now now_us ≡ None → edge_in timekeeper.now ≡ Some e
-        → now + result ≤ tick → 1 ≤ edges_own (Some e) (tick % 2 ^ 32) }
+        → now + result ≤ tick → 1 ≤ edges_own (pace_in timekeeper.now.pace) (Some e)
+        (tick % 2 ^ 32) }
 {
     let fixed = fixed_sum(&timekeeper.setup, &timekeeper.table);
     if !is_accepted(fixed, timekeeper) {
@@ -548,6 +567,7 @@ pub extern "C" fn irig_c_timekeeper_stamp(
     ensures faulty { (t : TimelineValue) (edges : ℕ → ℕ) (made : MadeOf) (start time now : ℕ)
         (past : List Moment) (found : Stamp) → HasLived timekeeper.now made past
         → time_us ≡ time % 2 ^ 32
+        → made.clock.wander_ppb ≡ 0
         → StampsTruly (IsTrueOrFaulty made.clock.within.us) t edges made start time now past
         → stamp_in result stamp.new ≡ Some found → IsStampedTruly t edges (fault_early_us made.clock.within.us made.clock.drift_us) time found }
     // Of either life, by clocks that are at most `off` us off UTC: to within the bound and `off` (the law
@@ -555,6 +575,7 @@ pub extern "C" fn irig_c_timekeeper_stamp(
     ensures clocks_off { (t : TimelineValue) (edges : ℕ → ℕ) (made : MadeOf)
         (off start time now : ℕ) (past : List Moment) (found : Stamp) → off ≤ 1000
         → HasLived timekeeper.now made past → time_us ≡ time % 2 ^ 32
+        → made.clock.wander_ppb ≡ 0
         → StampsTruly (IsTrueByItsClock off made.clock.within.us made.clock.drift_us) t edges made
         start time now past
         → stamp_in result stamp.new ≡ Some found → IsStampedTruly t edges off time found }
@@ -595,6 +616,7 @@ pub extern "C" fn irig_c_timekeeper_stamp(
         (start time edge next : ℕ) (past : List Moment) (one other : IrigSecond)
         (u v : UtcSecond) → HasLived timekeeper.now made past → time_us ≡ time % 2 ^ 32
         → (row : AreGivenLast past one other edge next)
+        → made.clock.wander_ppb ≡ 0
         → GoesOnTruly (IsTrueOrFaulty made.clock.within.us) t edges made start row.now row.between
         (Ticked row.before one ∷ row.earlier)
         → (report_in one.report).announce ≡ Some u → (report_in other.report).announce ≡ Some v

@@ -8,3 +8,4 @@ pub mod PartLaws
 pub mod ReachLaws
 pub mod StandardFacts
 pub mod RateLaws
+pub mod PaceLaws

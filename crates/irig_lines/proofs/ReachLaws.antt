@@ -10,9 +10,12 @@ use Rattle.irig_lines.proofs.CountingLaws.{rises}
 abbrev pub StoodBy : (ℕ → Type 0) → ℕ → ℕ → Type 0
 StoodBy Put A x = (x ≡ A) ⊎ ((A ≤ x + 103000) × (x < A + 500000) × Put x)
 
--- then one is told at B, behind so many that were missed: by the own counter, or by a vote
+-- then one is told at B, behind so many that were missed: by the own counter, which is at most 100 us a
+-- second wrong, or by a vote
 abbrev pub ComesBy : (ℕ → Type 0) → (missed x B : ℕ) → Type 0
-ComesBy Put missed x B = (B ≡ x + (missed + 1) * 1000000) ⊎ ((missed + 1 ≡ edges_between x B) × Put B)
+ComesBy Put missed x B =
+    ((x + (missed + 1) * 999900 ≤ B) × (B ≤ x + (missed + 1) * 1000100))
+    ⊎ ((missed + 1 ≡ edges_between x B) × Put B)
 
 -- a true vote's edge
 pub record IsPut (edges : ℕ → ℕ) (early late x : ℕ) : Type 0 where
@@ -57,7 +60,7 @@ module _ (d : ℕ) (edges : ℕ → ℕ) (quartz : IsQuartz d edges) where
     pub reach : (missed x B : ℕ) → StoodBy (IsPut edges early late) A x → ComesBy (IsPut edges early late) missed x B → B < A + 1500000 → B ≤ A + 1000000 + bound + most_vote_us + most_drift_us + early + late
     reach missed x B stood (inl own) close =
         let back : A ≤ x + 103000 = elim stood [ inl same ↦ omega (arith, same) | inr set ↦ set.0 ] in
-        omega (arith, own, stands x stood, back, close)
+        omega (arith, own.0, own.1, stands x stood, back, close)
     reach missed x B stood (inr voted) close =
         let put = voted.1 in
         let next = next_at m put.m (omega (arith, put.near.least, close, near.most, small, room)) in
@@ -65,7 +68,7 @@ module _ (d : ℕ) (edges : ℕ → ℕ) (quartz : IsQuartz d edges) where
 
     -- if none was missed it lies less than a second and a half behind
     pub close : (x B : ℕ) → StoodBy (IsPut edges early late) A x → ComesBy (IsPut edges early late) 0 x B → B < A + 1500000
-    close x B stood (inl own) = omega (arith, own, stands x stood, small, room)
+    close x B stood (inl own) = omega (arith, own.1, stands x stood, small, room)
     close x B (inl same) (inr voted) = omega (arith, same, voted.0)
     close x B (inr set) (inr voted) =
         let from = set.2 in

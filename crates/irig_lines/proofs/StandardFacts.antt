@@ -12,14 +12,15 @@ use Rattle.irig_lines.specs.Rates.{mean_since}
 use Rattle.irig_lines.specs.Intervals.{by_vote, carried, cut, contradicts}
 use Rattle.irig_lines.specs.Exactness.{most_vote_us}
 use Rattle.irig_lines.specs.Widths.{quality_us}
-use Rattle.irig_lines.specs.Counting.{edges_to, edges_to_vote, edges_own, edge_behind, is_late, has_come}
+use Rattle.irig_lines.specs.Counting.{edges_to, edges_to_vote, edges_own, is_late, has_come}
+use Rattle.irig_lines.specs.Paces.{edge_on}
 use Rattle.irig_lines.specs.Refusals.{clock_fault}
 use Rattle.irig_lines.specs.declared.setup.ClockFault.TheVariants.{Drift, Holdover}
 use Rattle.irig_lines.specs.Steps.{first_candidate, vote_with, until, wait_by}
 
 -- by the own counter a second is counted 6 ms after it should have come, over the wrap too; an edge
 -- that lies ahead is none
-pub known_own : (edges_own (Some 4294000000) 38703 ≡ 0) × (edges_own (Some 4294000000) 38704 ≡ 1) × (edges_own (Some 5) 4 ≡ 0) × (edges_own None 38704 ≡ 0) × (edge_behind 4294000000 1 ≡ 32704)
+pub known_own : (edges_own None (Some 4294000000) 38703 ≡ 0) × (edges_own None (Some 4294000000) 38704 ≡ 1) × (edges_own None (Some 5) 4 ≡ 0) × (edges_own None None 38704 ≡ 0) × (edge_on None 4294000000 1 ≡ 32704)
 known_own = (refl, refl, refl, refl, refl)
 
 -- to an edge that lines agree on they are counted to the nearest

@@ -10,3 +10,4 @@ pub mod Steps
 pub mod Refusals
 pub mod Intervals
 pub mod Rates
+pub mod Paces

@@ -1,7 +1,10 @@
 //! Times by a clock of 32 bits.
 
-ghost use Rattle.std.specs.Prelude.{◌≡◌, ◌≤◌};
-ghost use Rattle.irig_lines.specs.Counting.{edges_to, edges_to_vote, edges_own, edge_behind, is_late, is_gone, has_come};
+ghost use Rattle.std.specs.Prelude.{◌≡◌, ◌<◌, ◌≤◌};
+ghost use Rattle.irig_lines.specs.Counting.{edges_to, edges_to_vote, edges_own, counted_in, counted_by, is_late, is_gone, has_come};
+ghost use Rattle.irig_lines.specs.Paces.{IsFit, IsSound};
+
+use crate::pace::Pace;
 
 const SECOND_US: u32 = 1_000_000;
 
@@ -45,8 +48,9 @@ pub fn edges_to_vote(edge_us: Option<u32>, end_us: u32) -> u32
 }
 
 /// The edges that have come by the own counter.
-pub fn edges_own(edge_us: Option<u32>, now_us: u32) -> u32
-    ensures value { result ≡ edges_own edge_us now_us }
+pub fn edges_own(pace: Option<Pace>, edge_us: Option<u32>, now_us: u32) -> u32
+    requires sound { IsSound pace }
+    ensures value { result ≡ edges_own pace edge_us now_us }
     ensures few { result ≤ 4294 }
 {
     let Some(edge) = edge_us else {
@@ -54,18 +58,36 @@ pub fn edges_own(edge_us: Option<u32>, now_us: u32) -> u32
     };
     let gap = now_us.wrapping_sub(edge);
     if gap < FAR_US {
-        gap.saturating_sub(PATIENCE_US) / SECOND_US
+        counted_in(pace, gap)
     } else {
         0
     }
 }
 
-/// The time so many seconds behind another.
-pub fn edge_behind(edge_us: u32, seconds: u32) -> u32
-    requires { seconds ≤ 4294 }
-    ensures { result ≡ edge_behind edge_us seconds }
+// So many in so many microseconds.
+fn counted_in(pace: Option<Pace>, gap_us: u32) -> u32
+    requires sound { IsSound pace }
+    requires near { gap_us < 2147483648 }
+    ensures value { result ≡ counted_in pace gap_us }
+    ensures few { result ≤ 4294 }
 {
-    edge_us.wrapping_add(seconds * SECOND_US)
+    match pace {
+        None => gap_us.saturating_sub(PATIENCE_US) / SECOND_US,
+        Some(pace) => counted_by(pace, gap_us),
+    }
+}
+
+fn counted_by(pace: Pace, gap_us: u32) -> u32
+    requires sound { IsFit pace }
+    requires near { gap_us < 2147483648 }
+    ensures value { result ≡ counted_by pace gap_us }
+    ensures few { result ≤ 4294 }
+{
+    if gap_us < SECOND_US + PATIENCE_US {
+        return 0;
+    }
+    let past_ns = 1_000 * u64::from(gap_us - (SECOND_US + PATIENCE_US)) + 999;
+    1 + (past_ns / u64::from(pace.second_ns)) as u32
 }
 
 /// Whether an end lies more than 100 ms behind now, or more than 14 ms ahead.

@@ -11,11 +11,12 @@ mod delay;
 mod interval;
 mod limits;
 mod lines;
+mod pace;
 mod rate;
 mod setup;
 mod within;
 
-pub use counting::{edge_behind, edges_own, edges_to_vote, is_gone};
+pub use counting::{edges_own, edges_to_vote, is_gone};
 pub use delay::{Delays, NO_DELAYS, corrected, delay_at};
 pub use interval::{Interval, by_vote, carried_on, contradicts, cut};
 pub use limits::VoteLimits;
@@ -24,6 +25,7 @@ pub use lines::{
     is_pulse, line_at, lines_of_nothing, quality_told, settle, take, tells_of, wait_by,
     whole_frame, with_line,
 };
+pub use pace::{Pace, edge_on, grown_us, learned, pace_on};
 pub use rate::{Anchor, Anchors, NO_ANCHORS, Rate, anchors_cut, anchors_on, rate_of};
 pub use setup::{ClockFault, ClockRules, clock_fault, nearest_limits, nearest_within};
 pub use within::Within;

@@ -26,6 +26,9 @@ pub struct ClockRules {
     pub limits: VoteLimits,
     /// How many microseconds a second the device's counter may be wrong, 0 to 100.
     pub drift_us: u32,
+    /// How many nanoseconds a second the device's counter may come to run otherwise than votes show, over
+    /// the holdover and 4,000 s, as by temperature. By 0 it learns nothing from votes.
+    pub wander_ppb: u32,
     /// How late each of them is.
     pub delays: Delays,
     /// Whether its leap table yields to what frames say of a leap.

@@ -16,13 +16,14 @@ use Rattle.irig_vote.specs.declared.redundancy.Redundancy.TheVariants as of
 use Rattle.irig_reader.specs.declared.report.Lock.TheVariants as lock
 use Rattle.irig_reader.specs.declared.report.Cause.TheVariants as cause
 use Rattle.irig_reader.specs.Rule.{step_of}
+use Rattle.irig_timekeeper.proofs.LearnLaws.{plain_steps}
 use Rattle.irig_timekeeper.specs.declared.clock.Beat.{Beat}
 use Rattle.irig_lines.specs.declared.delay.Delays.{Delays}
 use Rattle.irig_timekeeper.specs.declared.states.LineState.TheVariants as is
 use Rattle.irig_lines.specs.Delays.{corrected, delay_at}
 use Rattle.irig_lines.specs.Refusals.{within_of}
 use Rattle.irig_lines.specs.Lines.{IsTrueLately}
-use Rattle.irig_timekeeper.specs.Keeping.{Keeping, after_pulse, after_tick, vote_at, answer_at}
+use Rattle.irig_timekeeper.specs.Keeping.{Keeping, after_pulse, after_tick, vote_at, answer_at, new_keeping}
 use Rattle.irig_timekeeper.specs.Truth.{IsToldInHoldover}
 use Rattle.irig_timekeeper.specs.Life.{Call, Made, device_of, life_of, AreInOrder, AreTrueAtTicks}
 use Rattle.irig_timekeeper.specs.Life.Call.{Hear, Tick}
@@ -50,7 +51,7 @@ delays = record no_delays { a = pos 3000; b = negsuc 2499 }
 abbrev made_with : Delays → Made
 made_with late = record {
   rules = rules;
-  clock = record { reader_rules = record { lock_after = 1; holdover = 100 }; redundancy = of.Three; within = within_of 450; limits = usual; drift_us = 100; delays = late; prefers_frames = false };
+  clock = record { reader_rules = record { lock_after = 1; holdover = 100 }; redundancy = of.Three; within = within_of 450; limits = usual; drift_us = 100; wander_ppb = 0; delays = late; prefers_frames = false };
   table = no_table;
   lines = new_lines;
   fresh = are_new;
@@ -128,7 +129,7 @@ by_clocks = ap (λ (k : Keeping). answer_at k (now % 2 ^ 32)) (sym same_life) �
 told_truly : IsToldInHoldover noon edges 0 0 (made_with delays).clock now beat (at 43202)
 told_truly =
     device_true rules (made_with delays).clock no_table new_lines 4294400000 are_new (IsTrueLately 450 rules noon edges) noon edges 0 0 (record { steady = steady; sound = is_device.sound; knows = is_device.knows; short = is_device.short }) (omega arith)
-    (λ now half end pulses claim is frame soon. true_by_any (made_with delays).clock rules noon 100 edges half now end pulses claim steady is frame soon) calls now beat (at 43202) order truth by_clocks refl
+    (λ now half end pulses claim is frame soon. true_by_any (made_with delays).clock rules noon 100 edges half now end pulses claim steady is frame soon) calls now beat (at 43202) order truth (plain_steps edges 0 0 (new_keeping rules (made_with delays).clock no_table new_lines) 4294400000 (record { off = refl; none = refl }) steady (Tick now ∷ calls)) by_clocks refl
 
 -- ---- a device that does not know the delays has no vote of the same pulses
 
@@ -170,4 +171,4 @@ exact_answer = refl
 told_exactly : IsToldInHoldover noon exact_edges 0 0 exact.clock exact_now exact_beat (at 43202)
 told_exactly =
     device_true rules exact.clock no_table new_lines 1900000 are_new (IsTrueLately 10 rules noon exact_edges) noon exact_edges 0 0 (record { steady = exact_steady; sound = is_device.sound; knows = is_device.knows; short = omega arith })
-    (omega arith) (λ now half end pulses claim is frame soon. true_by_any exact.clock rules noon 1 exact_edges half now end pulses claim exact_steady is frame soon) exact_calls exact_now exact_beat (at 43202) exact_order exact_truth (ap (λ (k : Keeping). answer_at k (exact_now % 2 ^ 32)) (sym same_exactly) ∙ exact_answer) refl
+    (omega arith) (λ now half end pulses claim is frame soon. true_by_any exact.clock rules noon 1 exact_edges half now end pulses claim exact_steady is frame soon) exact_calls exact_now exact_beat (at 43202) exact_order exact_truth (plain_steps exact_edges 0 0 (new_keeping rules exact.clock no_table new_lines) 1900000 (record { off = refl; none = refl }) exact_steady (Tick exact_now ∷ exact_calls)) (ap (λ (k : Keeping). answer_at k (exact_now % 2 ^ 32)) (sym same_exactly) ∙ exact_answer) refl

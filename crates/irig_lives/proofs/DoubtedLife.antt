@@ -2,7 +2,7 @@
 -- vote. The lines are less than 450 us off by the setup, which says of the counter that it runs at most
 -- 100 us a second wrong.
 use Rattle.std.specs.Prelude.{nat_lt, if◌then◌else◌}
-use Rattle.std.proofs.Common.{◌≡◌, ◌∙◌, ℕ, zero, suc, ◌+◌, ◌-◌, ◌*◌, ◌%◌, ◌^◌, false, List, [], ◌∷◌, ◌++◌, Some, None, refl, sym, arith}
+use Rattle.std.proofs.Common.{◌≡◌, ◌∙◌, ℕ, zero, suc, ◌+◌, ◌-◌, ◌*◌, ◌%◌, ◌^◌, false, List, [], ◌∷◌, ◌++◌, Some, None, refl, sym, arith, inl}
 use Rattle.irig_frame.specs.Faults.{values_of, field_at}
 use Rattle.irig_control.specs.Parity.{ones}
 use Rattle.irig_control.specs.Control.{control_of, offset_in}
@@ -36,7 +36,7 @@ use Rattle.irig_lives.proofs.LifeFacts.{edges, at, noon, no_delays, no_table, is
 abbrev made_for : ℕ → Made
 made_for holdover = record {
   rules = rules;
-  clock = record { reader_rules = record { lock_after = 1; holdover = holdover }; redundancy = of.Three; within = within_of 450; limits = usual; drift_us = 100; delays = no_delays; prefers_frames = false };
+  clock = record { reader_rules = record { lock_after = 1; holdover = holdover }; redundancy = of.Three; within = within_of 450; limits = usual; drift_us = 100; wander_ppb = 0; delays = no_delays; prefers_frames = false };
   table = no_table;
   lines = new_lines;
   fresh = are_new;
@@ -237,6 +237,6 @@ not_said_exactly =
 
 held_truly : SaysTheRule (life_of made (Tick now_3 ∷ calls_3)) (now_4 % 2 ^ 32) beat_4
 held_truly =
-    let lives : LivesTruly _ noon edges made 4293400000 (Tick now_4 ∷ (Tick now_3 ∷ calls_3)) = record { is = is_device; order = order_4; truth = truth_4 } in
-    says_rule (life_of made (Tick now_3 ∷ calls_3)) (now_4 % 2 ^ 32) beat_4 (never_doubts noon edges made 4293400000 (Tick now_3 ∷ calls_3) (record { is = is_device; order = order_4.3; truth = truth_4.1 }))
+    let lives : LivesTruly _ noon edges made 4293400000 (Tick now_4 ∷ (Tick now_3 ∷ calls_3)) = record { is = is_device; learns = inl refl; order = order_4; truth = truth_4 } in
+    says_rule (life_of made (Tick now_3 ∷ calls_3)) (now_4 % 2 ^ 32) beat_4 (never_doubts noon edges made 4293400000 (Tick now_3 ∷ calls_3) (record { is = is_device; learns = inl refl; order = order_4.3; truth = truth_4.1 }))
     (never_unsteady noon edges made 4293400000 (Tick now_3 ∷ calls_3) now_4 lives) answer_4

@@ -22,6 +22,7 @@ use Rattle.irig_vote.specs.declared.redundancy.Redundancy.TheVariants as of
 use Rattle.irig_reader.specs.declared.report.Lock.TheVariants as lock
 use Rattle.irig_reader.specs.declared.report.Cause.TheVariants as cause
 use Rattle.irig_reader.specs.Rule.{step_of}
+use Rattle.irig_timekeeper.proofs.LearnLaws.{plain_steps}
 use Rattle.irig_timekeeper.specs.declared.clock.Beat.{Beat}
 use Rattle.irig_lines.specs.declared.setup.ClockRules.{ClockRules}
 use Rattle.irig_timekeeper.specs.declared.stamp.Stamp.{Stamp}
@@ -57,7 +58,7 @@ exact_steady = record { few = omega arith; steady = record { least = λ n. omega
 
 -- lines that are so exact
 abbrev clock_of : ℕ → ClockRules
-clock_of within = record { reader_rules = record { lock_after = 1; holdover = 100 }; redundancy = of.Three; within = within_of within; limits = usual; drift_us = 1; delays = no_delays; prefers_frames = false }
+clock_of within = record { reader_rules = record { lock_after = 1; holdover = 100 }; redundancy = of.Three; within = within_of within; limits = usual; drift_us = 1; wander_ppb = 0; delays = no_delays; prefers_frames = false }
 
 abbrev clock : ClockRules
 clock = clock_of 10
@@ -180,15 +181,15 @@ pub exact_truly : TellAlwaysTruly (IsTrueLately 10 rules noon exact_edges) clock
 exact_truly now half end pulses claim is frame soon = true_by_any clock rules noon 1 exact_edges half now end pulses claim exact_steady is frame soon
 
 first_told : IsToldInHoldover noon edges 0 0 clock now_1 beat_1 (at 43201)
-first_told = device_true rules clock no_table new_lines 900000 are_new (IsTrueLately 10 rules noon edges) noon edges 0 0 by_counter (omega arith) exact_truly calls_1 now_1 beat_1 (at 43201) order.0 truth.0 answers.0 refl
+first_told = device_true rules clock no_table new_lines 900000 are_new (IsTrueLately 10 rules noon edges) noon edges 0 0 by_counter (omega arith) exact_truly calls_1 now_1 beat_1 (at 43201) order.0 truth.0 (plain_steps edges 0 0 (device clock) 900000 (record { off = refl; none = refl }) by_counter.steady (Tick now_1 ∷ calls_1)) answers.0 refl
 
 next_told : IsToldInHoldover noon edges 0 0 clock now_2 beat_2 (at 43202)
-next_told = device_true rules clock no_table new_lines 900000 are_new (IsTrueLately 10 rules noon edges) noon edges 0 0 by_counter (omega arith) exact_truly calls_2 now_2 beat_2 (at 43202) order.1.3 truth.1 answers.1 refl
+next_told = device_true rules clock no_table new_lines 900000 are_new (IsTrueLately 10 rules noon edges) noon edges 0 0 by_counter (omega arith) exact_truly calls_2 now_2 beat_2 (at 43202) order.1.3 truth.1 (plain_steps edges 0 0 (device clock) 900000 (record { off = refl; none = refl }) by_counter.steady (Tick now_2 ∷ calls_2)) answers.1 refl
 
 stamp_true : IsStampedTruly noon edges 0 3250001 stamp
 stamp_true =
     stamped rules clock no_table new_lines 900000 are_new noon edges 0 0 0 by_counter (omega arith) (omega arith) (IsTrueLately 10 rules noon edges) (omega arith) exact_truly
-    (Tick now_2 ∷ calls_2) 3250001 asked order.1 truth.1 (omega arith) (omega arith) stamp stamp_is
+    (Tick now_2 ∷ calls_2) 3250001 asked order.1 truth.1 (plain_steps edges 0 0 (device clock) 900000 (record { off = refl; none = refl }) by_counter.steady (Tick now_2 ∷ calls_2)) (omega arith) (omega arith) stamp stamp_is
 
 -- the first vote leaves 20 us, from 1,999,990 on; a second later, by a counter that runs 1 us a second
 -- wrong, 22 us from 2,999,989 on, of which the second vote, with 38 us from 2,999,982 on, cuts nothing
@@ -201,7 +202,7 @@ made = record { rules = rules; clock = clock; table = no_table; lines = new_line
 
 no_stray : (life_of made (Tick now_2 ∷ calls_2)).state.strays ≡ 0
 unfolding made
-no_stray = never_strays noon edges made 900000 (Tick now_2 ∷ calls_2) (record { is = by_counter; order = order.1.3; truth = truth.1 })
+no_stray = never_strays noon edges made 900000 (Tick now_2 ∷ calls_2) (record { is = by_counter; learns = inl refl; order = order.1.3; truth = truth.1 })
 
 -- ---- what that exactness asks
 
@@ -232,4 +233,4 @@ by_clocks now pulses is = record { own = edges; steady = exact_steady; near = λ
 told_late : IsToldInHoldover noon utc 10 10 clock now_2 beat_2 (at 43202)
 told_late =
     device_true rules clock no_table new_lines 900000 are_new (IsTrueByItsClock 10 10 1 rules noon utc) noon utc 10 10 by_utc (omega arith) (clocks_tell_truly 10 clock rules noon utc) calls_2 now_2 beat_2
-    (at 43202) order.1.3 (still_true (IsTrueLately 10 rules noon edges) (IsTrueByItsClock 10 10 1 rules noon utc) by_clocks 1 (Tick now_2 ∷ calls_2) truth.1) answers.1 refl
+    (at 43202) order.1.3 (still_true (IsTrueLately 10 rules noon edges) (IsTrueByItsClock 10 10 1 rules noon utc) by_clocks 1 (Tick now_2 ∷ calls_2) truth.1) (plain_steps utc 10 10 (device clock) 900000 (record { off = refl; none = refl }) by_utc.steady (Tick now_2 ∷ calls_2)) answers.1 refl

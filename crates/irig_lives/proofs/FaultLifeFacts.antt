@@ -16,6 +16,7 @@ use Rattle.irig_reader.specs.declared.report.Lock.TheVariants as lock
 use Rattle.irig_reader.specs.declared.report.Cause.TheVariants as cause
 use Rattle.irig_reader.specs.Rule.{step_of}
 use Rattle.irig_sync.proofs.EdgeLaws.{even_element}
+use Rattle.irig_timekeeper.proofs.LearnLaws.{plain_steps}
 use Rattle.irig_timekeeper.specs.declared.clock.Beat.{Beat}
 use Rattle.irig_lines.specs.declared.setup.ClockRules.{ClockRules}
 use Rattle.irig_lines.specs.Refusals.{within_of}
@@ -35,7 +36,7 @@ use Rattle.irig_lives.proofs.FaultLineFacts.{fast, fast_steady, claim, line, is_
 use Rattle.irig_timekeeper.specs.Rule.{step_checked, goes_against}
 
 abbrev clock : ClockRules
-clock = record { reader_rules = record { lock_after = 1; holdover = 100 }; redundancy = of.One; within = within_of 450; limits = usual; drift_us = 100; delays = no_delays; prefers_frames = false }
+clock = record { reader_rules = record { lock_after = 1; holdover = 100 }; redundancy = of.One; within = within_of 450; limits = usual; drift_us = 100; wander_ppb = 0; delays = no_delays; prefers_frames = false }
 
 by_counter : IsDevice noon 100 fast clock.reader_rules no_table
 by_counter = record { steady = fast_steady; sound = is_device.sound; knows = is_device.knows; short = is_device.short }
@@ -169,7 +170,7 @@ answer = refl
 
 told : IsToldInHoldover noon fast 1097 1000 clock now beat second
 told =
-    device_true rules clock no_table new_lines 900000 are_new (IsTrueButForFaults 450 rules noon fast) noon fast 1097 1000 by_counter (omega arith) (faults_tell_truly clock rules noon fast fast_steady) calls now beat second order (at_tick (IsTrueButForFaults 450 rules noon fast) faulty) answer refl
+    device_true rules clock no_table new_lines 900000 are_new (IsTrueButForFaults 450 rules noon fast) noon fast 1097 1000 by_counter (omega arith) (faults_tell_truly clock rules noon fast fast_steady) calls now beat second order (at_tick (IsTrueButForFaults 450 rules noon fast) faulty) (plain_steps fast 1097 1000 (device) 900000 (record { off = refl; none = refl }) by_counter.steady (Tick now ∷ calls)) answer refl
 
 -- an event a quarter of a second behind the edge
 abbrev stamp : Stamp
@@ -183,7 +184,7 @@ stamp_true : IsStampedTruly noon fast 1097 2250099 stamp
 unfolding calls heard line in_order have_risen is_after
 stamp_true =
     stamped rules clock no_table new_lines 900000 are_new noon fast 1097 1000 1097 by_counter (omega arith) (omega arith) (IsTrueOrFaulty 450 rules noon fast) (omega arith) (either_tells_truly clock rules noon fast fast_steady) (Tick now ∷ calls) 2250099 2300000
-    asked (at_tick (IsTrueOrFaulty 450 rules noon fast) (λ i less. inr (faulty i less))) (omega arith) (omega arith) stamp stamp_is
+    asked (at_tick (IsTrueOrFaulty 450 rules noon fast) (λ i less. inr (faulty i less))) (plain_steps fast 1097 1000 (device) 900000 (record { off = refl; none = refl }) by_counter.steady (Tick now ∷ calls)) (omega arith) (omega arith) stamp stamp_is
   where
     asked : AreInOrder 900000 of.One (Tick 2300000 ∷ (Tick now ∷ calls))
     asked = order_is 900000 of.One (Tick 2300000 ∷ (Tick now ∷ calls)) refl

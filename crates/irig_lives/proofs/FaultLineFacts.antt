@@ -132,7 +132,7 @@ module _ (edges : ℕ → ℕ) (start : edges 0 ≡ 1000000) (step : ℕ) (long 
 
 -- by lines that are so exact, and such a counter
 abbrev setup : ClockRules
-setup = record { reader_rules = record { lock_after = 1; holdover = 100 }; redundancy = of.One; within = within_of 450; limits = usual; drift_us = 100; delays = no_delays; prefers_frames = false }
+setup = record { reader_rules = record { lock_after = 1; holdover = 100 }; redundancy = of.One; within = within_of 450; limits = usual; drift_us = 100; wander_ppb = 0; delays = no_delays; prefers_frames = false }
 
 -- the frame says quality 0
 says_0 : quality_in frame_0 ≡ 0

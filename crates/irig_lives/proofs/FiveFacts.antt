@@ -18,6 +18,7 @@ use Rattle.irig_vote.specs.declared.redundancy.Redundancy.TheVariants as of
 use Rattle.irig_reader.specs.declared.report.Lock.TheVariants as lock
 use Rattle.irig_reader.specs.declared.report.Cause.TheVariants as cause
 use Rattle.irig_reader.specs.Rule.{step_of}
+use Rattle.irig_timekeeper.proofs.LearnLaws.{plain_steps}
 use Rattle.irig_timekeeper.specs.declared.clock.Beat.{Beat}
 use Rattle.irig_lines.specs.declared.setup.ClockRules.{ClockRules}
 use Rattle.irig_lines.specs.Refusals.{within_of}
@@ -35,7 +36,7 @@ use Rattle.irig_lives.proofs.DecidedLaws.{order_is, truly_is}
 use Rattle.irig_timekeeper.specs.Rule.{step_checked, goes_against}
 
 abbrev clock : ClockRules
-clock = record { reader_rules = record { lock_after = 1; holdover = 100 }; redundancy = of.Five; within = within_of 450; limits = usual; drift_us = 100; delays = no_delays; prefers_frames = false }
+clock = record { reader_rules = record { lock_after = 1; holdover = 100 }; redundancy = of.Five; within = within_of 450; limits = usual; drift_us = 100; wander_ppb = 0; delays = no_delays; prefers_frames = false }
 
 is_device_of_five : IsDevice noon 100 edges clock.reader_rules no_table
 is_device_of_five = record { steady = steady; sound = is_device.sound; knows = is_device.knows; short = is_device.short }
@@ -104,4 +105,4 @@ answer = refl
 told : IsToldInHoldover noon edges 0 0 clock now beat (at 43201)
 told =
     device_true rules clock no_table new_lines 4293400000 are_new (IsTrueLately 450 rules noon edges) noon edges 0 0 is_device_of_five (omega arith)
-    (λ time half end pulses c is f soon. true_by_any clock rules noon 100 edges half time end pulses c steady is f soon) calls now beat (at 43201) order truth answer refl
+    (λ time half end pulses c is f soon. true_by_any clock rules noon 100 edges half time end pulses c steady is f soon) calls now beat (at 43201) order truth (plain_steps edges 0 0 (device) 4293400000 (record { off = refl; none = refl }) steady (Tick now ∷ calls)) answer refl

@@ -111,7 +111,7 @@ now_2 = 3002100
 -- ---- what the device says
 
 abbrev device : (prefers_frames : Bool) → List (ℕ × Leap) → Keeping
-device prefers_frames leaps = new_keeping rules (record { reader_rules = record { lock_after = 1; holdover = 100 }; redundancy = of.One; within = within_of 450; limits = usual; drift_us = 100; delays = no_delays; prefers_frames = prefers_frames }) (knows leaps) new_lines
+device prefers_frames leaps = new_keeping rules (record { reader_rules = record { lock_after = 1; holdover = 100 }; redundancy = of.One; within = within_of 450; limits = usual; drift_us = 100; wander_ppb = 0; delays = no_delays; prefers_frames = prefers_frames }) (knows leaps) new_lines
 
 abbrev beat : Option UtcSecond → Lock → Cause → Option Claim → ℕ → Bool → Beat
 beat announce l c claim edge against = record { report = record { announce = announce; lock = l; cause = c }; told = record silence { a = told_by claim }; edge_us = edge; bound_us = 450; missed = 0; moved = 0; against_table = against }

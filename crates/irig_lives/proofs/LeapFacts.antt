@@ -28,6 +28,7 @@ use Rattle.irig_reader.specs.declared.report.Lock.TheVariants as lock
 use Rattle.irig_reader.specs.declared.report.Cause.{Cause}
 use Rattle.irig_reader.specs.declared.report.Cause.TheVariants as cause
 use Rattle.irig_reader.specs.Rule.{step_of}
+use Rattle.irig_timekeeper.proofs.LearnLaws.{plain_steps}
 use Rattle.irig_timekeeper.specs.declared.clock.Beat.{Beat}
 use Rattle.irig_lines.specs.declared.setup.ClockRules.{ClockRules}
 use Rattle.irig_lines.specs.Refusals.{within_of}
@@ -61,7 +62,7 @@ steady : IsQuartz 100 edges
 steady = record { few = omega arith; steady = record { least = λ n. omega arith; most = λ n. omega arith } }
 
 abbrev clock : ClockRules
-clock = record { reader_rules = record { lock_after = 1; holdover = 100 }; redundancy = of.One; within = within_of 450; limits = usual; drift_us = 100; delays = no_delays; prefers_frames = false }
+clock = record { reader_rules = record { lock_after = 1; holdover = 100 }; redundancy = of.One; within = within_of 450; limits = usual; drift_us = 100; wander_ppb = 0; delays = no_delays; prefers_frames = false }
 
 -- 23:59:60 is inserted, or 23:59:59 deleted
 abbrev leaps : Leap → List (ℕ × Leap)
@@ -199,7 +200,7 @@ module _ (l : Leap) (calls : List Call) (now : ℕ) (beat : Beat) (u : UtcSecond
   by_law : answer_at (after_calls (device (knows_leap l)) calls) (now % 2 ^ 32) ≡ Some beat → beat.report.announce ≡ Some u → IsToldInHoldover (with_leap l) edges 0 0 clock now beat u
   by_law =
       device_true rules clock (knows_leap l) new_lines 900000 are_new (IsTrueLately 450 rules (with_leap l) edges) (with_leap l) edges 0 0 (is_device l) (omega arith)
-      (λ time half end pulses c is f soon. true_by_any clock rules (with_leap l) 100 edges half time end pulses c steady is f soon) calls now beat u ordered are
+      (λ time half end pulses c is f soon. true_by_any clock rules (with_leap l) 100 edges half time end pulses c steady is f soon) calls now beat u ordered are (plain_steps edges 0 0 (device (knows_leap l)) 900000 (record { off = refl; none = refl }) (is_device l).steady (Tick now ∷ calls))
 
 told_60 : IsToldInHoldover (with_leap leap.Insert) edges 0 0 clock (behind 59) (held (Some (at 86400)) (lock.Holdover 59) cause.Held 61000099 6350 58) (at 86400)
 told_60 = by_law leap.Insert calls_2 (behind 59) _ (at 86400) order.0.3 (truth leap.Insert).0.1 inserted.0 refl

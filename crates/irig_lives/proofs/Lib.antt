@@ -20,3 +20,4 @@ pub mod ExactFacts
 pub mod SaidLines
 pub mod DoubtedLife
 pub mod DelayedLines
+pub mod LearnedFacts

@@ -43,6 +43,7 @@ use Rattle.irig_sync.proofs.EdgeLaws.{even_element}
 use Rattle.irig_lines.specs.declared.lines.Line.{Line}
 use Rattle.irig_lines.specs.declared.lines.Lines.{Lines}
 use Rattle.irig_lines.specs.declared.lines.Vote.{Vote}
+use Rattle.irig_timekeeper.proofs.LearnLaws.{plain_steps}
 use Rattle.irig_timekeeper.specs.declared.clock.Beat.{Beat}
 use Rattle.irig_lines.specs.declared.delay.Delays.{Delays}
 use Rattle.irig_lines.specs.declared.setup.ClockRules.{ClockRules}
@@ -96,7 +97,7 @@ abbrev pub usual : VoteLimits
 usual = record { limits = usual_limits; few = omega arith }
 
 abbrev pub clock : ClockRules
-clock = record { reader_rules = record { lock_after = 2; holdover = 100 }; redundancy = of.Three; within = within_of 450; limits = usual; drift_us = 100; delays = no_delays; prefers_frames = false }
+clock = record { reader_rules = record { lock_after = 2; holdover = 100 }; redundancy = of.Three; within = within_of 450; limits = usual; drift_us = 100; wander_ppb = 0; delays = no_delays; prefers_frames = false }
 
 pub is_device : IsDevice noon 100 edges clock.reader_rules no_table
 is_device = record { steady = steady; sound = is_timeline; knows = inl true_table; short = omega arith }
@@ -350,7 +351,7 @@ pub truly_told : TellAlwaysTruly (IsTrueLately 450 rules noon edges) clock rules
 truly_told now half end pulses claim is frame soon = true_by_any clock rules noon 100 edges half now end pulses claim steady is frame soon
 
 told_4 : IsToldInHoldover noon edges 0 0 clock now_4 beat_4 (at 43204)
-told_4 = device_true rules clock no_table new_lines 4293400000 are_new (IsTrueLately 450 rules noon edges) noon edges 0 0 is_device (omega arith) truly_told (Tick now_3 ∷ calls_3) now_4 beat_4 (at 43204) order_4 truth_4 answer_4 refl
+told_4 = device_true rules clock no_table new_lines 4293400000 are_new (IsTrueLately 450 rules noon edges) noon edges 0 0 is_device (omega arith) truly_told (Tick now_3 ∷ calls_3) now_4 beat_4 (at 43204) order_4 truth_4 (plain_steps edges 0 0 (device) 4293400000 (record { off = refl; none = refl }) is_device.steady (life_4)) answer_4 refl
 
 -- clocks that are all 1 ms early: by seconds of UTC that begin so much later the edge that is told lies no
 -- further off than its bound, 950 us, and 1 ms
@@ -366,7 +367,7 @@ by_clocks now pulses is = record { own = edges; steady = steady; near = λ n. re
 told_early : IsToldInHoldover noon utc 1000 1000 clock now_4 beat_4 (at 43204)
 told_early =
     device_true rules clock no_table new_lines 4293400000 are_new (IsTrueByItsClock 1000 450 100 rules noon utc) noon utc 1000 1000 by_utc (omega arith) (clocks_tell_truly 1000 clock rules noon utc)
-    (Tick now_3 ∷ calls_3) now_4 beat_4 (at 43204) order_4 (still_true (IsTrueLately 450 rules noon edges) (IsTrueByItsClock 1000 450 100 rules noon utc) by_clocks 1 life_4 truth_4) answer_4 refl
+    (Tick now_3 ∷ calls_3) now_4 beat_4 (at 43204) order_4 (still_true (IsTrueLately 450 rules noon edges) (IsTrueByItsClock 1000 450 100 rules noon utc) by_clocks 1 life_4 truth_4) (plain_steps utc 1000 1000 (device) 4293400000 (record { off = refl; none = refl }) by_utc.steady (life_4)) answer_4 refl
 
 -- the vote of the tick before leaves 1,700 us, from 851 us before the edge on, and a second later the
 -- counter's drift 100 us more at each end; no vote contradicted another
@@ -375,10 +376,10 @@ made_450 = record { rules = rules; clock = clock; table = no_table; lines = new_
 
 no_stray : (life_of made_450 (Tick now_4 ∷ (Tick now_3 ∷ calls_3))).state.strays ≡ 0
 unfolding made_450
-no_stray = never_strays noon edges made_450 4293400000 (Tick now_4 ∷ (Tick now_3 ∷ calls_3)) (record { is = is_device; order = order_4; truth = truth_4 })
+no_stray = never_strays noon edges made_450 4293400000 (Tick now_4 ∷ (Tick now_3 ∷ calls_3)) (record { is = is_device; learns = inl refl; order = order_4; truth = truth_4 })
 
 later_4 : IsLaterSecond noon (at 43203) (at 43204)
-later_4 = device_in_order rules clock no_table new_lines 4293400000 are_new (IsTrueLately 450 rules noon edges) noon edges 0 0 is_device (omega arith) truly_told calls_3 [] now_3 now_4 beat_3 beat_4 (at 43203) (at 43204) order_4 truth_4 answer_3 refl answer_4 refl
+later_4 = device_in_order rules clock no_table new_lines 4293400000 are_new (IsTrueLately 450 rules noon edges) noon edges 0 0 is_device (omega arith) truly_told calls_3 [] now_3 now_4 beat_3 beat_4 (at 43203) (at 43204) order_4 truth_4 (plain_steps edges 0 0 (device) 4293400000 (record { off = refl; none = refl }) is_device.steady (life_4)) answer_3 refl answer_4 refl
 
 -- by the vote of its third second it has healed from whatever came before
 abbrev pub made : Made
@@ -392,7 +393,7 @@ unfolding calls_3 elements_before with_element with_tick width_of lie line frame
 voted_3 = refl
 
 healed_4 : HasHealed (IsTrueLately 450) noon edges made 4293400000 life_4
-healed_4 = record { is = is_device; order = order_4; later = Tick now_4 ∷ []; mend = now_3; earlier = calls_3; are = refl; vote = vote_3; voted = voted_3; beat = beat_3; answer = answer_3; truth = truth_4.1.0; since = (truth_4.0, tt) }
+healed_4 = record { is = is_device; plain = refl; order = order_4; later = Tick now_4 ∷ []; mend = now_3; earlier = calls_3; are = refl; vote = vote_3; voted = voted_3; beat = beat_3; answer = answer_3; truth = truth_4.1.0; since = (truth_4.0, tt) }
 
 -- an event 0.25 s behind the last edge is stamped with its second, 2 ms before it with the one before
 stamp_4 : (stamp_at (after_tick (after_calls device (Tick now_3 ∷ calls_3)) (now_4 % 2 ^ 32)) 2783003 ≡ Some (record { second = at 43204; offset_us = 250000; bound_us = 950 }))
@@ -423,7 +424,7 @@ unfolding by_lines queued elements_before with_element pulse_told with_tick widt
 answer_by_lines = refl
 
 told_by_lines : IsToldInHoldover noon edges 0 0 clock now_3 beat_3 (at 43203)
-told_by_lines = device_true rules clock no_table new_lines 4293400000 are_new (IsTrueLately 450 rules noon edges) noon edges 0 0 is_device (omega arith) truly_told by_lines now_3 beat_3 (at 43203) order_by_lines truth_by_lines answer_by_lines refl
+told_by_lines = device_true rules clock no_table new_lines 4293400000 are_new (IsTrueLately 450 rules noon edges) noon edges 0 0 is_device (omega arith) truly_told by_lines now_3 beat_3 (at 43203) order_by_lines truth_by_lines (plain_steps edges 0 0 (device) 4293400000 (record { off = refl; none = refl }) is_device.steady (Tick now_3 ∷ by_lines)) answer_by_lines refl
 
 -- ---- what the premises let through
 

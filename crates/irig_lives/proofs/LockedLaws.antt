@@ -1,6 +1,6 @@
 -- What a tick leaves that announces by a vote, and what a device says that then hears nothing.
 use Rattle.std.specs.Prelude.{◌==◌, ◌&&◌}
-use Rattle.std.proofs.Common.{◌≡◌, ◌∙◌, ℕ, zero, suc, ◌+◌, ◌-◌, ◌*◌, ◌<◌, ◌≤◌, false, Option, Some, None, Ok, refl, sym, ap, subst, arith, inl, inr, Bool}
+use Rattle.std.proofs.Common.{◌≡◌, ◌∙◌, ℕ, zero, suc, ◌+◌, ◌-◌, ◌<◌, ◌≤◌, false, Option, Some, None, Ok, refl, sym, ap, subst, arith, inl, inr, Bool}
 use Rattle.std.proofs.lemmas.Bool.{cases_Bool}
 use Rattle.irig_time.specs.declared.second.UtcSecond.{UtcSecond}
 use Rattle.irig_time.specs.declared.claim.Claim.{Claim}
@@ -21,12 +21,16 @@ use Rattle.irig_reader.specs.declared.report.Lock.TheVariants as lock
 use Rattle.irig_reader.specs.Locking.{voted_report}
 use Rattle.irig_reader.specs.Rule.{count_step, holdover_step, step_of}
 use Rattle.irig_reader.proofs.StepCases.{count_cases, vote_cases, none_cases}
+use Rattle.irig_lines.specs.declared.pace.Pace.{Pace}
+use Rattle.irig_lines.specs.Paces.{edge_on, grown_us}
+use Rattle.irig_lines.proofs.PaceLaws.{none_grown}
+use Rattle.irig_timekeeper.proofs.LearnLaws.{plain_settled}
 use Rattle.irig_timekeeper.specs.declared.clock.Beat.{Beat}
 use Rattle.irig_lines.specs.declared.setup.ClockRules.{ClockRules}
 use Rattle.irig_timekeeper.specs.declared.clock.ClockState.{ClockState}
 use Rattle.irig_lines.specs.declared.lines.Lines.{Lines}
 use Rattle.irig_lines.specs.declared.lines.Vote.{Vote}
-use Rattle.irig_lines.specs.Counting.{edges_own, edges_to_vote, edge_behind}
+use Rattle.irig_lines.specs.Counting.{edges_own, edges_to_vote}
 use Rattle.irig_lines.specs.Steps.{settled, taken, agreed, if_come}
 use Rattle.irig_timekeeper.specs.Rule.{missed, step_behind, against_table, step_checked, goes_against}
 use Rattle.irig_timekeeper.specs.Clock.{bound_of, beat_by, step_to, after_vote, answer_to_vote, after_own, answer_alone, own_edge, clock_by, answer_by, settled_at, is_unsteady}
@@ -100,8 +104,8 @@ module _ (c : ClockRules) (table : TableValue) (s : ClockState) (u : UtcSecond) 
   left_alone n e = elim (cases_Bool (n == 0)) [
     | inl none ↦ let no : None ≡ Some beat = rw none at e in absurd cc
     | inr some ↦
-        let is : Some (beat_by c s false (step_to c table s n None) (n - 1) (own_edge s.edge_us n) s.bound_us) ≡ Some beat = rw some at e in
-        let same : beat_by c s false (step_to c table s n None) (n - 1) (own_edge s.edge_us n) s.bound_us ≡ beat = cc in
+        let is : Some (beat_by c s false (step_to c table s n None) (n - 1) (own_edge s.pace s.edge_us n) s.bound_us) ≡ Some beat = rw some at e in
+        let same : beat_by c s false (step_to c table s n None) (n - 1) (own_edge s.pace s.edge_us n) s.bound_us ≡ beat = cc in
         absurd (never_alone c.reader_rules table c.prefers_frames (missed c.prefers_frames c.reader_rules table (n - 1) s.reader) (ap (λ (b : Beat). b.report.lock) same ∙ ap (λ (r : Report). r.lock) says))
   ]
 
@@ -113,10 +117,10 @@ module _ (c : ClockRules) (table : TableValue) (s : ClockState) (u : UtcSecond) 
         let is : Some (beat_by c s (against_table table (Some v.claim)) (step_to c table s n (Some v.claim)) (n - 1) v.edge_us v.bound_us) ≡ Some beat = rw some at e in
         let same : beat_by c s (against_table table (Some v.claim)) (step_to c table s n (Some v.claim)) (n - 1) v.edge_us v.bound_us ≡ beat = cc in
         let locked = voted_locks c.reader_rules table c.prefers_frames u (missed c.prefers_frames c.reader_rules table (n - 1) s.reader) v.claim (ap (λ (b : Beat). b.report.announce) same ∙ ap (λ (r : Report). r.announce) says) in
-        let none : v.bound_us + 0 * c.drift_us ≡ v.bound_us = omega arith in
+        let none : v.bound_us + grown_us c.drift_us s.pace 0 ≡ v.bound_us = omega (arith, none_grown c.drift_us s.pace) in
         let bound : beat.bound_us ≡ v.bound_us =
         ap (λ (b : Beat). b.bound_us) (sym same)
-        ∙ ap (λ (r : Report). bound_of c.drift_us v.bound_us r.lock) (ap (λ (b : Beat). b.report) same ∙ says) ∙ none in
+        ∙ ap (λ (r : Report). bound_of c.drift_us s.pace v.bound_us r.lock) (ap (λ (b : Beat). b.report) same ∙ says) ∙ none in
         rw some (record {
           h = locked.h;
           reader = locked.is;
@@ -137,7 +141,7 @@ left_by k clock u beat answer says = of (vote_at k clock) answer
 
     of : (o : Option Vote) → answer_by k.clock k.table s clock o ≡ Some beat → IsLeft u beat (clock_by k.clock k.table s clock o)
     of None e =
-        let l = left_alone k.clock k.table s u beat says (edges_own k.state.edge_us clock) e in
+        let l = left_alone k.clock k.table s u beat says (edges_own s.pace k.state.edge_us clock) e in
         record { h = l.h; reader = l.reader; last = l.last; age = l.age; edge = l.edge; bound = l.bound; lines = l.lines; dark = l.dark }
     of (Some v) e =
         let l = left_voted k.clock k.table s u beat says v (edges_to_vote k.state.edge_us v.edge_us) e in
@@ -149,26 +153,27 @@ pub record SaysAlone (k : Keeping) (clock e n : ℕ) (u : UtcSecond) : Type 0 wh
   pub beat : Beat
   pub answer : answer_at k clock ≡ Some beat
   pub says : beat.report.announce ≡ Some u
-  pub edge : beat.edge_us ≡ edge_behind e (suc n)
+  pub edge : beat.edge_us ≡ edge_on None e (suc n)
   pub bound : k.state.bound_us ≤ beat.bound_us
 
-pub says_alone : (k : Keeping) (clock e n : ℕ) (u : UtcSecond) (lines : Lines) → k.state.lines ≡ taken lines → k.state.edge_us ≡ Some e → k.state.doubt ≡ 0 → edges_own (Some e) clock ≡ suc n
+pub says_alone : (k : Keeping) (clock e n : ℕ) (u : UtcSecond) (lines : Lines) → k.state.lines ≡ taken lines → k.state.edge_us ≡ Some e → k.state.doubt ≡ 0 → k.state.pace ≡ None → edges_own None (Some e) clock ≡ suc n
     → (step_behind k.clock.prefers_frames k.clock.reader_rules k.table n k.state.reader None).report.announce ≡ Some u → SaysAlone k clock e n u
-says_alone k clock e n u lines dark edge certain count says =
+says_alone k clock e n u lines dark edge certain plain count says =
     let s : ClockState = settled_at k.clock k.state clock in
     let none : vote_at k clock ≡ None = ap (λ (x : Lines). if_come clock (agreed k.clock (settled clock x))) dark in
-    let so_many : edges_own k.state.edge_us clock ≡ suc n = ap (λ (o : Option ℕ). edges_own o clock) edge ∙ count in
+    let nothing_learned : s.pace ≡ None = plain_settled k plain clock in
+    let so_many : edges_own s.pace k.state.edge_us clock ≡ suc n = ap (λ (p : Option Pace). edges_own p k.state.edge_us clock) nothing_learned ∙ (ap (λ (o : Option ℕ). edges_own None o clock) edge ∙ count) in
     let less : suc n - 1 ≡ n = omega arith in
     let some : (suc n == 0) ≡ false = grind arith in
-    let counted_on : answer_alone k.clock k.table s (suc n) ≡ Some (beat_by k.clock s false (step_to k.clock k.table s (suc n) None) (suc n - 1) (own_edge k.state.edge_us (suc n)) k.state.bound_us) = rw some refl in
+    let counted_on : answer_alone k.clock k.table s (suc n) ≡ Some (beat_by k.clock s false (step_to k.clock k.table s (suc n) None) (suc n - 1) (own_edge s.pace k.state.edge_us (suc n)) k.state.bound_us) = rw some refl in
     let steady : is_unsteady k.clock k.state clock ≡ false = dark_is_steady k clock lines dark in
     let nothing : s.doubt ≡ 0 = rw steady certain in
     let step : (step_to k.clock k.table s (suc n) None).report.announce ≡ Some u = says_all s.doubt None (step_behind k.clock.prefers_frames k.clock.reader_rules k.table (suc n - 1) k.state.reader None).report.announce nothing ∙ ap (λ (m : ℕ). (step_behind k.clock.prefers_frames k.clock.reader_rules k.table m k.state.reader None).report.announce) less ∙ says in
     record {
-      beat = beat_by k.clock s false (step_to k.clock k.table s (suc n) None) (suc n - 1) (own_edge k.state.edge_us (suc n)) k.state.bound_us;
+      beat = beat_by k.clock s false (step_to k.clock k.table s (suc n) None) (suc n - 1) (own_edge s.pace k.state.edge_us (suc n)) k.state.bound_us;
       answer = ap (answer_by k.clock k.table s clock) none ∙ ap (answer_alone k.clock k.table s) so_many ∙ counted_on;
       says = step;
-      edge = ap (λ (o : Option ℕ). own_edge o (suc n)) edge;
+      edge = ap (λ (p : Option Pace). own_edge p k.state.edge_us (suc n)) nothing_learned ∙ ap (λ (o : Option ℕ). own_edge None o (suc n)) edge;
       bound = omega arith;
     }
 

@@ -26,6 +26,8 @@ use Rattle.irig_reader.specs.Rules.{IsReaderRules}
 use Rattle.irig_lines.specs.declared.setup.ClockRules.{ClockRules}
 use Rattle.irig_lines.specs.Counting.{edges_own}
 use Rattle.irig_lines.specs.Lines.{IsTrueLately}
+use Rattle.irig_timekeeper.proofs.LearnLaws.{IsPlain, plain_steps, stays_plain}
+use Rattle.irig_timekeeper.proofs.SoundLaws.{none_sound}
 use Rattle.irig_timekeeper.specs.Rule.{step_behind}
 use Rattle.irig_timekeeper.specs.Keeping.{Keeping}
 use Rattle.irig_timekeeper.specs.Truth.{IsDevice, IsEdgeAt, IsOnTrack, StandsAt}
@@ -63,7 +65,7 @@ still_after : (ps : List Pulse) (now then : ℕ) → now ≤ then → IsAfter ps
 still_after [] now then later after = tt
 still_after (p ∷ ps) now then later after = omega (arith, later, after)
 
-module _ (rules : Rules) (clock : ClockRules) (range : IsReaderRules clock.reader_rules) (few : clock.drift_us ≤ 100) (short : (clock.reader_rules.holdover + 2) * clock.drift_us ≤ 490000) (long : 58 ≤ clock.reader_rules.holdover) (some : 1 ≤ clock.limits.limits.poor_from) (late : clock.limits.limits.not_before ≤ 30) where
+module _ (rules : Rules) (clock : ClockRules) (range : IsReaderRules clock.reader_rules) (few : clock.drift_us ≤ 100) (short : (clock.reader_rules.holdover + 2) * clock.drift_us ≤ 490000) (plain : clock.wander_ppb ≡ 0) (long : 58 ≤ clock.reader_rules.holdover) (some : 1 ≤ clock.limits.limits.poor_from) (late : clock.limits.limits.not_before ≤ 30) where
   abbrev locks : ℕ
   locks = clock.reader_rules.lock_after
 
@@ -144,6 +146,9 @@ module _ (rules : Rules) (clock : ClockRules) (range : IsReaderRules clock.reade
   abbrev new : Keeping
   new = device_of made
 
+  learns_none : IsPlain new
+  learns_none = record { off = plain; none = refl }
+
   -- where that leaves the device
   stands : (now : ℕ) (s : State) (voted : ℕ) (o : Option ℕ) (e : ℕ) (h : HoldValue) → o ≡ Some e → s ≡ Locked h → h.last ≡ at (first + n) → h.age ≡ 0 → IsOnTrack lie edges 0 0 clock.drift_us 0 clock.reader_rules deletion now s voted o → IsAloneAt lie n 0 s
   stands now s voted None e h edge is last age track = absurd cc
@@ -183,7 +188,8 @@ module _ (rules : Rules) (clock : ClockRules) (range : IsReaderRules clock.reade
       let e : ℕ = a.beat.edge_us in
       let left = left_by (after_calls new a.earlier) (a.now % 2 ^ 32) (at (first + n)) a.beat a.answer a.says in
       let track = (ticks rules clock deletion new_lines 9999000 are_new (IsTrueLately clock.within.us rules lie edges) lie edges 0 0 device (omega arith)
-      (λ time half end pulses claim is frame soon. true_by_any clock rules lie clock.drift_us edges half time end pulses claim device.steady is frame soon) a.earlier a.now told.order told.truth).track in
+      (λ time half end pulses claim is frame soon. true_by_any clock rules lie clock.drift_us edges half time end pulses claim device.steady is frame soon) a.earlier a.now told.order told.truth (plain_steps edges 0 0 new 9999000 learns_none device.steady calls)).track in
+      let dark : IsPlain k = stays_plain new learns_none calls in
       let alone = stands a.now k.state.reader k.state.bound_us k.state.edge_us e left.h left.edge left.reader left.last left.age track in
       let many = (many_alone clock.reader_rules deletion lie lie_is (record { leaps = λ day end from to. refl }) clock.prefers_frames n 57 k.state.reader then_second alone (omega (arith, long)) then_seconds of_that_day).1 in
       let late : a.now ≤ now = omega (arith, told.at.soon) in
@@ -192,11 +198,11 @@ module _ (rules : Rules) (clock : ClockRules) (range : IsReaderRules clock.reade
       let says : (step_behind k.clock.prefers_frames k.clock.reader_rules k.table 57 k.state.reader None).report.announce ≡ Some new_month =
       ap (λ (c : ClockRules). (step_behind c.prefers_frames c.reader_rules k.table 57 k.state.reader None).report.announce) setup.clock
       ∙ ap (λ (x : TableValue). (step_behind clock.prefers_frames clock.reader_rules x 57 k.state.reader None).report.announce) setup.table ∙ many in
-      let come : own_come told.edge now ≡ 58 = omega arith in
-      let count : edges_own (Some e) (now % 2 ^ 32) ≡ 58 = own_count a.now now late (omega (arith, told.at.come)) e told.edge told.at ∙ come in
-      let certain = never_doubts lie edges made 9999000 calls (record { is = device; order = told.order; truth = told.truth }) in
-      let then = says_alone k (now % 2 ^ 32) e 57 new_month left.lines left.dark left.edge certain count says in
-      let edge = own_edge_at a.now now late (omega (arith, told.at.come)) e told.edge told.at 58 (sym come) (omega arith) in
+      let come : own_come None told.edge now ≡ 58 = omega arith in
+      let count : edges_own None (Some e) (now % 2 ^ 32) ≡ 58 = own_count a.now now late (omega (arith, told.at.come)) e told.edge told.at None ∙ come in
+      let certain = never_doubts lie edges made 9999000 calls (record { is = device; learns = inl plain; order = told.order; truth = told.truth }) in
+      let then = says_alone k (now % 2 ^ 32) e 57 new_month left.lines left.dark left.edge certain dark.none count says in
+      let edge = own_edge_at a.now now late (omega (arith, told.at.come)) e told.edge told.at None none_sound 58 (sym come) (omega arith) in
       let same : told.m ≡ n = omega (arith, told.second.sum, (second n (omega arith)).sum) in
       let truths = truth_before (IsTrueLately clock.within.us rules truth edges) (f_of clock.redundancy) a.later calls
       (subst (AreTrueAtTicks (IsTrueLately clock.within.us rules truth edges) (f_of clock.redundancy)) a.are (sent.all_true rules clock range deletion lie device (record { leaps = λ day end from to. refl }) (sent.frame rules lie lie_is) carried votes truth carried_truth)) in
@@ -211,6 +217,7 @@ module _ (rules : Rules) (clock : ClockRules) (range : IsReaderRules clock.reade
         sound = truth_is;
         listed = rw known_first_end refl;
         short = short;
+        learns = inl plain;
         start = 9999000;
         calls = calls;
         now = now;

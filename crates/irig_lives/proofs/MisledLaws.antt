@@ -87,6 +87,7 @@ module _ (rules : Rules) (clock : ClockRules) (range : IsReaderRules clock.reade
         sound = truth_is;
         listed = refl;
         short = short;
+        learns = sent.never_wanders clock;
         start = 9999000;
         calls = a.earlier;
         now = a.now;

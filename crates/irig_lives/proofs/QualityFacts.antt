@@ -23,6 +23,7 @@ use Rattle.irig_vote.specs.declared.redundancy.Redundancy.TheVariants as of
 use Rattle.irig_reader.specs.declared.report.Lock.TheVariants as lock
 use Rattle.irig_reader.specs.declared.report.Cause.TheVariants as cause
 use Rattle.irig_reader.specs.Rule.{step_of}
+use Rattle.irig_timekeeper.proofs.LearnLaws.{plain_steps}
 use Rattle.irig_timekeeper.specs.declared.clock.Beat.{Beat}
 use Rattle.irig_lines.specs.declared.setup.ClockRules.{ClockRules}
 use Rattle.irig_lines.specs.Refusals.{within_of}
@@ -138,7 +139,7 @@ own_steady_10 : IsQuartz 1 own_10
 own_steady_10 = record { few = omega arith; steady = record { least = λ n. omega arith; most = λ n. omega arith } }
 
 abbrev clock_10 : ClockRules
-clock_10 = record { reader_rules = record { lock_after = 1; holdover = 100 }; redundancy = of.Three; within = within_of 10; limits = usual; drift_us = 1; delays = no_delays; prefers_frames = false }
+clock_10 = record { reader_rules = record { lock_after = 1; holdover = 100 }; redundancy = of.Three; within = within_of 10; limits = usual; drift_us = 1; wander_ppb = 0; delays = no_delays; prefers_frames = false }
 
 is_device_10 : IsDevice noon 1 edges_10 clock_10.reader_rules no_table
 is_device_10 = record { steady = steady_10; sound = is_device.sound; knows = is_device.knows; short = omega arith }
@@ -234,7 +235,7 @@ answer_10 = refl
 told_by_quality_10 : IsToldInHoldover noon edges_10 0 0 clock_10 now_10 beat_10 (at 43201)
 told_by_quality_10 =
     device_true rules clock_10 no_table new_lines 900000 are_new (IsTrueByItsQuality clock_10 rules noon edges_10) noon edges_10 0 0 is_device_10 (omega arith) (qualities_tell_truly clock_10 rules noon edges_10) calls_10
-    now_10 beat_10 (at 43201) order_10 truth_10 answer_10 refl
+    now_10 beat_10 (at 43201) order_10 truth_10 (plain_steps edges_10 0 0 (new_keeping rules clock_10 no_table new_lines) 900000 (record { off = refl; none = refl }) is_device_10.steady (Tick now_10 ∷ calls_10)) answer_10 refl
 
 -- ---- at 450 us, by a counter that is 100 us a second fast: line 0 says 100 us, and is so far off
 
@@ -252,7 +253,7 @@ own_steady_450 : IsQuartz 100 own_450
 own_steady_450 = record { few = omega arith; steady = record { least = λ n. omega arith; most = λ n. omega arith } }
 
 abbrev clock_450 : ClockRules
-clock_450 = record { reader_rules = record { lock_after = 1; holdover = 100 }; redundancy = of.Three; within = within_of 450; limits = usual; drift_us = 100; delays = no_delays; prefers_frames = false }
+clock_450 = record { reader_rules = record { lock_after = 1; holdover = 100 }; redundancy = of.Three; within = within_of 450; limits = usual; drift_us = 100; wander_ppb = 0; delays = no_delays; prefers_frames = false }
 
 is_device_450 : IsDevice noon 100 edges_450 clock_450.reader_rules no_table
 is_device_450 = record { steady = steady_450; sound = is_device.sound; knows = is_device.knows; short = omega arith }
@@ -348,4 +349,4 @@ answer_450 = refl
 told_by_quality_450 : IsToldInHoldover noon edges_450 0 0 clock_450 now_450 beat_450 (at 43201)
 told_by_quality_450 =
     device_true rules clock_450 no_table new_lines 900000 are_new (IsTrueByItsQuality clock_450 rules noon edges_450) noon edges_450 0 0 is_device_450 (omega arith) (qualities_tell_truly clock_450 rules noon edges_450) calls_450
-    now_450 beat_450 (at 43201) order_450 truth_450 answer_450 refl
+    now_450 beat_450 (at 43201) order_450 truth_450 (plain_steps edges_450 0 0 (new_keeping rules clock_450 no_table new_lines) 900000 (record { off = refl; none = refl }) is_device_450.steady (Tick now_450 ∷ calls_450)) answer_450 refl

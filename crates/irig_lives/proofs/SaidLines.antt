@@ -3,7 +3,7 @@
 -- brings noise for its first 0.3 s, and then tells the truth; another one is late from its second second
 -- on. The third life is that of LifeFacts, in which a line lies.
 use Rattle.std.specs.Prelude.{◌==◌, ◌&&◌, nat_lt, if◌then◌else◌}
-use Rattle.std.proofs.Common.{◌≡◌, ℕ, zero, suc, ◌+◌, ◌-◌, ◌*◌, ◌/◌, ◌%◌, ◌<◌, false, cond, List, [], ◌∷◌, Some, None, refl, ap, arith}
+use Rattle.std.proofs.Common.{◌≡◌, ℕ, zero, suc, ◌+◌, ◌-◌, ◌*◌, ◌/◌, ◌%◌, ◌<◌, false, cond, List, [], ◌∷◌, Some, None, refl, ap, arith, inl}
 use Rattle.irig_frame.specs.Faults.{values_of, field_at}
 use Rattle.irig_control.specs.Parity.{ones}
 use Rattle.irig_control.specs.Control.{control_of, offset_in}
@@ -14,6 +14,7 @@ use Rattle.irig_port.specs.Told.{told_of, frame_told, coded_told}
 use Rattle.irig_vote.specs.declared.redundancy.Redundancy.TheVariants as of
 use Rattle.irig_reader.specs.Rule.{step_of}
 use Rattle.irig_lines.specs.declared.setup.ClockRules.{ClockRules}
+use Rattle.irig_timekeeper.proofs.LearnLaws.{steps_truly}
 use Rattle.irig_timekeeper.specs.declared.states.LineState.TheVariants as is
 use Rattle.irig_lines.specs.Refusals.{within_of}
 use Rattle.irig_lines.specs.Edges.{IsQuartz}
@@ -73,7 +74,7 @@ unfolding calls elements said behind_edge width_of line frame are_true_at_ticks 
 truth = truly_is 450 rules noon edges line is_line 300 1 (Tick now ∷ calls) refl
 
 lives : LivesTruly (IsTrueLately 450) noon edges made start (Tick now ∷ calls)
-lives = record { is = is_device; order = order; truth = truth }
+lives = record { is = is_device; learns = inl refl; order = order; truth = truth }
 
 -- lines 0 and 1 were true since 2.7 s before the last tick, though line 1 was not at the first one
 lately : (i : ℕ) → i < 2 → IsTrueLately 450 rules noon edges (now - 1500000) (pulses_on i calls)
@@ -92,15 +93,15 @@ states = (refl, refl, refl, refl)
 
 -- so says the law
 not_untrue : (i : ℕ) → i < 2 → is_untrue (state_of made.clock (life_of made (Tick now ∷ calls)).state i) ≡ false
-not_untrue i low = true_at_tick (IsTrueLately 450) noon edges made start now calls lives truly_told i (omega (arith, low)) (lately i low)
+not_untrue i low = true_at_tick (IsTrueLately 450) noon edges made start now calls lives truly_told (steps_truly noon edges made start (Tick now ∷ calls) lives) i (omega (arith, low)) (lately i low)
 
 late_line : HasSentFalsely made.clock rules noon edges now (pulses_on 2 calls)
 late_line =
-    (said_rightly (IsTrueLately 450) noon edges made start now (Tick now ∷ calls) lives truly_told (again start of.Three now calls order) 2 (omega arith)).false_one (ap is_false states.2)
+    (said_rightly (IsTrueLately 450) noon edges made start now (Tick now ∷ calls) lives truly_told (steps_truly noon edges made start (Tick now ∷ calls) lives) (again start of.Three now calls order) 2 (omega arith)).false_one (ap is_false states.2)
 
 agreed_line : HasSentTruly made.clock (life_of made (Tick now ∷ calls)).state rules noon edges now (pulses_on 1 calls)
 agreed_line =
-    (said_rightly (IsTrueLately 450) noon edges made start now (Tick now ∷ calls) lives truly_told (again start of.Three now calls order) 1 (omega arith)).true_one states.1
+    (said_rightly (IsTrueLately 450) noon edges made start now (Tick now ∷ calls) lives truly_told (steps_truly noon edges made start (Tick now ∷ calls) lives) (again start of.Three now calls order) 1 (omega arith)).true_one states.1
 
 -- at the first edge lines 0 and 2 are 400 us apart: the vote lies 199 us behind the edge, and its bound is
 -- 650 us. So the anchor lies from 451 us before that edge to 849 us behind it. At the next two edges line 0
@@ -155,7 +156,7 @@ unfolding half elements said behind_edge width_of line frame step_checked goes_a
 half_state = refl
 
 half_not_untrue : is_untrue (state_of made.clock (life_of made half).state 0) ≡ false
-half_not_untrue = true_line (IsTrueLately 450) noon edges made start 4296002000 half (record { is = is_device; order = half_order.3; truth = half_truth }) truly_told half_order 0 (omega arith) half_lately
+half_not_untrue = true_line (IsTrueLately 450) noon edges made start 4296002000 half (record { is = is_device; learns = inl refl; order = half_order.3; truth = half_truth }) truly_told (steps_truly noon edges made start half (record { is = is_device; learns = inl refl; order = half_order.3; truth = half_truth })) half_order 0 (omega arith) half_lately
 
 -- ---- lines less than 10 us off, by a counter that is 1 us a second fast. Here a line is apart that is
 -- 60 us late
@@ -167,7 +168,7 @@ steady : IsQuartz 1 exact
 steady = record { few = omega arith; steady = record { least = λ n. omega arith; most = λ n. omega arith } }
 
 abbrev exact_clock : ClockRules
-exact_clock = record { reader_rules = record { lock_after = 1; holdover = 100 }; redundancy = of.Three; within = within_of 10; limits = usual; drift_us = 1; delays = no_delays; prefers_frames = false }
+exact_clock = record { reader_rules = record { lock_after = 1; holdover = 100 }; redundancy = of.Three; within = within_of 10; limits = usual; drift_us = 1; wander_ppb = 0; delays = no_delays; prefers_frames = false }
 
 by_counter : IsDevice noon 1 exact exact_clock.reader_rules no_table
 by_counter = record { steady = steady; sound = is_device.sound; knows = is_device.knows; short = omega arith }
@@ -190,7 +191,7 @@ unfolding exact_calls elements said behind_edge width_of line frame are_true_at_
 exact_truth = truly_is 10 rules noon exact line is_line 300 1 (Tick exact_now ∷ exact_calls) refl
 
 exact_lives : LivesTruly (IsTrueLately 10) noon exact exact_made 900000 (Tick exact_now ∷ exact_calls)
-exact_lives = record { is = by_counter; order = exact_order; truth = exact_truth }
+exact_lives = record { is = by_counter; learns = inl refl; order = exact_order; truth = exact_truth }
 
 exact_told : TellAlwaysTruly (IsTrueLately 10 rules noon exact) exact_clock rules noon exact 0 0
 exact_told now half end pulses claim is frame soon = true_by_any exact_clock rules noon 1 exact half now end pulses claim steady is frame soon
@@ -205,11 +206,11 @@ unfolding exact_calls elements said behind_edge width_of line frame step_checked
 exact_states = (refl, refl)
 
 exact_not_untrue : is_untrue (state_of exact_clock (life_of exact_made (Tick exact_now ∷ exact_calls)).state 1) ≡ false
-exact_not_untrue = true_at_tick (IsTrueLately 10) noon exact exact_made 900000 exact_now exact_calls exact_lives exact_told 1 (omega arith) exact_line
+exact_not_untrue = true_at_tick (IsTrueLately 10) noon exact exact_made 900000 exact_now exact_calls exact_lives exact_told (steps_truly noon exact exact_made 900000 (Tick exact_now ∷ exact_calls) exact_lives) 1 (omega arith) exact_line
 
 exact_late_line : HasSentFalsely exact_clock rules noon exact exact_now (pulses_on 2 exact_calls)
 exact_late_line =
-    (said_rightly (IsTrueLately 10) noon exact exact_made 900000 exact_now (Tick exact_now ∷ exact_calls) exact_lives exact_told (again 900000 of.Three exact_now exact_calls exact_order) 2 (omega arith)).false_one (ap is_false exact_states.1)
+    (said_rightly (IsTrueLately 10) noon exact exact_made 900000 exact_now (Tick exact_now ∷ exact_calls) exact_lives exact_told (steps_truly noon exact exact_made 900000 (Tick exact_now ∷ exact_calls) exact_lives) (again 900000 of.Three exact_now exact_calls exact_order) 2 (omega arith)).false_one (ap is_false exact_states.1)
 
 -- here the anchor lies from 12 us before the first edge to 18 us behind it, and what is known at last from
 -- 2 us before the third one to 18 us behind it. The two seconds are 2,000,002 us
@@ -233,8 +234,8 @@ unfolding calls_3 elements_before with_element pulse_told with_tick width_of lie
 held_states = (refl, refl, refl)
 
 held_lives : LivesTruly (IsTrueLately 450) noon edges made 4293400000 life_4
-held_lives = record { is = is_device; order = order_4; truth = truth_4 }
+held_lives = record { is = is_device; learns = inl refl; order = order_4; truth = truth_4 }
 
 liar : HasSentFalsely made.clock rules noon edges now_4 (pulses_on 2 calls_3)
 liar =
-    (said_rightly (IsTrueLately 450) noon edges made 4293400000 now_4 life_4 held_lives truly_told (again 4293400000 of.Three now_4 (Tick now_3 ∷ calls_3) order_4) 2 (omega arith)).false_one (ap is_false held_states.2)
+    (said_rightly (IsTrueLately 450) noon edges made 4293400000 now_4 life_4 held_lives truly_told (steps_truly noon edges made 4293400000 life_4 held_lives) (again 4293400000 of.Three now_4 (Tick now_3 ∷ calls_3) order_4) 2 (omega arith)).false_one (ap is_false held_states.2)

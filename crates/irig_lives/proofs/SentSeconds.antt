@@ -37,6 +37,8 @@ use Rattle.irig_reader.specs.declared.report.Report.{Report}
 use Rattle.irig_reader.specs.Rules.{IsReaderRules}
 use Rattle.irig_lines.specs.declared.setup.ClockRules.{ClockRules}
 use Rattle.irig_lines.specs.Lines.{ArePulsesLately, IsLineOf, IsTrueLately, line_of}
+use Rattle.irig_lines.specs.Paces.{WandersAsSet}
+use Rattle.irig_timekeeper.proofs.LearnLaws.{steps_truly}
 use Rattle.irig_timekeeper.specs.Announcing.{IsWhole, ComesWhole, Announces}
 use Rattle.irig_timekeeper.specs.Truth.{IsDevice, IsEdgeAt}
 use Rattle.irig_timekeeper.specs.Life.{Call, Made, pulses_on, last_tick, AreInOrder, AreTrueAtTicks, device_of}
@@ -105,6 +107,13 @@ pub still_lately : (within : ℕ) (line : ℕ → Symbol) (now then k : ℕ) →
 still_lately within line now then k later [] are = tt
 still_lately within line now then k later (p ∷ ps) (inl old) = inl (omega (arith, later, old.0), still_lately within line now then k later ps old.1)
 still_lately within line now then k later (p ∷ ps) (inr new) = inr (new.0, new.1, new.2, still_lately within line now then new.0 later ps new.3)
+
+-- that counter does not wander
+pub never_wanders : (clock : ClockRules) → WandersAsSet clock edges
+never_wanders clock = inr (
+  λ n. 1000 * edges n,
+  record { clock = λ n. omega arith; steady = λ i j near far. omega arith },
+)
 
 module _ (rules : Rules) (clock : ClockRules) (range : IsReaderRules clock.reader_rules) (sheet : TableValue) (t : TimelineValue) (is : IsDevice t clock.drift_us edges clock.reader_rules sheet) where
   abbrev pub made : Made
@@ -261,7 +270,7 @@ module _ (rules : Rules) (clock : ClockRules) (range : IsReaderRules clock.reade
         let order = order_before 9999000 clock.redundancy a.later (Tick a.now ∷ a.earlier) (subst (AreInOrder 9999000 clock.redundancy) a.are ordered) in
         let truth = truth_before (IsTrueLately clock.within.us rules t edges) (f_of clock.redundancy) a.later (Tick a.now ∷ a.earlier) (subst (AreTrueAtTicks (IsTrueLately clock.within.us rules t edges) (f_of clock.redundancy)) a.are (all_true t carried)) in
         let told = device_true rules clock sheet new_lines 9999000 are_new (IsTrueLately clock.within.us rules t edges) t edges 0 0 is (omega arith)
-        (λ now half end pulses claim is_true frame soon. true_by_any clock rules t clock.drift_us edges half now end pulses claim is.steady is_true frame soon) a.earlier a.now a.beat u order truth a.answer says in
+        (λ now half end pulses claim is_true frame soon. true_by_any clock rules t clock.drift_us edges half now end pulses claim is.steady is_true frame soon) a.earlier a.now a.beat u order truth (steps_truly t edges made 9999000 (Tick a.now ∷ a.earlier) (record { is = is; learns = never_wanders clock; order = order; truth = truth })) a.answer says in
         record {
           a = a;
           order = order;

@@ -19,6 +19,7 @@ use Rattle.irig_vote.specs.declared.redundancy.Redundancy.TheVariants as of
 use Rattle.irig_reader.specs.declared.report.Lock.TheVariants as lock
 use Rattle.irig_reader.specs.declared.report.Cause.TheVariants as cause
 use Rattle.irig_reader.specs.Rule.{step_of}
+use Rattle.irig_timekeeper.proofs.LearnLaws.{plain_steps}
 use Rattle.irig_timekeeper.specs.declared.clock.Beat.{Beat}
 use Rattle.irig_lines.specs.declared.setup.ClockRules.{ClockRules}
 use Rattle.irig_lines.specs.Refusals.{within_of}
@@ -57,7 +58,7 @@ slow_steady : IsQuartz 100 slow
 slow_steady = record { few = omega arith; steady = record { least = λ n. omega arith; most = λ n. omega arith } }
 
 abbrev clock : ClockRules
-clock = record { reader_rules = record { lock_after = 1; holdover = 100 }; redundancy = of.One; within = within_of 450; limits = usual; drift_us = 100; delays = no_delays; prefers_frames = false }
+clock = record { reader_rules = record { lock_after = 1; holdover = 100 }; redundancy = of.One; within = within_of 450; limits = usual; drift_us = 100; wander_ppb = 0; delays = no_delays; prefers_frames = false }
 
 by_counter : (edges : ℕ → ℕ) → IsQuartz 100 edges → IsDevice noon 100 edges clock.reader_rules no_table
 by_counter edges steady = record { steady = steady; sound = is_device.sound; knows = is_device.knows; short = is_device.short }
@@ -139,12 +140,12 @@ stamps = (refl, refl)
 fast_true : IsStampedTruly noon fast 0 3250225 fast_stamp
 fast_true =
     stamped rules clock no_table new_lines 900000 are_new noon fast 0 0 0 (by_counter fast fast_steady) (omega arith) (omega arith) (IsTrueLately 450 rules noon fast) (omega arith)
-    (λ time half end pulses c is f soon. true_by_any clock rules noon 100 fast half time end pulses c fast_steady is f soon) by_fast 3250225 asked order.0 fast_truth (omega arith) (omega arith) fast_stamp stamps.0
+    (λ time half end pulses c is f soon. true_by_any clock rules noon 100 fast half time end pulses c fast_steady is f soon) by_fast 3250225 asked order.0 fast_truth (plain_steps fast 0 0 (device) 900000 (record { off = refl; none = refl }) (by_counter fast fast_steady).steady (by_fast)) (omega arith) (omega arith) fast_stamp stamps.0
 
 slow_true : IsStampedTruly noon slow 0 3249775 slow_stamp
 slow_true =
     stamped rules clock no_table new_lines 900000 are_new noon slow 0 0 0 (by_counter slow slow_steady) (omega arith) (omega arith) (IsTrueLately 450 rules noon slow) (omega arith)
-    (λ time half end pulses c is f soon. true_by_any clock rules noon 100 slow half time end pulses c slow_steady is f soon) by_slow 3249775 asked order.1 slow_truth (omega arith) (omega arith) slow_stamp stamps.1
+    (λ time half end pulses c is f soon. true_by_any clock rules noon 100 slow half time end pulses c slow_steady is f soon) by_slow 3249775 asked order.1 slow_truth (plain_steps slow 0 0 (device) 900000 (record { off = refl; none = refl }) (by_counter slow slow_steady).steady (by_slow)) (omega arith) (omega arith) slow_stamp stamps.1
 
 -- what the law says of them: they name instants that lie at most 1,300 us apart, by both bounds and
 -- the drift of two seconds of each. They lie 52 us apart
@@ -159,7 +160,7 @@ together =
 -- their bound, 10 us: that of a true line's frame, 9 us and 1 us for the drift of an element
 
 abbrev exact : ClockRules
-exact = record { reader_rules = record { lock_after = 1; holdover = 100 }; redundancy = of.One; within = within_of 10; limits = usual; drift_us = 100; delays = no_delays; prefers_frames = false }
+exact = record { reader_rules = record { lock_after = 1; holdover = 100 }; redundancy = of.One; within = within_of 10; limits = usual; drift_us = 100; wander_ppb = 0; delays = no_delays; prefers_frames = false }
 
 abbrev exact_device : Keeping
 exact_device = new_keeping rules exact no_table new_lines
@@ -252,7 +253,7 @@ stamps_of_row = (refl, refl, refl, refl, refl)
 near : 3000199 < 2000099 + 1500000
 near =
     in_a_row rules exact no_table new_lines 900000 are_new (IsTrueLately 10 rules noon fast) noon fast 0 0 (by_counter fast fast_steady) (omega arith)
-    (λ time half end pulses c is f soon. true_by_any exact rules noon 100 fast half time end pulses c fast_steady is f soon) calls first_beat then_beat 2000099 3000199 (at 43201) calls_in_order calls_truth row refl refl
+    (λ time half end pulses c is f soon. true_by_any exact rules noon 100 fast half time end pulses c fast_steady is f soon) calls first_beat then_beat 2000099 3000199 (at 43201) calls_in_order calls_truth (plain_steps fast 0 0 (exact_device) 900000 (record { off = refl; none = refl }) (by_counter fast fast_steady).steady (calls)) row refl refl
 
 each_has_one : (time : ℕ) → 2000099 ≤ time → time ≤ 4000209 → (stamp : Stamp) × (stamp_at (after_calls exact_device calls) (time % 2 ^ 32) ≡ Some stamp)
 each_has_one time from upto = none_lost exact_device calls first_beat then_beat 2000099 3000199 (at 43201) (at 43202) row refl refl time near from (omega (arith, upto))

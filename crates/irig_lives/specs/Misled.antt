@@ -13,8 +13,10 @@ use Rattle.irig_timekeeper.specs.Truth.{IsEdgeAt}
 use Rattle.irig_timekeeper.specs.Life.{Call, Made, AreInOrder, AreTrueAtTicks, life_of}
 use Rattle.irig_timekeeper.specs.Life.Call.{Tick}
 use Rattle.irig_lines.specs.Exactness.{most_held_us}
+use Rattle.irig_lines.specs.Paces.{WandersAsSet}
 
--- a device of a setup and a table that are not refused, with a steady counter on a sound timeline:
+-- a device of a setup and a table that are not refused, with a steady counter that wanders no more than it
+-- may, on a sound timeline:
 -- its calls are in order, and at each tick all but at most so many lines are true. The last tick
 -- tells an edge near that of T(m), and announces a second that is not T(m)
 pub record IsMisled (t : TimelineValue) (made : Made) (untrue_lines : ℕ) : Type 0 where
@@ -26,6 +28,7 @@ pub record IsMisled (t : TimelineValue) (made : Made) (untrue_lines : ℕ) : Typ
   pub start : ℕ
   pub calls : List Call
   pub now : ℕ
+  pub learns : WandersAsSet made.clock edges
   pub order : AreInOrder start made.clock.redundancy (Tick now ∷ calls)
   pub truth : AreTrueAtTicks (IsTrueLately made.clock.within.us made.rules t edges) untrue_lines (Tick now ∷ calls)
   pub beat : Beat

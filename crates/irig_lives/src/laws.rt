@@ -12,6 +12,8 @@ ghost use Rattle.irig_reader.specs.declared.rule.State.{State};
 ghost use Rattle.irig_reader.specs.Held.{then_none};
 ghost use Rattle.irig_reader.specs.Locking.{IsSilentAfter, then_true, voted_report};
 ghost use Rattle.irig_reader.specs.Rule.{state_of, step_of};
+ghost use Rattle.irig_lines.specs.Paces.{WandersAsSet, grown_us, learned};
+ghost use Rattle.irig_timekeeper.specs.Learning.{IsLearned};
 ghost use Rattle.irig_timekeeper.specs.Rule.{against_table, step_behind};
 ghost use Rattle.irig_time.specs.TimelineFaults.{IsTimeline};
 ghost use Rattle.irig_time.specs.Tables.{TableValue};
@@ -23,7 +25,7 @@ ghost use Rattle.irig_lines.specs.Lines.{IsTrueLately, KnowsBegin, IsFrameOf, If
 ghost use Rattle.irig_lines.specs.Counting.{edges_between, edges_to, edges_own};
 ghost use Rattle.irig_lines.specs.Refusals.{clock_fault};
 ghost use Rattle.irig_lines.specs.Steps.{begin_behind, frame_behind, claim_kept, line_at, all_kept, agrees, agreed, settled, tells_of, wait_by};
-ghost use Rattle.irig_timekeeper.specs.Clock.{answer_to_vote, doubted_s, is_unsteady, lasted};
+ghost use Rattle.irig_timekeeper.specs.Clock.{answer_to_vote, doubted_s, is_unsteady, lasted, settled_at};
 ghost use Rattle.irig_timekeeper.specs.Keeping.{Keeping, vote_at, after_tick, answer_at, wait_at, stamp_at, rate_at};
 ghost use Rattle.irig_timekeeper.specs.Truth.{FollowsTruth, AreHeardTruly, IsTrueVote, IsOnTrack, IsToldTruly, IsToldInHoldover, IsLaterSecond, IsDevice, IsEdgeAt, AreApartBeats, IsStampedTruly, IsInstant};
 ghost use Rattle.irig_timekeeper.specs.Announcing.{AreWellHeard, Announces};
@@ -39,7 +41,7 @@ ghost use Rattle.irig_lines.specs.Intervals.{by_vote, carried, cut, contradicts,
 ghost use Rattle.irig_lines.specs.Exactness.{most_drift_us, end_off_us, window_us, most_vote_us, most_held_us};
 ghost use Rattle.irig_lines.specs.Widths.{vote_us};
 
-use irig_lines::{Anchor, ClockRules, Interval, KeptClaim, KeptFrame, Lines, Rate, Vote};
+use irig_lines::{Anchor, ClockRules, Interval, KeptClaim, KeptFrame, Lines, Pace, Rate, Vote};
 use irig_port::Limits;
 use irig_reader::{Cause, ReaderRules};
 use irig_time::{Claim, Rules, UtcSecond};
@@ -171,9 +173,11 @@ pub fn a_device_tells_the_truth()
     ensures half { (t : TimelineValue) (d : ℕ) (edges : ℕ → ℕ) (rules : ReaderRules)
         (table : TableValue) (far : ℕ) → IsDevice t d edges rules table → far ≤ rules.holdover
         → most_vote_us + far * d < 500000 }
-    // One tick, of any device that stands at the truth or has nothing to go on.
+    // One tick, of any device that stands at the truth or has nothing to go on, and has learned nothing of
+    // its counter.
     ensures tick { (t : TimelineValue) (edges : ℕ → ℕ) (k : Keeping) (last tick now : ℕ)
         (pulses : ℕ → List Pulse)
+        → k.state.pace ≡ None
         → IsDevice t k.clock.drift_us edges k.clock.reader_rules k.table → tick ≤ now
         → now ≤ tick + 1800000000
         → IsOnTrack t edges 0 0 k.clock.drift_us last k.clock.reader_rules k.table tick
@@ -209,6 +213,31 @@ pub fn what_is_measured_is_so()
     // Whatever lines carry, nothing is measured right behind a tick that counts a stray.
     ensures anew { (k : Keeping) (now : ℕ) → ¬ ((after_tick k now).state.strays ≡ k.state.strays)
         → rate_at (after_tick k now) ≡ None }
+{}
+
+/// What is learned is so: in every life of [`votes_do_not_stray`] in which the counter wanders no more than its
+/// setup says, each of the next 2,000 seconds is by the device's counter as long as its pace says, but for what
+/// the pace says it may be off.
+pub fn what_is_learned_is_so()
+    ensures seconds { (t : TimelineValue) (edges : ℕ → ℕ) (made : Made) (start : ℕ)
+        (calls : List Call) (pace : Pace)
+        → LivesTruly (IsTrueLately made.clock.within.us) t edges made start calls
+        → (life_of made calls).state.pace ≡ Some pace
+        → IsLearned edges (last_tick start calls) (life_of made calls).state.edge_us pace }
+    // It is learned at each vote, by what is then measured.
+    ensures learned { (k : Keeping) (now : ℕ) (vote : Vote) → vote_at k now ≡ Some vote
+        → (after_tick k now).state.pace ≡ learned k.clock (rate_at (after_tick k now)) }
+    // A second that is counted without a vote is told to lie no further off than that of the last vote, and
+    // what comes of each second since: by the drift, or by what was learned, if that is less.
+    ensures bound { (k : Keeping) (now : ℕ) (beat : Beat) → vote_at k now ≡ None
+        → answer_at k now ≡ Some beat → beat.bound_us ≡ k.state.bound_us
+        + grown_us k.clock.drift_us (settled_at k.clock k.state now).pace
+        (lasted beat.report.lock) }
+    ensures sharp { (d seconds : ℕ) (pace : Pace) → (grown_us d (Some pace) seconds ≤ seconds * d)
+        × (grown_us d (Some pace) seconds ≤ (seconds * pace.within_ns + 1999) / 1000) }
+    // Without a wander nothing is learned.
+    ensures off { (made : Made) (calls : List Call) → made.clock.wander_ppb ≡ 0
+        → (life_of made calls).state.pace ≡ None }
 {}
 
 /// What strays is seen, whatever lines carry: as long as no vote contradicted those before it and none
@@ -285,6 +314,7 @@ pub fn a_device_heals()
     ensures life { (t : TimelineValue) (edges : ℕ → ℕ) (made : Made) (start mend now : ℕ)
         (earlier later : List Call) (vote : Vote) (beat then : Beat) (u : UtcSecond)
         → IsDevice t made.clock.drift_us edges made.clock.reader_rules made.table
+        → made.clock.wander_ppb ≡ 0
         → AreInOrder start made.clock.redundancy (Tick now ∷ (later ++ (Tick mend ∷ earlier)))
         → AreTrueLately (IsTrueLately made.clock.within.us made.rules t edges) (f_of made.clock.redundancy) mend
         earlier
@@ -398,11 +428,11 @@ pub fn waiting_is_right()
         → vote.edge_us ≡ edge % 2 ^ 32 → edge ≤ now + 17000 → now ≤ edge + 94000
         → now + wait_at (life_of made calls) (now % 2 ^ 32) ≤ then → then ≤ edge + 94000
         → vote_at (life_of made calls) (then % 2 ^ 32) ≡ Some vote }
-    ensures counts { (e edge tick now more : ℕ) → IsEdgeAt e edge tick → tick ≤ now
+    ensures counts { (pace : Option Pace) (e edge tick now more : ℕ) → IsEdgeAt e edge tick → tick ≤ now
         → now + wait_by (now % 2 ^ 32) (Some e) None + more ≤ tick + 1800000000
-        → 1 ≤ edges_own (Some e) ((now + wait_by (now % 2 ^ 32) (Some e) None + more) % 2 ^ 32) }
-    ensures waits { (e edge tick now : ℕ) → IsEdgeAt e edge tick → tick ≤ now
-        → now ≤ tick + 1800000000 → edges_own (Some e) (now % 2 ^ 32) ≡ 0
+        → 1 ≤ edges_own pace (Some e) ((now + wait_by (now % 2 ^ 32) (Some e) None + more) % 2 ^ 32) }
+    ensures waits { (pace : Option Pace) (e edge tick now : ℕ) → IsEdgeAt e edge tick → tick ≤ now
+        → now ≤ tick + 1800000000 → edges_own pace (Some e) (now % 2 ^ 32) ≡ 0
         → (1 ≤ wait_by (now % 2 ^ 32) (Some e) None)
         × (wait_by (now % 2 ^ 32) (Some e) None ≤ 1006000) }
 {}
@@ -414,6 +444,7 @@ pub fn stamps_are_true()
     ensures stamp { (t : TimelineValue) (edges : ℕ → ℕ) (made : Made) (start time now : ℕ)
         (calls : List Call) (stamp : Stamp)
         → IsDevice t made.clock.drift_us edges made.clock.reader_rules made.table
+        → WandersAsSet made.clock edges
         → AreInOrder start made.clock.redundancy (Tick now ∷ calls)
         → AreTrueAtTicks (IsTrueLately made.clock.within.us made.rules t edges) (f_of made.clock.redundancy) calls
         → time ≤ now → now ≤ time + 1800000000

@@ -9,6 +9,7 @@ ghost use Rattle.irig_sync.specs.Edges.{element_drift};
 ghost use Rattle.irig_lines.specs.Clocks.{IsTrueByItsClock, IsTrueByItsQuality};
 ghost use Rattle.irig_lines.specs.Edges.{IsQuartz, IsTrueNear};
 ghost use Rattle.irig_lines.specs.Exactness.{end_off_us, most_drift_us, most_vote_us};
+ghost use Rattle.irig_lines.specs.Paces.{WandersAsSet};
 ghost use Rattle.irig_lines.specs.Widths.{vote_us};
 ghost use Rattle.irig_lines.specs.Lines.{IsFrameOf, IsTrueLately};
 ghost use Rattle.irig_timekeeper.specs.Keeping.{answer_at, stamp_at};
@@ -40,6 +41,7 @@ pub fn clocks_off_tell_truly()
     // bound, and so much more.
     ensures life { (t : TimelineValue) (edges : ℕ → ℕ) (made : Made) (off start now : ℕ)
         (calls : List Call) (beat : Beat) (u : UtcSecond) → off ≤ 1000
+        → made.clock.wander_ppb ≡ 0
         → LivesTruly (IsTrueByItsClock off made.clock.within.us made.clock.drift_us) t edges made start
         (Tick now ∷ calls)
         → answer_at (life_of made calls) (now % 2 ^ 32) ≡ Some beat
@@ -48,6 +50,7 @@ pub fn clocks_off_tell_truly()
     // In order: what a later tick announces is a later second.
     ensures order { (t : TimelineValue) (edges : ℕ → ℕ) (made : Made) (off start before now : ℕ)
         (earlier later : List Call) (beat then : Beat) (u v : UtcSecond) → off ≤ 1000
+        → made.clock.wander_ppb ≡ 0
         → LivesTruly (IsTrueByItsClock off made.clock.within.us made.clock.drift_us) t edges made start
         (Tick now ∷ (later ++ (Tick before ∷ earlier)))
         → answer_at (life_of made earlier) (before % 2 ^ 32) ≡ Some beat
@@ -57,6 +60,7 @@ pub fn clocks_off_tell_truly()
     // And no report has the cause `Jump`.
     ensures calm { (t : TimelineValue) (edges : ℕ → ℕ) (made : Made) (off start now : ℕ)
         (calls : List Call) (beat : Beat) → off ≤ 1000
+        → made.clock.wander_ppb ≡ 0
         → LivesTruly (IsTrueByItsClock off made.clock.within.us made.clock.drift_us) t edges made start
         (Tick now ∷ calls)
         → answer_at (life_of made calls) (now % 2 ^ 32) ≡ Some beat
@@ -64,6 +68,7 @@ pub fn clocks_off_tell_truly()
     // Stamps lie no further off than their bound and so much more.
     ensures stamps { (t : TimelineValue) (edges : ℕ → ℕ) (made : Made) (off start time now : ℕ)
         (calls : List Call) (stamp : Stamp) → off ≤ 1000
+        → made.clock.wander_ppb ≡ 0
         → IsDevice t made.clock.drift_us edges made.clock.reader_rules made.table
         → AreInOrder start made.clock.redundancy (Tick now ∷ calls)
         → AreTrueAtTicks (IsTrueByItsClock off made.clock.within.us made.clock.drift_us made.rules t edges)
@@ -123,6 +128,7 @@ pub fn quality_is_in_the_bound()
     ensures stamps { (t : TimelineValue) (edges : ℕ → ℕ) (made : Made) (start time now : ℕ)
         (calls : List Call) (stamp : Stamp)
         → IsDevice t made.clock.drift_us edges made.clock.reader_rules made.table
+        → WandersAsSet made.clock edges
         → AreInOrder start made.clock.redundancy (Tick now ∷ calls)
         → AreTrueAtTicks (IsTrueByItsQuality made.clock made.rules t edges)
         (f_of made.clock.redundancy) calls

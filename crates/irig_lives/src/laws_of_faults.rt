@@ -45,6 +45,7 @@ pub fn lines_with_faults_tell_truly()
     // bound, and so much more before the true one and behind it.
     ensures life { (t : TimelineValue) (edges : ℕ → ℕ) (made : Made) (start now : ℕ)
         (calls : List Call) (beat : Beat) (u : UtcSecond)
+        → made.clock.wander_ppb ≡ 0
         → LivesTruly (IsTrueButForFaults made.clock.within.us) t edges made start (Tick now ∷ calls)
         → answer_at (life_of made calls) (now % 2 ^ 32) ≡ Some beat
         → beat.report.announce ≡ Some u
@@ -53,6 +54,7 @@ pub fn lines_with_faults_tell_truly()
     // Some of its lines may have faults while others lose any pulses.
     ensures either { (t : TimelineValue) (edges : ℕ → ℕ) (made : Made) (start now : ℕ)
         (calls : List Call) (beat : Beat) (u : UtcSecond)
+        → made.clock.wander_ppb ≡ 0
         → LivesTruly (IsTrueOrFaulty made.clock.within.us) t edges made start (Tick now ∷ calls)
         → answer_at (life_of made calls) (now % 2 ^ 32) ≡ Some beat
         → beat.report.announce ≡ Some u
@@ -61,6 +63,7 @@ pub fn lines_with_faults_tell_truly()
     // In order: what a later tick announces is a later second.
     ensures order { (t : TimelineValue) (edges : ℕ → ℕ) (made : Made) (start before now : ℕ)
         (earlier later : List Call) (beat then : Beat) (u v : UtcSecond)
+        → made.clock.wander_ppb ≡ 0
         → LivesTruly (IsTrueButForFaults made.clock.within.us) t edges made start
         (Tick now ∷ (later ++ (Tick before ∷ earlier)))
         → answer_at (life_of made earlier) (before % 2 ^ 32) ≡ Some beat
@@ -70,12 +73,14 @@ pub fn lines_with_faults_tell_truly()
     // And no report has the cause `Jump`.
     ensures calm { (t : TimelineValue) (edges : ℕ → ℕ) (made : Made) (start now : ℕ)
         (calls : List Call) (beat : Beat)
+        → made.clock.wander_ppb ≡ 0
         → LivesTruly (IsTrueButForFaults made.clock.within.us) t edges made start (Tick now ∷ calls)
         → answer_at (life_of made calls) (now % 2 ^ 32) ≡ Some beat
         → ¬ (beat.report.cause ≡ Cause.Jump) }
     // Stamps lie no further off than their bound and so much more.
     ensures stamps { (t : TimelineValue) (edges : ℕ → ℕ) (made : Made) (start time now : ℕ)
         (calls : List Call) (stamp : Stamp)
+        → made.clock.wander_ppb ≡ 0
         → IsDevice t made.clock.drift_us edges made.clock.reader_rules made.table
         → AreInOrder start made.clock.redundancy (Tick now ∷ calls)
         → AreTrueAtTicks (IsTrueOrFaulty made.clock.within.us made.rules t edges) (f_of made.clock.redundancy) calls
@@ -86,6 +91,7 @@ pub fn lines_with_faults_tell_truly()
     // was missed between, so that no event between them is without a stamp.
     ensures row { (t : TimelineValue) (edges : ℕ → ℕ) (made : Made) (start edge next : ℕ)
         (calls : List Call) (beat then : Beat) (u : UtcSecond)
+        → made.clock.wander_ppb ≡ 0
         → LivesTruly (IsTrueOrFaulty made.clock.within.us) t edges made start calls
         → AreToldLast (device_of made) calls beat then edge next
         → beat.report.announce ≡ Some u → then.missed ≡ 0 → next < edge + 1500000 }

@@ -26,11 +26,13 @@ pub fn a_majority_misleads()
         × IsMisled t made (f_of clock.redundancy + 1) }
 {}
 
-/// A false table misleads: whatever the rules of a device that holds over for 58 seconds or more, if frames
+/// A false table misleads: whatever the rules of a device that learns nothing from votes and holds over for
+/// 58 seconds or more, if frames
 /// of quality 0 of 2000-01-31 and later have a vote, there is one of these rules for which all of that is so but for its table, and at no tick are
 /// more than f lines untrue, and which announces such a second.
 pub fn a_false_table_misleads()
     ensures { (rules : Rules) (clock : ClockRules) → IsReaderRules clock.reader_rules
+        → clock.wander_ppb ≡ 0
         → clock_fault clock.reader_rules clock.drift_us ≡ None → 58 ≤ clock.reader_rules.holdover
         → 1 ≤ clock.limits.limits.poor_from → clock.limits.limits.not_before ≤ 30
         → (t : TimelineValue) × (made : Made) × (made.rules ≡ rules) × (made.clock ≡ clock)

@@ -24,14 +24,15 @@ use Rattle.irig_lines.specs.Widths.{vote_us}
 use Rattle.irig_lines.specs.Counting.{edges_to_vote, edges_own}
 use Rattle.irig_timekeeper.specs.Rule.{missed, against_table, step_behind}
 use Rattle.irig_lines.specs.Steps.{is_pulse, settled, agreed, if_come}
-use Rattle.irig_timekeeper.specs.Clock.{knowing_vote, step_to, beat_by, after_vote, answer_to_vote, after_own, clock_by, answer_by, settled_at}
+use Rattle.irig_timekeeper.specs.Clock.{knowing_vote, learning, step_to, beat_by, after_vote, answer_to_vote, after_own, clock_by, answer_by, settled_at}
 use Rattle.irig_timekeeper.specs.Keeping.{Keeping, vote_at, after_pulse, after_tick, answer_at}
 use Rattle.irig_timekeeper.specs.Truth.{IsEdgeAt, IsDevice, FollowsTruth}
 use Rattle.irig_timekeeper.specs.Life.{Call, after_calls, pulses_on, last_tick, HaveRisen, AreInOrder, AreTrueLately, AreTrueOver}
 use Rattle.irig_timekeeper.specs.Life.Call.{Hear, Tick}
 use Rattle.irig_timekeeper.specs.Announcing.{ComesWhole, AreWellHeard, Announces}
 use Rattle.irig_lines.proofs.CountingLaws.{counts}
-use Rattle.irig_timekeeper.proofs.TimeLaws.{own_come, own_count, still_edge, voted_count}
+use Rattle.irig_lines.specs.declared.pace.Pace.{Pace}
+use Rattle.irig_timekeeper.proofs.TimeLaws.{none_before, own_come, own_count, still_edge, voted_count}
 use Rattle.irig_timekeeper.proofs.VoteLaws.{vote_is_true}
 use Rattle.irig_timekeeper.proofs.LockLaws.{IsLed, step_led, missed_led}
 use Rattle.irig_timekeeper.proofs.LifeLaws.{AreLinesAt, lines_after, TellAlwaysTruly, heard_truly, order_before}
@@ -48,7 +49,7 @@ record IsQuiet (old new : ClockState) : Type 0 where
   edge : new.edge_us ≡ old.edge_us
   reader : new.reader ≡ old.reader
 
-quiet : (k : Keeping) (clock : ℕ) → vote_at k clock ≡ None → edges_own k.state.edge_us clock ≡ 0 → IsQuiet k.state (after_tick k clock).state
+quiet : (k : Keeping) (clock : ℕ) → vote_at k clock ≡ None → edges_own (settled_at k.clock k.state clock).pace k.state.edge_us clock ≡ 0 → IsQuiet k.state (after_tick k clock).state
 quiet k clock none nothing = of (vote_at k clock) none
   where
     s : ClockState
@@ -59,7 +60,7 @@ quiet k clock none nothing = of (vote_at k clock) none
 
     of : (o : Option Vote) → o ≡ None → IsQuiet k.state (clock_by k.clock k.table s clock o)
     of (Some v) e = absurd cc
-    of None e = let q = by (edges_own k.state.edge_us clock) nothing in record { edge = q.edge; reader = q.reader }
+    of None e = let q = by (edges_own (settled_at k.clock k.state clock).pace k.state.edge_us clock) nothing in record { edge = q.edge; reader = q.reader }
 
 -- with one, by the edges that it counts
 record IsVoted (c : ClockRules) (table : TableValue) (s : ClockState) (v : Vote) (n : ℕ) (new : ClockState) (answer : Option Beat) : Type 0 where
@@ -90,8 +91,8 @@ voted k clock v e = of (vote_at k clock) e
         let same : v ≡ x = cc in
         let n = edges_to_vote k.state.edge_us x.edge_us in
         let h = voted_by k.clock k.table s x n in
-        let knows : IsVoted k.clock k.table s x n (knowing_vote k.clock s x n (after_vote k.clock k.table s x n)) (answer_to_vote k.clock k.table s x n) = record { edge = h.edge; none = h.none; some = h.some; tells = h.tells } in
-        subst (λ (y : Vote). IsVoted k.clock k.table s y (edges_to_vote k.state.edge_us y.edge_us) (knowing_vote k.clock s x n (after_vote k.clock k.table s x n)) (answer_to_vote k.clock k.table s x (edges_to_vote k.state.edge_us x.edge_us))) (sym same) knows
+        let knows : IsVoted k.clock k.table s x n (learning k.clock (knowing_vote k.clock s x n (after_vote k.clock k.table s x n))) (answer_to_vote k.clock k.table s x n) = record { edge = h.edge; none = h.none; some = h.some; tells = h.tells } in
+        subst (λ (y : Vote). IsVoted k.clock k.table s y (edges_to_vote k.state.edge_us y.edge_us) (learning k.clock (knowing_vote k.clock s x n (after_vote k.clock k.table s x n))) (answer_to_vote k.clock k.table s x (edges_to_vote k.state.edge_us x.edge_us))) (sym same) knows
 
 -- a tick leaves the reader, or steps on by some edges and a vote, or none
 abbrev Stepped : ClockRules → TableValue → State → State → Type 0
@@ -112,7 +113,7 @@ stepped k clock = of (vote_at k clock)
     by_vote v n false e = rw e (inr (n - 1, Some v.claim, refl))
 
     of : (o : Option Vote) → Stepped k.clock k.table k.state.reader (clock_by k.clock k.table s clock o).reader
-    of None = own (edges_own k.state.edge_us clock) _ refl
+    of None = own (edges_own (settled_at k.clock k.state clock).pace k.state.edge_us clock) _ refl
     of (Some v) = by_vote v (edges_to_vote k.state.edge_us v.edge_us) _ refl
 
 -- a pulse changes neither the edge nor the reader
@@ -205,15 +206,16 @@ module _ (IsTrue : ℕ → List Pulse → Type 0) (t : TimelineValue) (edges : �
 
   voted_waits : (m : ℕ) (votes : List (Option Claim)) (now : ℕ) (calls : List Call) → AreInOrder start new.clock.redundancy (Tick now ∷ calls) → vote_at (after_calls new calls) (now % 2 ^ 32) ≡ None → (v : IsVotedAt m votes calls) → now < v.V + 1006000 → IsVotedAt m votes (Tick now ∷ calls)
   voted_waits m votes now calls order none v soon =
-      let count = own_count (last_tick start calls) now order.0 (omega (arith, order.1)) v.e v.V v.at in
-      let waits : own_come v.V now ≡ 0 = omega (arith, soon) in
-      let nothing : edges_own (state calls).edge_us (now % 2 ^ 32) ≡ 0 = ap (λ (o : Option ℕ). edges_own o (now % 2 ^ 32)) v.edge ∙ count ∙ waits in
+      let pace : Option Pace = (settled_at (after_calls new calls).clock (after_calls new calls).state (now % 2 ^ 32)).pace in
+      let count = own_count (last_tick start calls) now order.0 (omega (arith, order.1)) v.e v.V v.at pace in
+      let waits : own_come pace v.V now ≡ 0 = none_before pace (now - v.V) (omega (arith, soon, v.at.come, order.0)) in
+      let nothing : edges_own pace (state calls).edge_us (now % 2 ^ 32) ≡ 0 = ap (λ (o : Option ℕ). edges_own pace o (now % 2 ^ 32)) v.edge ∙ count ∙ waits in
       let same = quiet (after_calls new calls) (now % 2 ^ 32) none nothing in
       record {
         e = v.e;
         edge = same.edge ∙ v.edge;
         V = v.V;
-        at = still_edge (last_tick start calls) now order.0 (omega (arith, order.1)) v.e v.V v.at waits;
+        at = still_edge (last_tick start calls) now order.0 (omega (arith, order.1)) v.e v.V v.at pace waits;
         near = v.near;
         set = set_before new start begun v.V (Tick now) calls v.set;
         reads = same.reader ∙ v.reads;

@@ -14,6 +14,7 @@ use Rattle.irig_lines.specs.Widths.{reach_us, vote_us}
 use Rattle.irig_lines.specs.Counting.{edges_to_vote, edges_own}
 use Rattle.irig_timekeeper.specs.Rule.{missed, against_table}
 use Rattle.irig_lines.specs.Steps.{is_pulse, all_kept, ends_by, ends_from, ends_near, begins_near, last_behind, first_before, less_behind, less_before, least_behind, least_before, agreed, settled}
+use Rattle.irig_lines.proofs.PaceLaws.{grown_most}
 use Rattle.irig_timekeeper.specs.Clock.{after_own, after_vote, answer_alone, answer_to_vote, lasted, bound_of, own_edge, beat_by, step_to, clock_by, answer_by, settled_at}
 use Rattle.irig_timekeeper.specs.Keeping.{Keeping, vote_at, after_tick, answer_at}
 use Rattle.irig_timekeeper.specs.Life.{Call, after_calls}
@@ -78,8 +79,8 @@ module _ (k : Keeping) (clock : ℕ) where
     voted = omega (arith, then, low);
     bound = λ b e.
         let beat : beat_by k.clock s against step n edge voted ≡ b = cc in
-        let bound : b.bound_us ≡ bound_of k.clock.drift_us voted b.report.lock = ap (λ (x : Beat). x.bound_us) (sym beat) ∙ ap (λ (x : Beat). bound_of k.clock.drift_us voted x.report.lock) beat in
-        omega (arith, bound, low);
+        let bound : b.bound_us ≡ bound_of k.clock.drift_us s.pace voted b.report.lock = ap (λ (x : Beat). x.bound_us) (sym beat) ∙ ap (λ (x : Beat). bound_of k.clock.drift_us s.pace voted x.report.lock) beat in
+        omega (arith, bound, low, grown_most k.clock.drift_us s.pace (lasted b.report.lock));
     few = λ b e. let beat : beat_by k.clock s against step n edge voted ≡ b = cc in subst (λ (x : Beat). lasted x.report.lock ≤ k.clock.reader_rules.holdover) beat few;
   }
 
@@ -88,9 +89,9 @@ module _ (k : Keeping) (clock : ℕ) where
     where
       of : (o : Option Vote) → vote_at k clock ≡ o → HasBound k.clock (clock_by k.clock k.table s clock o) (answer_by k.clock k.table s clock o)
       of None e =
-          let n = edges_own k.state.edge_us clock in
+          let n = edges_own s.pace k.state.edge_us clock in
           let h : HasBound k.clock (after_own k.clock k.table s n) (answer_alone k.clock k.table s n) =
-          either (n == 0) _ _ false (step_to k.clock k.table s n None) (n - 1) (own_edge k.state.edge_us n) k.state.bound_us low refl refl
+          either (n == 0) _ _ false (step_to k.clock k.table s n None) (n - 1) (own_edge s.pace k.state.edge_us n) k.state.bound_us low refl refl
           (step_lasts k.clock.prefers_frames k.clock.reader_rules k.table (missed k.clock.prefers_frames k.clock.reader_rules k.table (n - 1) k.state.reader) None) in
           record { voted = h.voted; bound = h.bound; few = h.few }
       of (Some v) e =

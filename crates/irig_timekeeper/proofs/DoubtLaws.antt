@@ -40,14 +40,14 @@ module _ (k : Keeping) (clock : ℕ) where
       one_at_least n = grind arith
 
   pub says_nothing : (b : Beat) → 1 ≤ k.state.doubt → vote_at k clock ≡ None → answer_at k clock ≡ Some b → b.report.announce ≡ None
-  says_nothing b doubt alone answer = by (edges_own k.state.edge_us clock) (subst (λ (o : Option Vote). answer_by k.clock k.table s clock o ≡ Some b) alone answer)
+  says_nothing b doubt alone answer = by (edges_own s.pace k.state.edge_us clock) (subst (λ (o : Option Vote). answer_by k.clock k.table s clock o ≡ Some b) alone answer)
     where
       by : (n : ℕ) → answer_alone k.clock k.table s n ≡ Some b → b.report.announce ≡ None
       by n answer = elim (cases_Bool (n == 0)) [
         | inl none ↦ let both : None ≡ Some b = rw none at answer in absurd cc
         | inr some ↦
-            let both : Some (beat_by k.clock s false (step_to k.clock k.table s n None) (n - 1) (own_edge s.edge_us n) s.bound_us) ≡ Some b = rw some at answer in
-            let beat : beat_by k.clock s false (step_to k.clock k.table s n None) (n - 1) (own_edge s.edge_us n) s.bound_us ≡ b = cc in
+            let both : Some (beat_by k.clock s false (step_to k.clock k.table s n None) (n - 1) (own_edge s.pace s.edge_us n) s.bound_us) ≡ Some b = rw some at answer in
+            let beat : beat_by k.clock s false (step_to k.clock k.table s n None) (n - 1) (own_edge s.pace s.edge_us n) s.bound_us ≡ b = cc in
             ap (λ (x : Beat). x.report.announce) (sym beat) ∙ holds_back s.doubt (step_behind k.clock.prefers_frames k.clock.reader_rules k.table (n - 1) k.state.reader None).report.announce (still_doubted doubt)
       ]
 
@@ -83,14 +83,14 @@ module _ (k : Keeping) (clock : ℕ) where
 
       of : (o : Option Vote) → answer_by k.clock k.table s clock o ≡ Some b → b.report ≡ rule b.missed (claim_voted o)
       of (Some v) answer = by_vote_said v b answer
-      of None answer = own (edges_own k.state.edge_us clock) answer
+      of None answer = own (edges_own s.pace k.state.edge_us clock) answer
         where
           own : (n : ℕ) → answer_alone k.clock k.table s n ≡ Some b → b.report ≡ rule b.missed None
           own n answer = elim (cases_Bool (n == 0)) [
             | inl none ↦ let both : None ≡ Some b = rw none at answer in absurd cc
             | inr some ↦
-                let both : Some (beat_by k.clock s false (step_to k.clock k.table s n None) (n - 1) (own_edge s.edge_us n) s.bound_us) ≡ Some b = rw some at answer in
-                by_beat None n (own_edge s.edge_us n) s.bound_us b (ap (λ (o : Option UtcSecond). record (rule (n - 1) None) { announce = o }) (says_all s.doubt None (rule (n - 1) None).announce nothing)) cc
+                let both : Some (beat_by k.clock s false (step_to k.clock k.table s n None) (n - 1) (own_edge s.pace s.edge_us n) s.bound_us) ≡ Some b = rw some at answer in
+                by_beat None n (own_edge s.pace s.edge_us n) s.bound_us b (ap (λ (o : Option UtcSecond). record (rule (n - 1) None) { announce = o }) (says_all s.doubt None (rule (n - 1) None).announce nothing)) cc
           ]
 
 -- ---- what a tick leaves in doubt
@@ -123,7 +123,7 @@ tick_doubts k clock = of (vote_at k clock) refl
     none_off false most doubt = omega arith
 
     of : (o : Option Vote) → o ≡ vote_at k clock → LeavesDoubt k clock o (clock_by k.clock k.table s clock o)
-    of None at = let same = stays (edges_own k.state.edge_us clock) in record { strays = same.0; doubt = same.1 ∙ none_off (is_unsteady k.clock k.state clock) (doubted_s k.clock) k.state.doubt }
+    of None at = let same = stays (edges_own (settled_at k.clock k.state clock).pace k.state.edge_us clock) in record { strays = same.0; doubt = same.1 ∙ none_off (is_unsteady k.clock k.state clock) (doubted_s k.clock) k.state.doubt }
     of (Some v) at = let even = steady (Some v) at refl in record { strays = rw even refl; doubt = rw even refl }
 
 -- one more is another count

@@ -27,13 +27,17 @@ use Rattle.irig_timekeeper.specs.Life.Call.{Hear, Tick}
 use Rattle.irig_timekeeper.specs.Truth.{IsTrueVote, IsEdgeAt, IsOnTrack, StandsSurely, IsDevice}
 use Rattle.irig_timekeeper.specs.LineTruths.{IsEndedTruly}
 use Rattle.irig_lines.proofs.CountingLaws.{rises}
-use Rattle.irig_timekeeper.proofs.TimeLaws.{own_come, own_count, still_edge, own_edge_at, voted_count}
+use Rattle.irig_lines.specs.declared.pace.Pace.{Pace}
+use Rattle.irig_lines.specs.Paces.{IsSound, ahead_us, grown_us}
+use Rattle.irig_lines.proofs.PaceLaws.{grown_most}
+use Rattle.irig_timekeeper.proofs.SoundLaws.{settled_sound}
+use Rattle.irig_timekeeper.proofs.TimeLaws.{own_come, own_count, still_edge, own_edge_at, voted_count, lasts_so}
 use Rattle.irig_timekeeper.proofs.AgeLaws.{step_lasts}
 use Rattle.irig_timekeeper.proofs.SureSteps.{sure_step}
 use Rattle.irig_timekeeper.proofs.DoubtedSteps.{rule_announces}
 use Rattle.irig_timekeeper.proofs.VoteLaws.{vote_is_true}
-use Rattle.irig_timekeeper.proofs.TrackLaws.{KeepsTrue}
-use Rattle.irig_timekeeper.proofs.LifeLaws.{AreLinesAt, IsSameSetup, TellAlwaysTruly, IsTrack, heard_truly, lines_after, tick_in}
+use Rattle.irig_timekeeper.proofs.TrackLaws.{KeepsTrue, StepsAt}
+use Rattle.irig_timekeeper.proofs.LifeLaws.{AreLinesAt, StepsIn, IsSameSetup, TellAlwaysTruly, IsTrack, heard_truly, lines_after, tick_in}
 
 -- ---- where seconds ended
 
@@ -100,10 +104,10 @@ pub second_one : (t : TimelineValue) (m n : ℕ) (u : UtcSecond) → IsSecond t 
 second_one t m n u a b = omega (arith, a.sum, b.sum)
 
 module _ (t : TimelineValue) (edges : ℕ → ℕ) (c : ClockRules) (table : TableValue) (is : IsDevice t c.drift_us edges c.reader_rules table) (tick now : ℕ) (order : tick ≤ now) (soon : now ≤ tick + 1800000000) where
-  low_bound : (voted lasts : ℕ) → voted ≤ 2899 → lasts ≤ c.reader_rules.holdover → voted + lasts * c.drift_us ≤ 492899
-  low_bound voted lasts small few =
+  low_bound : (pace : Option Pace) (voted lasts : ℕ) → voted ≤ 2899 → lasts ≤ c.reader_rules.holdover → voted + grown_us c.drift_us pace lasts ≤ 492899
+  low_bound pace voted lasts small few =
       let most = mul-le-mul_left c.drift_us (let h : lasts ≤ c.reader_rules.holdover + 2 = omega (arith, few) in h) in
-      omega (arith, small, most, is.short)
+      omega (arith, small, most, is.short, grown_most c.drift_us pace lasts)
 
   -- by a true vote
   module _ (v : Vote) (vote : IsTrueVote t edges 0 0 now v) where
@@ -140,9 +144,9 @@ module _ (t : TimelineValue) (edges : ℕ → ℕ) (c : ClockRules) (table : Tab
         let next = near_next c.drift_us edges is.steady 2899 (ended.n + 1) (vote.truth.second + 1) h.0 vote.edge ended.here near_now (omega (arith, count)) (omega (arith, count)) in
         (ended.n, ended.told, omega (arith, next), ended.is)
 
-    voted : (o : Option ℕ) (ended before : Option Announced) (lock : Lock) → EndedBy t edges tick o ended before → lasted lock ≤ c.reader_rules.holdover → (n : ℕ) → n ≡ edges_to_vote o v.edge_us → 1 ≤ n
-        → EndedBy t edges now (Some v.edge_us) (announced_at v.edge_us (bound_of c.drift_us v.bound_us lock) (Some v.claim.at)) (cond (n - 1 == 0) ended None)
-    voted o ended before lock h few n same some = (
+    voted : (pace : Option Pace) (o : Option ℕ) (ended before : Option Announced) (lock : Lock) → EndedBy t edges tick o ended before → lasted lock ≤ c.reader_rules.holdover → (n : ℕ) → n ≡ edges_to_vote o v.edge_us → 1 ≤ n
+        → EndedBy t edges now (Some v.edge_us) (announced_at v.edge_us (bound_of c.drift_us pace v.bound_us lock) (Some v.claim.at)) (cond (n - 1 == 0) ended None)
+    voted pace o ended before lock h few n same some = (
       vote.edge,
       edge_now,
       record {
@@ -152,7 +156,7 @@ module _ (t : TimelineValue) (edges : ℕ → ℕ) (c : ClockRules) (table : Tab
           truth = second_voted;
           clock = vote.clock;
           near = record { least = omega (arith, vote.truth.near.least); most = omega (arith, vote.truth.near.most) };
-          small = low_bound v.bound_us (lasted lock) vote.small few;
+          small = low_bound pace v.bound_us (lasted lock) vote.small few;
         };
         here = record { least = omega (arith, near_now.least); most = omega (arith, near_now.most) };
         before = elim (cases_Bool (n - 1 == 0)) [
@@ -163,18 +167,19 @@ module _ (t : TimelineValue) (edges : ℕ → ℕ) (c : ClockRules) (table : Tab
     )
 
   -- by the own counter
-  waits : (o : Option ℕ) (ended before : Option Announced) → EndedBy t edges tick o ended before → edges_own o (now % 2 ^ 32) ≡ 0 → EndedBy t edges now o ended before
-  waits None ended before h none = h
-  waits (Some e) ended before h none = (h.0, still_edge tick now order soon e h.0 h.1 (sym (own_count tick now order soon e h.0 h.1) ∙ none), h.2)
+  waits : (pace : Option Pace) (o : Option ℕ) (ended before : Option Announced) → EndedBy t edges tick o ended before → edges_own pace o (now % 2 ^ 32) ≡ 0 → EndedBy t edges now o ended before
+  waits pace None ended before h none = h
+  waits pace (Some e) ended before h none = (h.0, still_edge tick now order soon e h.0 h.1 pace (sym (own_count tick now order soon e h.0 h.1 pace) ∙ none), h.2)
 
   -- what was told truly by it, of a reader that stood at the second before
-  alone_one : (e edge : ℕ) (at : IsEdgeAt e edge tick) (ended before : Option Announced) → IfEndedAt t edges edge ended before → (n : ℕ) → n ≡ edges_own (Some e) (now % 2 ^ 32) → n ≡ 1 → (second : UtcSecond) (w m bound told : ℕ) → IsSecond t w second → m ≡ w + 1
-      → own_edge (Some e) n ≡ told % 2 ^ 32 → IsNear edges bound bound m told → told ≤ now → now < told + 1006000 → bound ≤ 492899
-      → EndedBy t edges now (Some (own_edge (Some e) n)) (Some (record { second = second; edge_us = own_edge (Some e) n; bound_us = bound })) (cond (n - 1 == 0) ended None)
-  alone_one e edge at ended before h n same one second w m bound told truth next clock near come late small =
-      let count : n ≡ own_come edge now = same ∙ own_count tick now order soon e edge at in
-      let own = own_edge_at tick now order soon e edge at n count (omega (arith, one)) in
-      let there : told ≡ edge + n * 1000000 = by_clock (own_edge (Some e) n) told (edge + n * 1000000) clock own.clock (omega (arith, come, own.soon)) (omega (arith, own.come, late)) in
+  alone_one : (pace : Option Pace) (sound : IsSound pace) (e edge : ℕ) (at : IsEdgeAt e edge tick) (ended before : Option Announced) → IfEndedAt t edges edge ended before → (n : ℕ) → n ≡ edges_own pace (Some e) (now % 2 ^ 32) → n ≡ 1 → (second : UtcSecond) (w m bound told : ℕ) → IsSecond t w second → m ≡ w + 1
+      → own_edge pace (Some e) n ≡ told % 2 ^ 32 → IsNear edges bound bound m told → told ≤ now → now < told + 1006000 → bound ≤ 492899
+      → EndedBy t edges now (Some (own_edge pace (Some e) n)) (Some (record { second = second; edge_us = own_edge pace (Some e) n; bound_us = bound })) (cond (n - 1 == 0) ended None)
+  alone_one pace sound e edge at ended before h n same one second w m bound told truth next clock near come late small =
+      let count : n ≡ own_come pace edge now = same ∙ own_count tick now order soon e edge at pace in
+      let own = own_edge_at tick now order soon e edge at pace sound n count (omega (arith, one)) in
+      let long = lasts_so pace sound n in
+      let there : told ≡ edge + ahead_us pace n = by_clock (own_edge pace (Some e) n) told (edge + ahead_us pace n) clock own.clock (omega (arith, come, own.soon)) (omega (arith, own.come, late)) in
       let only : (n - 1 == 0) ≡ true = (let none : n ≡ 1 = one in rw none refl) in
       let at_next : IsNear edges bound bound (w + 1) told = subst (λ (i : ℕ). IsNear edges bound bound i told) next near in (
         told,
@@ -184,17 +189,17 @@ module _ (t : TimelineValue) (edges : ℕ → ℕ) (c : ClockRules) (table : Tab
           told = told;
           is = record { truth = truth; clock = clock; near = at_next; small = small };
           here = record { least = omega (arith, at_next.least, small); most = omega (arith, at_next.most, small) };
-          before = rw only (known ended h (omega (arith, there, one)) at_next);
+          before = rw only (known ended h (omega (arith, there, one, long.least)) (omega (arith, there, one, long.most)) at_next);
         },
       )
     where
       by_clock : (e x y : ℕ) → e ≡ x % 2 ^ 32 → e ≡ y % 2 ^ 32 → x ≤ y + 1006000 → y ≤ x + 1006000 → x ≡ y
       by_clock e x y p q near near' = omega (arith, p, q, near, near')
 
-      known : (ended : Option Announced) → IfEndedAt t edges edge ended before → told ≡ edge + 1000000 → IsNear edges bound bound (w + 1) told → IfBefore t edges w ended
-      known None h there at = tt
-      known (Some a) h there at =
-          let next = near_next c.drift_us edges is.steady bound (h.n + 1) (w + 1) edge told h.here at (omega (arith, there, small)) (omega (arith, there, small)) in
+      known : (ended : Option Announced) → IfEndedAt t edges edge ended before → edge + 999900 ≤ told → told ≤ edge + 1000100 → IsNear edges bound bound (w + 1) told → IfBefore t edges w ended
+      known None h least most at = tt
+      known (Some a) h least most at =
+          let next = near_next c.drift_us edges is.steady bound (h.n + 1) (w + 1) edge told h.here at (omega (arith, least, most, small)) (omega (arith, least, most, small)) in
           (h.n, h.told, omega (arith, next), h.is)
 
 -- ---- a tick of a device
@@ -204,24 +209,30 @@ module _ (t : TimelineValue) (edges : ℕ → ℕ) where
   Ends tick s = EndedBy t edges tick s.edge_us s.ended s.ended_before
 
   module _ (k : Keeping) (tick now : ℕ) (order : tick ≤ now) (soon : now ≤ tick + 1800000000) (is : IsDevice t k.clock.drift_us edges k.clock.reader_rules k.table) (on : IsOnTrack t edges 0 0 k.clock.drift_us 0 k.clock.reader_rules k.table tick k.state.reader k.state.bound_us k.state.edge_us)
-      (keeps : KeepsTrue t k.clock.drift_us edges 0 0 0 k.clock.reader_rules k.table now (after_tick k (now % 2 ^ 32)).state (answer_at k (now % 2 ^ 32))) (ends : Ends tick k.state) where
+      (keeps : KeepsTrue t k.clock.drift_us edges 0 0 0 k.clock.reader_rules k.table now (after_tick k (now % 2 ^ 32)).state (answer_at k (now % 2 ^ 32))) (ends : Ends tick k.state) (sound : IsSound k.state.pace) where
+    abbrev pace : Option Pace
+    pace = (settled_at k.clock k.state (now % 2 ^ 32)).pace
+
     -- by the own counter
-    module _ (alone : vote_at k (now % 2 ^ 32) ≡ None) (n : ℕ) (count : n ≡ edges_own k.state.edge_us (now % 2 ^ 32)) where
+    module _ (alone : vote_at k (now % 2 ^ 32) ≡ None) (n : ℕ) (count : n ≡ edges_own pace k.state.edge_us (now % 2 ^ 32)) where
       abbrev beat : Beat
-      beat = beat_by k.clock (settled_at k.clock k.state (now % 2 ^ 32)) false (step_to k.clock k.table (settled_at k.clock k.state (now % 2 ^ 32)) n None) (n - 1) (own_edge k.state.edge_us n) k.state.bound_us
+      beat = beat_by k.clock (settled_at k.clock k.state (now % 2 ^ 32)) false (step_to k.clock k.table (settled_at k.clock k.state (now % 2 ^ 32)) n None) (n - 1) (own_edge pace k.state.edge_us n) k.state.bound_us
+
+      settled_is : IsSound pace
+      settled_is = settled_sound k sound (now % 2 ^ 32)
 
       module _ (some : 1 ≤ n) (counts : (n == 0) ≡ false) (e : ℕ) (here : k.state.edge_us ≡ Some e) where
         at_edge : EndedBy t edges tick (Some e) k.state.ended k.state.ended_before
         at_edge = subst (λ (o : Option ℕ). EndedBy t edges tick o k.state.ended k.state.ended_before) here ends
 
-        count_here : n ≡ edges_own (Some e) (now % 2 ^ 32)
-        count_here = count ∙ ap (λ (o : Option ℕ). edges_own o (now % 2 ^ 32)) here
+        count_here : n ≡ edges_own pace (Some e) (now % 2 ^ 32)
+        count_here = count ∙ ap (λ (o : Option ℕ). edges_own pace o (now % 2 ^ 32)) here
 
-        nothing : (before : Option Announced) → EndedBy t edges now (Some (own_edge (Some e) n)) None before
-        nothing before = (at_edge.0 + n * 1000000, own_edge_at tick now order soon e at_edge.0 at_edge.1 n (count_here ∙ own_count tick now order soon e at_edge.0 at_edge.1) some, tt)
+        nothing : (before : Option Announced) → EndedBy t edges now (Some (own_edge pace (Some e) n)) None before
+        nothing before = (at_edge.0 + ahead_us pace n, own_edge_at tick now order soon e at_edge.0 at_edge.1 pace settled_is n (count_here ∙ own_count tick now order soon e at_edge.0 at_edge.1 pace) some, tt)
 
         held : (reader : State) → k.state.reader ≡ reader → (u : UtcSecond) → beat.report.announce ≡ Some u → (n - 1 == 0) ≡ true
-            → EndedBy t edges now (Some (own_edge (Some e) n)) (announced_at (own_edge (Some e) n) beat.bound_us (held_second reader)) (cond (n - 1 == 0) k.state.ended None)
+            → EndedBy t edges now (Some (own_edge pace (Some e) n)) (announced_at (own_edge pace (Some e) n) beat.bound_us (held_second reader)) (cond (n - 1 == 0) k.state.ended None)
         held Idle at u says only = nothing (cond (n - 1 == 0) k.state.ended None)
         held (Acquiring h c) at u says only = nothing (cond (n - 1 == 0) k.state.ended None)
         held (Locked h) at u says only = elim (subst (λ (o : Option ℕ). IsOnTrack t edges 0 0 k.clock.drift_us 0 k.clock.reader_rules k.table tick k.state.reader k.state.bound_us o) here on) [
@@ -230,7 +241,7 @@ module _ (t : TimelineValue) (edges : ℕ → ℕ) where
               let w = stood.0 in
               let stands = stood.2 in
               let zero_more : n - 1 ≡ 0 = eqb-true (n - 1) 0 only in
-              let answers : answer_at k (now % 2 ^ 32) ≡ Some beat = ap (answer_by k.clock k.table (settled_at k.clock k.state (now % 2 ^ 32)) (now % 2 ^ 32)) alone ∙ (let one : answer_alone k.clock k.table (settled_at k.clock k.state (now % 2 ^ 32)) (edges_own k.state.edge_us (now % 2 ^ 32)) ≡ Some beat = subst (λ (m : ℕ). answer_alone k.clock k.table (settled_at k.clock k.state (now % 2 ^ 32)) m ≡ Some beat) count (rw counts refl) in one) in
+              let answers : answer_at k (now % 2 ^ 32) ≡ Some beat = ap (answer_by k.clock k.table (settled_at k.clock k.state (now % 2 ^ 32)) (now % 2 ^ 32)) alone ∙ (let one : answer_alone k.clock k.table (settled_at k.clock k.state (now % 2 ^ 32)) (edges_own pace k.state.edge_us (now % 2 ^ 32)) ≡ Some beat = subst (λ (m : ℕ). answer_alone k.clock k.table (settled_at k.clock k.state (now % 2 ^ 32)) m ≡ Some beat) count (rw counts refl) in one) in
               let told = (keeps.told beat u answers says).told in
               let sure = subst (λ (r : State). StandsSurely t k.table w r) at stands.truth in
               let by_rule = rule_announces (settled_at k.clock k.state (now % 2 ^ 32)).doubt None (step_behind k.clock.prefers_frames k.clock.reader_rules k.table (n - 1) k.state.reader None).report.announce u says in
@@ -238,28 +249,28 @@ module _ (t : TimelineValue) (edges : ℕ → ℕ) where
               let next = (sure_step t k.clock.reader_rules k.table is.sound is.knows k.clock.prefers_frames w k.state.reader None stands.truth (inl refl)).says u one_step in
               let few = step_lasts k.clock.prefers_frames k.clock.reader_rules k.table (missed k.clock.prefers_frames k.clock.reader_rules k.table (n - 1) k.state.reader) None in
               let near : IsNear edges beat.bound_us beat.bound_us told.m told.edge = record { least = omega (arith, told.near.least); most = omega (arith, told.near.most) } in
-              alone_one t edges k.clock k.table is tick now order soon e at_edge.0 at_edge.1 k.state.ended k.state.ended_before at_edge.2 n count_here (omega (arith, zero_more, some)) h.last w told.m beat.bound_us told.edge
-              sure.on_time.last (second_one t told.m (w + 1) u told.truth next) (sym (ap (λ (o : Option ℕ). own_edge o n) here) ∙ told.clock) near told.come told.soon
-              (low_bound t edges k.clock k.table is tick now order soon k.state.bound_us (lasted beat.report.lock) stands.small few)
+              alone_one t edges k.clock k.table is tick now order soon pace settled_is e at_edge.0 at_edge.1 k.state.ended k.state.ended_before at_edge.2 n count_here (omega (arith, zero_more, some)) h.last w told.m beat.bound_us told.edge
+              sure.on_time.last (second_one t told.m (w + 1) u told.truth next) (sym (ap (λ (o : Option ℕ). own_edge pace o n) here) ∙ told.clock) near told.come told.soon
+              (low_bound t edges k.clock k.table is tick now order soon pace k.state.bound_us (lasted beat.report.lock) stands.small few)
         ]
 
         announced : (announce : Option UtcSecond) → beat.report.announce ≡ announce
-            → EndedBy t edges now (Some (own_edge (Some e) n)) (announced_at (own_edge (Some e) n) beat.bound_us (second_ended (held_second k.state.reader) (n - 1) None announce)) (cond (n - 1 == 0) k.state.ended None)
+            → EndedBy t edges now (Some (own_edge pace (Some e) n)) (announced_at (own_edge pace (Some e) n) beat.bound_us (second_ended (held_second k.state.reader) (n - 1) None announce)) (cond (n - 1 == 0) k.state.ended None)
         announced None says = nothing (cond (n - 1 == 0) k.state.ended None)
         announced (Some u) says = by (n - 1 == 0) refl
           where
-            by : (b : Bool) → (n - 1 == 0) ≡ b → EndedBy t edges now (Some (own_edge (Some e) n)) (announced_at (own_edge (Some e) n) beat.bound_us (cond b (held_second k.state.reader) None)) (cond (n - 1 == 0) k.state.ended None)
+            by : (b : Bool) → (n - 1 == 0) ≡ b → EndedBy t edges now (Some (own_edge pace (Some e) n)) (announced_at (own_edge pace (Some e) n) beat.bound_us (cond b (held_second k.state.reader) None)) (cond (n - 1 == 0) k.state.ended None)
             by true only = held k.state.reader refl u says only
             by false more = nothing (cond (n - 1 == 0) k.state.ended None)
 
       own_ended : (some : 1 ≤ n) (counts : (n == 0) ≡ false) (o : Option ℕ) → k.state.edge_us ≡ o
-          → EndedBy t edges now (Some (own_edge o n)) (announced_at (own_edge o n) beat.bound_us (second_ended (held_second k.state.reader) (n - 1) None beat.report.announce)) (cond (n - 1 == 0) k.state.ended None)
-      own_ended some counts None here = absurd (let none : n ≡ 0 = count ∙ ap (λ (o : Option ℕ). edges_own o (now % 2 ^ 32)) here in omega (arith, none, some))
+          → EndedBy t edges now (Some (own_edge pace o n)) (announced_at (own_edge pace o n) beat.bound_us (second_ended (held_second k.state.reader) (n - 1) None beat.report.announce)) (cond (n - 1 == 0) k.state.ended None)
+      own_ended some counts None here = absurd (let none : n ≡ 0 = count ∙ ap (λ (o : Option ℕ). edges_own pace o (now % 2 ^ 32)) here in omega (arith, none, some))
       own_ended some counts (Some e) here = announced some counts e here beat.report.announce refl
 
       own_tick : Ends now (knowing k.clock (settled_at k.clock k.state (now % 2 ^ 32)) n (after_own k.clock k.table (settled_at k.clock k.state (now % 2 ^ 32)) n))
       own_tick = elim (cases_Bool (n == 0)) [
-        | inl none ↦ rw none (waits t edges k.clock k.table is tick now order soon k.state.edge_us k.state.ended k.state.ended_before ends (sym count ∙ eqb-true n 0 none))
+        | inl none ↦ rw none (waits t edges k.clock k.table is tick now order soon pace k.state.edge_us k.state.ended k.state.ended_before ends (sym count ∙ eqb-true n 0 none))
         | inr some ↦ rw some (own_ended (omega (arith, eqb-false n 0 some)) some k.state.edge_us refl)
       ]
 
@@ -269,14 +280,14 @@ module _ (t : TimelineValue) (edges : ℕ → ℕ) where
       | inl none ↦ rw none (stays t edges k.clock k.table is tick now order soon v vote k.state.edge_us k.state.ended k.state.ended_before ends (sym count ∙ eqb-true n 0 none))
       | inr some ↦
           let few = step_lasts k.clock.prefers_frames k.clock.reader_rules k.table (missed k.clock.prefers_frames k.clock.reader_rules k.table (n - 1) k.state.reader) (Some v.claim) in
-          rw some (voted t edges k.clock k.table is tick now order soon v vote k.state.edge_us k.state.ended k.state.ended_before (step_to k.clock k.table (settled_at k.clock k.state (now % 2 ^ 32)) n (Some v.claim)).report.lock ends few n count (omega (arith, eqb-false n 0 some)))
+          rw some (voted t edges k.clock k.table is tick now order soon v vote pace k.state.edge_us k.state.ended k.state.ended_before (step_to k.clock k.table (settled_at k.clock k.state (now % 2 ^ 32)) n (Some v.claim)).report.lock ends few n count (omega (arith, eqb-false n 0 some)))
     ]
 
     pub tick_ends : ((v : Vote) → vote_at k (now % 2 ^ 32) ≡ Some v → IsTrueVote t edges 0 0 now v) → Ends now (after_tick k (now % 2 ^ 32)).state
     tick_ends true_vote = of (vote_at k (now % 2 ^ 32)) refl
       where
         of : (o : Option Vote) → vote_at k (now % 2 ^ 32) ≡ o → Ends now (clock_by k.clock k.table (settled_at k.clock k.state (now % 2 ^ 32)) (now % 2 ^ 32) o)
-        of None e = own_tick e (edges_own k.state.edge_us (now % 2 ^ 32)) refl
+        of None e = own_tick e (edges_own pace k.state.edge_us (now % 2 ^ 32)) refl
         of (Some v) e = vote_tick v (true_vote v e) (edges_to_vote k.state.edge_us v.edge_us) refl
 
 -- ---- a life
@@ -288,18 +299,18 @@ module _ (IsTrue : ℕ → List Pulse → Type 0) (t : TimelineValue) (edges : �
     track : IsTrack IsTrue t edges 0 0 new start begins 0 (last_tick start calls) (after_calls new calls)
     ends : Ends t edges (last_tick start calls) (after_calls new calls).state
 
-  at_tick : (calls : List Call) (now : ℕ) → AreInOrder start new.clock.redundancy (Tick now ∷ calls) → AreTrueLately IsTrue (f_of new.clock.redundancy) now calls → StandsAndEnds calls → StandsAndEnds (Tick now ∷ calls)
-  at_tick calls now order lately h =
+  at_tick : (calls : List Call) (now : ℕ) → AreInOrder start new.clock.redundancy (Tick now ∷ calls) → AreTrueLately IsTrue (f_of new.clock.redundancy) now calls → StepsAt edges 0 0 (after_calls new calls) (last_tick start calls) now → StandsAndEnds calls → StandsAndEnds (Tick now ∷ calls)
+  at_tick calls now order lately steps h =
       let k : Keeping = after_calls new calls in
       let same = (lines_after new start begins calls now order).same in
-      let keeps = tick_in IsTrue t edges 0 0 new start begins is (omega arith) truly 0 calls now order lately h.track in
+      let keeps = tick_in IsTrue t edges 0 0 new start begins is (omega arith) truly 0 calls now order lately h.track steps in
       record {
         track = keeps.track;
         ends = tick_ends t edges k (last_tick start calls) now order.0 (omega (arith, order.1))
             (moves k same (λ c table. IsDevice t c.drift_us edges c.reader_rules table) is)
             (moves k same (λ c table. IsOnTrack t edges 0 0 c.drift_us 0 c.reader_rules table (last_tick start calls) k.state.reader k.state.bound_us k.state.edge_us) h.track)
             (moves k same (λ c table. KeepsTrue t c.drift_us edges 0 0 0 c.reader_rules table now (after_tick k (now % 2 ^ 32)).state (answer_at k (now % 2 ^ 32))) keeps)
-            h.ends
+            h.ends (lines_after new start begins calls now order).sound
             (λ v e. vote_is_true (IsTrue now) new.rules t new.clock edges is.steady 0 0 (omega arith) now k.state.lines (λ i. pulses_on i calls) (truly now) (heard_truly IsTrue t edges 0 0 new start begins calls now order lately) v
             (ap (λ (c : ClockRules). if_come (now % 2 ^ 32) (agreed c (settled (now % 2 ^ 32) k.state.lines))) (sym same.clock) ∙ e));
       }
@@ -313,13 +324,13 @@ module _ (IsTrue : ℕ → List Pulse → Type 0) (t : TimelineValue) (edges : �
     | inr wide ↦ record { track = rw wide h.track; ends = rw wide h.ends }
   ]
 
-  all_along : StandsAndEnds [] → (calls : List Call) → AreInOrder start new.clock.redundancy calls → AreTrueAtTicks IsTrue (f_of new.clock.redundancy) calls → StandsAndEnds calls
-  all_along from [] order truth = from
-  all_along from (Hear port rise width ∷ calls) order truth = at_pulse calls port rise width (all_along from calls order.2 truth)
-  all_along from (Tick now ∷ calls) order truth = at_tick calls now order truth.0 (all_along from calls order.3 truth.1)
+  all_along : StandsAndEnds [] → (calls : List Call) → AreInOrder start new.clock.redundancy calls → AreTrueAtTicks IsTrue (f_of new.clock.redundancy) calls → StepsIn edges 0 0 new start calls → StandsAndEnds calls
+  all_along from [] order truth steps = from
+  all_along from (Hear port rise width ∷ calls) order truth steps = at_pulse calls port rise width (all_along from calls order.2 truth steps)
+  all_along from (Tick now ∷ calls) order truth steps = at_tick calls now order truth.0 steps.0 (all_along from calls order.3 truth.1 steps.1)
 
-  pub ends_truly : (new.state.reader ≡ Idle) → (new.state.edge_us ≡ None) → (new.state.ended ≡ None) → (calls : List Call) → AreInOrder start new.clock.redundancy calls → AreTrueAtTicks IsTrue (f_of new.clock.redundancy) calls → Ends t edges (last_tick start calls) (after_calls new calls).state
-  ends_truly idle none never calls order truth = (all_along (record {
+  pub ends_truly : (new.state.reader ≡ Idle) → (new.state.edge_us ≡ None) → (new.state.ended ≡ None) → (calls : List Call) → AreInOrder start new.clock.redundancy calls → AreTrueAtTicks IsTrue (f_of new.clock.redundancy) calls → StepsIn edges 0 0 new start calls → Ends t edges (last_tick start calls) (after_calls new calls).state
+  ends_truly idle none never calls order truth steps = (all_along (record {
     track = subst (λ (o : Option ℕ). IsOnTrack t edges 0 0 new.clock.drift_us 0 new.clock.reader_rules new.table start new.state.reader new.state.bound_us o) (sym none) (idle, refl);
     ends = subst (λ (o : Option ℕ). EndedBy t edges start o new.state.ended new.state.ended_before) (sym none) never;
-  }) calls order truth).ends
+  }) calls order truth steps).ends

@@ -7,8 +7,6 @@ use Rattle.std.proofs.lemmas.List.Sums.{sum_by-cons}
 use Rattle.irig_sync.specs.Sync.{place_of}
 use Rattle.irig_sync.specs.Lines.{Pulse, pulse_at, place_after, AreOnTime, IsAfter, IsSoon}
 use Rattle.irig_sync.proofs.LineLaws.{place_at_time}
-use Rattle.irig_time.specs.declared.rules.Rules.{Rules}
-use Rattle.irig_time.specs.Timelines.{TimelineValue}
 use Rattle.irig_port.specs.declared.told.Told.{Told}
 use Rattle.irig_port.specs.Limits.{told_within, quality_in}
 use Rattle.irig_vote.specs.Vote.{f_of}
@@ -17,16 +15,14 @@ use Rattle.irig_lines.specs.declared.lines.Line.{Line}
 use Rattle.irig_lines.specs.declared.lines.Lines.{Lines}
 use Rattle.irig_lines.specs.declared.setup.ClockRules.{ClockRules}
 use Rattle.irig_timekeeper.specs.declared.clock.ClockState.{ClockState}
-use Rattle.irig_lines.specs.Edges.{IsQuartz}
 use Rattle.irig_lines.specs.Counting.{is_late, edges_own}
-use Rattle.irig_lines.specs.Lines.{IsTrueLately, rise_before, KnowsBegin, IsLastBefore, AreEven}
+use Rattle.irig_lines.specs.Lines.{rise_before, KnowsBegin, IsLastBefore, AreEven}
 use Rattle.irig_lines.specs.Steps.{is_pulse, is_even, frame_behind, line_at, line_heard, still_kept, settled, taken, is_uneven, frames_of, are_uneven}
 use Rattle.irig_timekeeper.specs.Clock.{vote_of_lines, is_unsteady}
 use Rattle.irig_timekeeper.specs.Keeping.{Keeping, heard_then, after_pulse, after_tick}
 use Rattle.irig_timekeeper.specs.Life.{Call, after_calls, pulses_on, last_tick, AreInOrder, AreTrueLately}
 use Rattle.irig_timekeeper.specs.Life.Call.{Hear, Tick}
 use Rattle.irig_lines.proofs.AgreeLaws.{one_of, none_of, at_most_one}
-use Rattle.irig_lines.proofs.LineLaws.{frame_is_even}
 use Rattle.irig_lines.proofs.WholeLaws.{next_in_frame, alone_first, begin_here}
 use Rattle.irig_timekeeper.proofs.VoteLaws.{frame_settled, not_late}
 use Rattle.irig_timekeeper.proofs.LifeLaws.{AreLinesAt, line_soon, lines_after, line_same, line_takes, ticked, and_false, own_pulses, others_pulses, no_pulse, has_risen, unheard}
@@ -228,13 +224,13 @@ module _ (new : Keeping) (start : ℕ) (begins : AreLinesAt new new (λ i. []) s
         → is_unsteady (after_calls new calls).clock (after_calls new calls).state (now % 2 ^ 32) ≡ false
     stays_steady calls now order lately =
         let s : ClockState = (after_calls new calls).state in
-        let steady : is_unsteady new.clock s (now % 2 ^ 32) ≡ false = and_false (is_none (vote_of_lines new.clock s (now % 2 ^ 32))) _ (and_false (not (edges_own s.edge_us (now % 2 ^ 32) == 0)) _ (few_uneven calls now order lately)) in
+        let steady : is_unsteady new.clock s (now % 2 ^ 32) ≡ false = and_false (is_none (vote_of_lines new.clock s (now % 2 ^ 32))) _ (and_false (not (edges_own s.pace s.edge_us (now % 2 ^ 32) == 0)) _ (few_uneven calls now order lately)) in
         subst (λ (c : ClockRules). is_unsteady c s (now % 2 ^ 32) ≡ false) (sym (lines_after new start begins calls now order).same.clock) steady
 
 -- nor while lines keep nothing
 pub dark_is_steady : (k : Keeping) (clock : ℕ) (lines : Lines) → k.state.lines ≡ taken lines → is_unsteady k.clock k.state clock ≡ false
 dark_is_steady k clock lines dark =
-    and_false (is_none (vote_of_lines k.clock k.state clock)) _ (and_false (not (edges_own k.state.edge_us clock == 0)) _
+    and_false (is_none (vote_of_lines k.clock k.state clock)) _ (and_false (not (edges_own k.state.pace k.state.edge_us clock == 0)) _
     (ap (λ (x : Lines). are_uneven k.clock (settled clock x)) dark ∙ none (f_of k.clock.redundancy)))
   where
     none : (f : ℕ) → nat_lt f 0 ≡ false

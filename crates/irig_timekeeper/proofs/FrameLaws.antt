@@ -238,7 +238,7 @@ settles k clock e = of (vote_at k clock) e
 
     of : (o : Option Vote) → o ≡ None → (clock_by k.clock k.table (settled_at k.clock k.state clock) clock o).lines ≡ settled clock k.state.lines
     of (Some x) e = absurd cc
-    of None e = either (edges_own k.state.edge_us clock == 0) _ _ _ refl refl
+    of None e = either (edges_own (settled_at k.clock k.state clock).pace k.state.edge_us clock == 0) _ _ _ refl refl
 
 module _ (t : TimelineValue) (edges : ℕ → ℕ) (new : Keeping) (quartz : IsQuartz new.clock.drift_us edges) (start : ℕ) (begun : AreLinesAt new new (λ i. []) start start) (i : ℕ) (small : i < 5) (m : ℕ) (older : List Call) (told : ℕ) (risen : HaveRisen told older) (past : told + 11000 < edges m) where
   abbrev kept_claim : List Call → Option KeptClaim

@@ -44,8 +44,8 @@ module _ (k : Keeping) (clock : ℕ) (b : Beat) (answer : answer_at k clock ≡ 
       own n answer = elim (cases_Bool (n == 0)) [
         | inl none ↦ let both : None ≡ Some b = rw none at answer in absurd cc
         | inr some ↦
-            let both : Some (beat_by k.clock s false (step_to k.clock k.table s n None) (n - 1) (own_edge s.edge_us n) s.bound_us) ≡ Some b = rw some at answer in
-            let beat : beat_by k.clock s false (step_to k.clock k.table s n None) (n - 1) (own_edge s.edge_us n) s.bound_us ≡ b = cc in
+            let both : Some (beat_by k.clock s false (step_to k.clock k.table s n None) (n - 1) (own_edge s.pace s.edge_us n) s.bound_us) ≡ Some b = rw some at answer in
+            let beat : beat_by k.clock s false (step_to k.clock k.table s n None) (n - 1) (own_edge s.pace s.edge_us n) s.bound_us ≡ b = cc in
             ap (λ (x : Beat). x.against_table) (sym beat)
       ]
 
@@ -59,20 +59,20 @@ module _ (k : Keeping) (clock : ℕ) (b : Beat) (answer : answer_at k clock ≡ 
       ]
 
       of : (o : Option Vote) → answer_by k.clock k.table s clock o ≡ Some b → b.against_table ≡ against_table k.table (claim_voted o)
-      of None answer = own (edges_own k.state.edge_us clock) answer
+      of None answer = own (edges_own s.pace k.state.edge_us clock) answer
       of (Some v) answer = voted v (edges_to_vote k.state.edge_us v.edge_us) answer
 
   -- ---- what is announced
 
   alone_says : (u : UtcSecond) → vote_at k clock ≡ None → b.report.announce ≡ Some u → (step_behind k.clock.prefers_frames k.clock.reader_rules k.table b.missed k.state.reader None).report.announce ≡ Some u
-  alone_says u alone says = own (edges_own k.state.edge_us clock) (subst (λ (o : Option Vote). answer_by k.clock k.table s clock o ≡ Some b) alone answer)
+  alone_says u alone says = own (edges_own s.pace k.state.edge_us clock) (subst (λ (o : Option Vote). answer_by k.clock k.table s clock o ≡ Some b) alone answer)
     where
       own : (n : ℕ) → answer_alone k.clock k.table s n ≡ Some b → (step_behind k.clock.prefers_frames k.clock.reader_rules k.table b.missed k.state.reader None).report.announce ≡ Some u
       own n answer = elim (cases_Bool (n == 0)) [
         | inl none ↦ let both : None ≡ Some b = rw none at answer in absurd cc
         | inr some ↦
-            let both : Some (beat_by k.clock s false (step_to k.clock k.table s n None) (n - 1) (own_edge s.edge_us n) s.bound_us) ≡ Some b = rw some at answer in
-            let beat : beat_by k.clock s false (step_to k.clock k.table s n None) (n - 1) (own_edge s.edge_us n) s.bound_us ≡ b = cc in
+            let both : Some (beat_by k.clock s false (step_to k.clock k.table s n None) (n - 1) (own_edge s.pace s.edge_us n) s.bound_us) ≡ Some b = rw some at answer in
+            let beat : beat_by k.clock s false (step_to k.clock k.table s n None) (n - 1) (own_edge s.pace s.edge_us n) s.bound_us ≡ b = cc in
             let so_many : n - 1 ≡ b.missed = ap (λ (x : Beat). x.missed) beat in
             let announces = rule_announces s.doubt None (step_behind k.clock.prefers_frames k.clock.reader_rules k.table (n - 1) k.state.reader None).report.announce u (ap (λ (x : Beat). x.report.announce) beat ∙ says) in
             subst (λ (i : ℕ). (step_behind k.clock.prefers_frames k.clock.reader_rules k.table i k.state.reader None).report.announce ≡ Some u) so_many announces

@@ -45,7 +45,8 @@ use Rattle.irig_timekeeper.proofs.BoundLaws.{answer_bound}
 use Rattle.irig_timekeeper.proofs.TrackLaws.{IsToldNewly, KeepsTrue}
 use Rattle.irig_timekeeper.proofs.VoteLaws.{still, come, vote_is_true}
 use Rattle.irig_lines.proofs.PartLaws.{one_more}
-use Rattle.irig_timekeeper.proofs.LifeLaws.{IsSameSetup, AreLinesAt, IsEndAt, lines_after, TellAlwaysTruly, heard_truly, tick_in, track_on, order_before}
+use Rattle.irig_timekeeper.proofs.LearnLaws.{IsPlain, plain_steps}
+use Rattle.irig_timekeeper.proofs.LifeLaws.{StepsIn, IsSameSetup, AreLinesAt, IsEndAt, lines_after, TellAlwaysTruly, heard_truly, tick_in, track_on, order_before}
 use Rattle.irig_timekeeper.proofs.CheckedSteps.{checked_cases}
 
 -- ---- what lines keep speaks of a leap in a month's last minute alone
@@ -105,7 +106,7 @@ late_ticked : (k : Keeping) (clock : ℕ) → IfHold k.state.reader HasHeardLate
 late_ticked k clock late marked = of (vote_at k clock) refl
   where
     of : (v : Option Vote) → vote_at k clock ≡ v → IfHold (clock_by k.clock k.table (settled_at k.clock k.state clock) clock v).reader HasHeardLate
-    of None e = late_own k.clock k.table (settled_at k.clock k.state clock) late (edges_own k.state.edge_us clock)
+    of None e = late_own k.clock k.table (settled_at k.clock k.state clock) late (edges_own (settled_at k.clock k.state clock).pace k.state.edge_us clock)
     of (Some v) e = late_voted k.clock k.table (settled_at k.clock k.state clock) late v (edges_to_vote k.state.edge_us v.edge_us) (marked v e)
 
 module _ (new : Keeping) (start : ℕ) (begins : AreLinesAt new new (λ i. []) start start) where
@@ -161,7 +162,7 @@ module _ (t : TimelineValue) (edges : ℕ → ℕ) (early late : ℕ) (c : Clock
   says n b u beat e =
       let state = missed c.prefers_frames c.reader_rules table (n - 1) s.reader in
       let announces = ap (λ (x : Beat). x.report.announce) beat ∙ e in
-      let bound : bound_of c.drift_us v.bound_us (step_to c table s n (Some v.claim)).report.lock ≡ b.bound_us = ap (λ (x : Beat). x.bound_us) beat in
+      let bound : bound_of c.drift_us s.pace v.bound_us (step_to c table s n (Some v.claim)).report.lock ≡ b.bound_us = ap (λ (x : Beat). x.bound_us) beat in
       record {
         told = record {
           m = vote.truth.second + 1;
@@ -209,7 +210,11 @@ module _ (t : TimelineValue) (edges : ℕ → ℕ) (early late : ℕ) (k : Keepi
       (subst (λ (x : TableValue). Heals k.clock x) same.table (heals_here heard vote voted answer))
 
 module _ (IsTrue : ℕ → List Pulse → Type 0) (t : TimelineValue) (edges : ℕ → ℕ) (early late : ℕ) (new : Keeping) (start : ℕ) (begins : AreLinesAt new new (λ i. []) start start) (heard : IfHold new.state.reader HasHeardLate)
-    (is : IsDevice t new.clock.drift_us edges new.clock.reader_rules new.table) (room : early + late ≤ 3002) (truly : TellAlwaysTruly IsTrue new.clock new.rules t edges early late) where
+    (is : IsDevice t new.clock.drift_us edges new.clock.reader_rules new.table) (room : early + late ≤ 3002) (truly : TellAlwaysTruly IsTrue new.clock new.rules t edges early late) (plain : IsPlain new) where
+  -- it goes on from its last edge as it should
+  steps : (calls : List Call) → StepsIn edges early late new start calls
+  steps calls = plain_steps edges early late new start plain is.steady calls
+
   pub mended : (earlier : List Call) (mend : ℕ) (v : Vote) (b : Beat) → AreInOrder start new.clock.redundancy (Tick mend ∷ earlier) → AreTrueLately IsTrue (f_of new.clock.redundancy) mend earlier
       → vote_at (after_calls new earlier) (mend % 2 ^ 32) ≡ Some v → answer_at (after_calls new earlier) (mend % 2 ^ 32) ≡ Some b
       → Mends t new.clock.drift_us edges early late new.clock.reader_rules new.table mend (after_calls new (Tick mend ∷ earlier)).state b
@@ -229,8 +234,8 @@ module _ (IsTrue : ℕ → List Pulse → Type 0) (t : TimelineValue) (edges : �
   healed low earlier later mend now v b then u order lately truth voted answer answers says =
       let ordered = order_before start new.clock.redundancy later (Tick mend ∷ earlier) order.3 in
       let base = (mended earlier mend v b ordered lately voted answer).track in
-      let track = track_on IsTrue t edges early late new start begins is room truly 0 (Tick mend ∷ earlier) base later order.3 truth.1 in
-      let told = ((tick_in IsTrue t edges early late new start begins is room truly 0 (later ++ (Tick mend ∷ earlier)) now order truth.0 track).told then u answers says).told in
+      let track = track_on IsTrue t edges early late new start begins is room truly 0 (Tick mend ∷ earlier) base later order.3 truth.1 (steps (later ++ (Tick mend ∷ earlier))) in
+      let told = ((tick_in IsTrue t edges early late new start begins is room truly 0 (later ++ (Tick mend ∷ earlier)) now order truth.0 track (steps (Tick now ∷ (later ++ (Tick mend ∷ earlier)))).0).told then u answers says).told in
       let has = answer_bound new low (later ++ (Tick mend ∷ earlier)) (now % 2 ^ 32) in
       record { told = told; bound = has.bound then answers; few = has.few then answers }
 
@@ -244,7 +249,7 @@ module _ (IsTrue : ℕ → List Pulse → Type 0) (t : TimelineValue) (edges : �
     tick_since later now order here truth =
         let ordered = order_before start new.clock.redundancy later (Tick mend ∷ earlier) order.3 in
         let base = (mended earlier mend v b ordered lately voted answer).track in
-        tick_in IsTrue t edges early late new start begins is room truly 0 (later ++ (Tick mend ∷ earlier)) now order here (track_on IsTrue t edges early late new start begins is room truly 0 (Tick mend ∷ earlier) base later order.3 truth)
+        tick_in IsTrue t edges early late new start begins is room truly 0 (later ++ (Tick mend ∷ earlier)) now order here (track_on IsTrue t edges early late new start begins is room truly 0 (Tick mend ∷ earlier) base later order.3 truth (steps (later ++ (Tick mend ∷ earlier)))) (steps (Tick now ∷ (later ++ (Tick mend ∷ earlier)))).0
 
     -- what that tick announces, or a later one
     abbrev Newly : ℕ → List Call → Type 0
@@ -272,8 +277,8 @@ module _ (IsTrue : ℕ → List Pulse → Type 0) (t : TimelineValue) (edges : �
         let ordered = order_before start new.clock.redundancy later base order.3 in
         let one = newly first calls before are truth ordered x u told announces in
         let M : ℕ = one.told.m in
-        let track = track_on IsTrue t edges early late new start begins is room truly M base one.track later order.3 since.1 in
-        let two = (tick_in IsTrue t edges early late new start begins is room truly M (later ++ base) now order since.0 track).told y w answers again in
+        let track = track_on IsTrue t edges early late new start begins is room truly M base one.track later order.3 since.1 (steps (later ++ base)) in
+        let two = (tick_in IsTrue t edges early late new start begins is room truly M (later ++ base) now order since.0 track (steps (Tick now ∷ (later ++ base))).0).told y w answers again in
         record { m = M; n = two.told.m; less = two.later; before = one.told.truth; then = two.told.truth }
 
     -- no later tick tells a jump

@@ -68,7 +68,7 @@ says_last edge bound (Some w) u e = (record { second = w; edge_us = edge; bound_
 -- ---- a device
 
 module _ (rules : Rules) (clock : ClockRules) (table : TableValue) (lines : Lines) (start : ℕ) (fresh : AreNewLines lines) (IsTrue : ℕ → List Pulse → Type 0) (t : TimelineValue) (edges : ℕ → ℕ) (early late more : ℕ)
-    (is : IsDevice t clock.drift_us edges clock.reader_rules table) (room : early + late ≤ 3002) (low : early ≤ more) (high : late ≤ more) (truly : TellAlwaysTruly IsTrue clock rules t edges early late)
+    (is : IsDevice t clock.drift_us edges clock.reader_rules table) (room : early + late ≤ 3002) (low : early ≤ more) (high : late ≤ more) (truly : TellAlwaysTruly IsTrue clock rules t edges early late) (plain : clock.wander_ppb ≡ 0)
     (earlier : List Call) (mend : ℕ) (v : Vote) (b : Beat) (lately : AreTrueLately IsTrue (f_of clock.redundancy) mend earlier) where
   abbrev new : Keeping
   new = new_keeping rules clock table lines
@@ -104,7 +104,7 @@ module _ (rules : Rules) (clock : ClockRules) (table : TableValue) (lines : Line
     tells_mend : TellsSo rules clock table lines start fresh Told earlier mend
     tells_mend =
         tells_truly rules clock table lines start fresh t edges early late is earlier mend
-        (λ x u told announces. ((mended IsTrue t edges early late new start (begins rules clock table lines start fresh) tt is room truly earlier mend v x order lately voted told).told u announces).told)
+        (λ x u told announces. ((mended IsTrue t edges early late new start (begins rules clock table lines start fresh) tt is room truly (record { off = plain; none = refl }) earlier mend v x order lately voted told).told u announces).told)
 
     turns_old : (edge : ℕ) → IsEdgeAt b.edge_us edge mend → (a : Announced) → (state rules clock table lines start fresh base).before ≡ Some a → IsToldBefore AnyEdge IsToldAnyhow edge a → Before (state rules clock table lines start fresh base).last edge a
     unfolding Before
@@ -126,7 +126,7 @@ module _ (rules : Rules) (clock : ClockRules) (table : TableValue) (lines : Line
     tell_since (Hear port rise width ∷ later) ordered truth = tell_since later ordered.2 truth
     tell_since (Tick now ∷ later) ordered truth = (
       tells_truly rules clock table lines start fresh t edges early late is (later ++ base) now
-          (λ x u told announces. ((tick_since IsTrue t edges early late new start (begins rules clock table lines start fresh) tt is room truly earlier mend v b lately voted answer later now ordered truth.0 truth.1).told x u told announces).told),
+          (λ x u told announces. ((tick_since IsTrue t edges early late new start (begins rules clock table lines start fresh) tt is room truly (record { off = plain; none = refl }) earlier mend v b lately voted answer later now ordered truth.0 truth.1).told x u told announces).told),
       puts_truly rules clock table lines start fresh t edges early late is IsTrue room truly (later ++ base) now ordered truth.0,
       tell_since later ordered.3 truth.1,
     )

@@ -38,7 +38,9 @@ use Rattle.irig_lines.proofs.LineLaws.{kept_more}
 use Rattle.irig_lines.proofs.WholeLaws.{whole_of, AreSorted, whole_here, not_whole, begin_more, even_here}
 use Rattle.irig_timekeeper.proofs.VoteLaws.{TellsTruly, still, not_late}
 use Rattle.irig_timekeeper.proofs.BoundLaws.{answer_bound}
-use Rattle.irig_timekeeper.proofs.TrackLaws.{KeepsTrue, tick_true}
+use Rattle.irig_lines.specs.Paces.{IsSound}
+use Rattle.irig_timekeeper.proofs.SoundLaws.{none_sound, tick_sound}
+use Rattle.irig_timekeeper.proofs.TrackLaws.{StepsAt, KeepsTrue, tick_true}
 
 -- ---- one line
 
@@ -259,7 +261,7 @@ pub ticked : (k : Keeping) (clock : ℕ) → IsTicked k.state (after_tick k cloc
 ticked k clock = of (vote_at k clock)
   where
     of : (v : Option Vote) → IsTicked k.state (clock_by k.clock k.table (settled_at k.clock k.state clock) clock v) clock
-    of None = either_ticked k.state clock (edges_own k.state.edge_us clock == 0) _ _ (inl refl) (inl refl)
+    of None = either_ticked k.state clock (edges_own (settled_at k.clock k.state clock).pace k.state.edge_us clock == 0) _ _ (inl refl) (inl refl)
     of (Some v) = either_ticked k.state clock (edges_to_vote k.state.edge_us v.edge_us == 0) _ _ (inr refl) (inr refl)
 
 -- ---- what lines keep, after calls in order
@@ -273,6 +275,7 @@ pub record IsSameSetup (old new : Keeping) : Type 0 where
 pub record AreLinesAt (new k : Keeping) (pulses : ℕ → List Pulse) (tick now : ℕ) : Type 0 where
   pub same : IsSameSetup new k
   pub lines : (i : ℕ) → i < 5 → IsLineAt k.clock k.rules (heard_by k.heard i) (line_at k.state.lines i) (pulses i) tick now
+  pub sound : IsSound k.state.pace
 
 pub and_false : (a b : Bool) → b ≡ false → (a && b) ≡ false
 and_false true b e = e
@@ -282,6 +285,7 @@ lines_wait : (new k : Keeping) (pulses : ℕ → List Pulse) (tick now time : �
 lines_wait new k pulses tick now time l on = record {
   same = l.same;
   lines = λ i low. line_waits k.clock k.rules (heard_by k.heard i) (line_at k.state.lines i) (pulses i) tick now time (l.lines i low) on;
+  sound = l.sound;
 }
 
 module _ (new k : Keeping) (calls : List Call) (tick now port rise width : ℕ) (l : AreLinesAt new k (λ i. pulses_on i calls) tick now) where
@@ -294,6 +298,7 @@ module _ (new k : Keeping) (calls : List Call) (tick now port rise width : ℕ) 
         lines = λ i low.
             let none : pulses_on i calls ≡ pulses_on i (Hear port rise width ∷ calls) = rw (and_false (i == port) (is_pulse width) wide) refl in
             moved k.clock k.rules k.rules _ _ _ _ _ _ tick now refl refl refl none (l.lines i low);
+        sound = l.sound;
       })
 
   module _ (low : port < 5) (risen : rise ≤ now + 4000) (half : now + 504000 < tick + 1800000000) (narrow : is_pulse width ≡ true) (in_order : IsAfter (pulses_on port calls) rise × (tick ≤ rise + 500000)) where
@@ -333,6 +338,7 @@ module _ (new k : Keeping) (calls : List Call) (tick now port rise width : ℕ) 
         subst (λ (x : Keeping). AreLinesAt new x (λ i. pulses_on i (Hear port rise width ∷ calls)) tick now) more (record {
           same = record { rules = l.same.rules; clock = l.same.clock; table = l.same.table };
           lines = then;
+          sound = l.sound;
         })
 
 -- a tick
@@ -351,6 +357,7 @@ lines_tick new k calls tick now l order half = record {
             (ap line_taken (line_settles (now % 2 ^ 32) k.state.lines i low) ∙ line_takes (settled (now % 2 ^ 32) k.state.lines) i low ∙ ap (λ (x : Lines). line_at x i) (sym gives)) refl
             (line_gives k.clock k.rules _ _ _ now settles)
       ];
+  sound = tick_sound k l.sound (now % 2 ^ 32);
 }
 
 -- ---- a tick to come says by when pulses rose
@@ -405,6 +412,12 @@ lines_after new start begins (Tick time ∷ calls) now order =
 abbrev pub TellAlwaysTruly : (ℕ → List Pulse → Type 0) → ClockRules → Rules → TimelineValue → (ℕ → ℕ) → (early late : ℕ) → Type 0
 TellAlwaysTruly IsTrue c rules t edges early late = (now : ℕ) → TellsTruly (IsTrue now) c rules t edges early late now
 
+-- at each tick without a vote a device goes on from its last edge as it should
+abbrev pub StepsIn : (ℕ → ℕ) → (early late : ℕ) → Keeping → (start : ℕ) → List Call → Type 0
+StepsIn edges early late new start [] = Unit {0}
+StepsIn edges early late new start (Hear port rise width ∷ calls) = StepsIn edges early late new start calls
+StepsIn edges early late new start (Tick now ∷ calls) = StepsAt edges early late (after_calls new calls) (last_tick start calls) now × StepsIn edges early late new start calls
+
 module _ (IsTrue : ℕ → List Pulse → Type 0) (t : TimelineValue) (edges : ℕ → ℕ) (early late : ℕ) where
   -- a tick, by the setup that a device was made with
   module _ (new k : Keeping) (M tick now : ℕ) (pulses : ℕ → List Pulse) (order : tick ≤ now) (soon : now ≤ tick + 1800000000) (room : early + late ≤ 3002) where
@@ -412,14 +425,14 @@ module _ (IsTrue : ℕ → List Pulse → Type 0) (t : TimelineValue) (edges : �
     TicksTruly c table rules =
         TellsTruly (IsTrue now) c rules t edges early late now → IsDevice t c.drift_us edges c.reader_rules table → IsOnTrack t edges early late c.drift_us M c.reader_rules table tick k.state.reader k.state.bound_us k.state.edge_us
         → AreHeardTruly (IsTrue now) c rules (f_of c.redundancy) now k.state.lines pulses
-        → KeepsTrue t c.drift_us edges early late M c.reader_rules table now (after_tick k (now % 2 ^ 32)).state (answer_at k (now % 2 ^ 32))
+        → StepsAt edges early late k tick now → KeepsTrue t c.drift_us edges early late M c.reader_rules table now (after_tick k (now % 2 ^ 32)).state (answer_at k (now % 2 ^ 32))
 
     ticks_truly : IsSameSetup new k → TicksTruly new.clock new.table new.rules
     ticks_truly same =
         subst (λ (c : ClockRules). TicksTruly c new.table new.rules) same.clock
         (subst (λ (x : TableValue). TicksTruly k.clock x new.rules) same.table
         (subst (λ (r : Rules). TicksTruly k.clock k.table r) same.rules
-        (λ truly is on heard. tick_true (IsTrue now) t edges early late k M tick now pulses room truly is order soon on heard)))
+        (λ truly is on heard steps. tick_true (IsTrue now) t edges early late k M tick now pulses room truly is order soon on heard steps)))
 
   module _ (new : Keeping) (start : ℕ) (begins : AreLinesAt new new (λ i. []) start start) where
     -- what its lines brought, at a tick
@@ -443,22 +456,22 @@ module _ (IsTrue : ℕ → List Pulse → Type 0) (t : TimelineValue) (edges : �
 
     module _ (is : IsDevice t new.clock.drift_us edges new.clock.reader_rules new.table) (room : early + late ≤ 3002) (truly : TellAlwaysTruly IsTrue new.clock new.rules t edges early late) where
       -- what a tick answers in a life
-      pub tick_in : (M : ℕ) (calls : List Call) (now : ℕ) → AreInOrder start new.clock.redundancy (Tick now ∷ calls) → AreTrueLately IsTrue (f_of new.clock.redundancy) now calls → IsTrack M (last_tick start calls) (after_calls new calls)
+      pub tick_in : (M : ℕ) (calls : List Call) (now : ℕ) → AreInOrder start new.clock.redundancy (Tick now ∷ calls) → AreTrueLately IsTrue (f_of new.clock.redundancy) now calls → IsTrack M (last_tick start calls) (after_calls new calls) → StepsAt edges early late (after_calls new calls) (last_tick start calls) now
           → KeepsTrue t new.clock.drift_us edges early late M new.clock.reader_rules new.table now (after_tick (after_calls new calls) (now % 2 ^ 32)).state (answer_at (after_calls new calls) (now % 2 ^ 32))
-      tick_in M calls now order lately track =
+      tick_in M calls now order lately track steps =
           let l = lines_after new start begins calls now order in
-          ticks_truly new (after_calls new calls) M (last_tick start calls) now (λ i. pulses_on i calls) order.0 (omega (arith, order.1)) room l.same (truly now) is track (heard_truly calls now order lately)
+          ticks_truly new (after_calls new calls) M (last_tick start calls) now (λ i. pulses_on i calls) order.0 (omega (arith, order.1)) room l.same (truly now) is track (heard_truly calls now order lately) steps
 
       hears_on : (M tick port rise width : ℕ) (k : Keeping) → IsTrack M tick k → IsTrack M tick (after_pulse k port (rise % 2 ^ 32) width)
       hears_on M tick port rise width k track = elim (cases_Bool (is_pulse width)) [ inl narrow ↦ rw narrow track | inr wide ↦ rw wide track ]
 
       -- from where it stands behind some calls
       pub track_on : (M : ℕ) (base : List Call) → IsTrack M (last_tick start base) (after_calls new base) → (later : List Call) → AreInOrder start new.clock.redundancy (later ++ base)
-          → AreTrueOver IsTrue (f_of new.clock.redundancy) later base → IsTrack M (last_tick start (later ++ base)) (after_calls new (later ++ base))
-      track_on M base track [] order truth = track
-      track_on M base track (Hear port rise width ∷ later) order truth =
-          hears_on M (last_tick start (later ++ base)) port rise width (after_calls new (later ++ base)) (track_on M base track later order.2 truth)
-      track_on M base track (Tick now ∷ later) order truth = (tick_in M (later ++ base) now order truth.0 (track_on M base track later order.3 truth.1)).track
+          → AreTrueOver IsTrue (f_of new.clock.redundancy) later base → StepsIn edges early late new start (later ++ base) → IsTrack M (last_tick start (later ++ base)) (after_calls new (later ++ base))
+      track_on M base track [] order truth steps = track
+      track_on M base track (Hear port rise width ∷ later) order truth steps =
+          hears_on M (last_tick start (later ++ base)) port rise width (after_calls new (later ++ base)) (track_on M base track later order.2 truth steps)
+      track_on M base track (Tick now ∷ later) order truth steps = (tick_in M (later ++ base) now order truth.0 (track_on M base track later order.3 truth.1 steps.1) steps.0).track
 
 -- ---- one announcement and a later one
 
@@ -472,6 +485,11 @@ pub truth_before : (IsTrue : ℕ → List Pulse → Type 0) (f : ℕ) (later bas
 truth_before IsTrue f [] base truth = truth
 truth_before IsTrue f (Hear port rise width ∷ later) base truth = truth_before IsTrue f later base truth
 truth_before IsTrue f (Tick now ∷ later) base truth = truth_before IsTrue f later base truth.1
+
+pub steps_before : (edges : ℕ → ℕ) (early late : ℕ) (new : Keeping) (start : ℕ) (later base : List Call) → StepsIn edges early late new start (later ++ base) → StepsIn edges early late new start base
+steps_before edges early late new start [] base steps = steps
+steps_before edges early late new start (Hear port rise width ∷ later) base steps = steps_before edges early late new start later base steps
+steps_before edges early late new start (Tick now ∷ later) base steps = steps_before edges early late new start later base steps.1
 
 pub truth_over : (IsTrue : ℕ → List Pulse → Type 0) (f : ℕ) (later base : List Call) → AreTrueAtTicks IsTrue f (later ++ base) → AreTrueOver IsTrue f later base
 truth_over IsTrue f [] base truth = tt
@@ -517,38 +535,40 @@ module _ (rules : Rules) (clock : ClockRules) (table : TableValue) (lines : Line
   begins = record {
     same = record { rules = refl; clock = refl; table = refl };
     lines = λ i low. moved clock rules rules _ _ _ _ _ _ start start refl (sym (nothing_by i low)) refl refl (new_line clock rules (line_at lines i) start (each_new lines fresh i low));
+    sound = none_sound;
   }
 
   module _ (IsTrue : ℕ → List Pulse → Type 0) (t : TimelineValue) (edges : ℕ → ℕ) (early late : ℕ) (is : IsDevice t clock.drift_us edges clock.reader_rules table) (room : early + late ≤ 3002) (truly : TellAlwaysTruly IsTrue clock rules t edges early late) where
     -- where it stands, and what a tick answers
-    pub ticks : (calls : List Call) (now : ℕ) → AreInOrder start clock.redundancy (Tick now ∷ calls) → AreTrueAtTicks IsTrue (f_of clock.redundancy) (Tick now ∷ calls)
+    pub ticks : (calls : List Call) (now : ℕ) → AreInOrder start clock.redundancy (Tick now ∷ calls) → AreTrueAtTicks IsTrue (f_of clock.redundancy) (Tick now ∷ calls) → StepsIn edges early late new start (Tick now ∷ calls)
         → KeepsTrue t clock.drift_us edges early late 0 clock.reader_rules table now (after_tick (after_calls new calls) (now % 2 ^ 32)).state (answer_at (after_calls new calls) (now % 2 ^ 32))
-    ticks calls now order truth =
+    ticks calls now order truth steps =
         let none : calls ++ [] ≡ calls = append-nil calls in
         let all = subst (AreTrueAtTicks IsTrue (f_of clock.redundancy)) (sym none) truth.1 in
-        let track = track_on IsTrue t edges early late new start begins is room truly 0 [] (refl, refl) calls (subst (AreInOrder start clock.redundancy) (sym none) order.3) (truth_over IsTrue (f_of clock.redundancy) calls [] all) in
-        tick_in IsTrue t edges early late new start begins is room truly 0 calls now order truth.0 (subst (λ (x : List Call). IsTrack IsTrue t edges early late new start begins 0 (last_tick start x) (after_calls new x)) none track)
+        let track = track_on IsTrue t edges early late new start begins is room truly 0 [] (refl, refl) calls (subst (AreInOrder start clock.redundancy) (sym none) order.3) (truth_over IsTrue (f_of clock.redundancy) calls [] all) (subst (StepsIn edges early late new start) (sym none) steps.1) in
+        tick_in IsTrue t edges early late new start begins is room truly 0 calls now order truth.0 (subst (λ (x : List Call). IsTrack IsTrue t edges early late new start begins 0 (last_tick start x) (after_calls new x)) none track) steps.0
 
-    pub device_true : (calls : List Call) (now : ℕ) (b : Beat) (u : UtcSecond) → AreInOrder start clock.redundancy (Tick now ∷ calls) → AreTrueAtTicks IsTrue (f_of clock.redundancy) (Tick now ∷ calls)
+    pub device_true : (calls : List Call) (now : ℕ) (b : Beat) (u : UtcSecond) → AreInOrder start clock.redundancy (Tick now ∷ calls) → AreTrueAtTicks IsTrue (f_of clock.redundancy) (Tick now ∷ calls) → StepsIn edges early late new start (Tick now ∷ calls)
         → answer_at (after_calls new calls) (now % 2 ^ 32) ≡ Some b → b.report.announce ≡ Some u → IsToldInHoldover t edges early late clock now b u
-    device_true calls now b u order truth answer says =
+    device_true calls now b u order truth steps answer says =
         let has = answer_bound new (omega arith) calls (now % 2 ^ 32) in
-        record { told = ((ticks calls now order truth).told b u answer says).told; bound = has.bound b answer; few = has.few b answer }
+        record { told = ((ticks calls now order truth steps).told b u answer says).told; bound = has.bound b answer; few = has.few b answer }
 
-    pub device_calm : (calls : List Call) (now : ℕ) (b : Beat) → AreInOrder start clock.redundancy (Tick now ∷ calls) → AreTrueAtTicks IsTrue (f_of clock.redundancy) (Tick now ∷ calls)
+    pub device_calm : (calls : List Call) (now : ℕ) (b : Beat) → AreInOrder start clock.redundancy (Tick now ∷ calls) → AreTrueAtTicks IsTrue (f_of clock.redundancy) (Tick now ∷ calls) → StepsIn edges early late new start (Tick now ∷ calls)
         → answer_at (after_calls new calls) (now % 2 ^ 32) ≡ Some b → ¬ (b.report.cause ≡ cause.Jump)
-    device_calm calls now b order truth answer = (ticks calls now order truth).calm b answer
+    device_calm calls now b order truth steps answer = (ticks calls now order truth steps).calm b answer
 
     pub device_in_order : (earlier later : List Call) (before now : ℕ) (b b' : Beat) (u u' : UtcSecond) → AreInOrder start clock.redundancy (Tick now ∷ (later ++ (Tick before ∷ earlier)))
-        → AreTrueAtTicks IsTrue (f_of clock.redundancy) (Tick now ∷ (later ++ (Tick before ∷ earlier)))
+        → AreTrueAtTicks IsTrue (f_of clock.redundancy) (Tick now ∷ (later ++ (Tick before ∷ earlier))) → StepsIn edges early late new start (Tick now ∷ (later ++ (Tick before ∷ earlier)))
         → answer_at (after_calls new earlier) (before % 2 ^ 32) ≡ Some b → b.report.announce ≡ Some u
         → answer_at (after_calls new (later ++ (Tick before ∷ earlier))) (now % 2 ^ 32) ≡ Some b' → b'.report.announce ≡ Some u' → IsLaterSecond t u u'
-    device_in_order earlier later before now b b' u u' order truth answer says answer' says' =
+    device_in_order earlier later before now b b' u u' order truth steps answer says answer' says' =
+        let steps_first = steps_before edges early late new start later (Tick before ∷ earlier) steps.1 in
         let base : List Call = Tick before ∷ earlier in
         let ordered = order_before start clock.redundancy later base order.3 in
         let true_so_far = truth_before IsTrue (f_of clock.redundancy) later base truth.1 in
-        let first = (ticks earlier before ordered true_so_far).told b u answer says in
+        let first = (ticks earlier before ordered true_so_far steps_first).told b u answer says in
         let M : ℕ = first.told.m in
-        let track = track_on IsTrue t edges early late new start begins is room truly M base first.track later order.3 (truth_over IsTrue (f_of clock.redundancy) later base truth.1) in
-        let second = (tick_in IsTrue t edges early late new start begins is room truly M (later ++ base) now order truth.0 track).told b' u' answer' says' in
+        let track = track_on IsTrue t edges early late new start begins is room truly M base first.track later order.3 (truth_over IsTrue (f_of clock.redundancy) later base truth.1) steps.1 in
+        let second = (tick_in IsTrue t edges early late new start begins is room truly M (later ++ base) now order truth.0 track steps.0).told b' u' answer' says' in
         record { m = M; n = second.told.m; less = second.later; before = first.told.truth; then = second.told.truth }

@@ -1,5 +1,5 @@
 -- Beats are votes of irig_reader's rule, so that its laws of votes are laws of beats.
-use Rattle.std.proofs.Common.{◌≡◌, ◌∙◌, ℕ, zero, suc, ◌+◌, ◌*◌, ◌≤◌, ◌-◌, List, [], ◌∷◌, Option, Some, None, ap, arith, Bool, true, refl, sym, inl}
+use Rattle.std.proofs.Common.{◌≡◌, ◌∙◌, ℕ, zero, suc, ◌+◌, ◌≤◌, ◌-◌, List, [], ◌∷◌, Option, Some, None, ap, arith, Bool, true, refl, sym, inl}
 use Rattle.irig_time.specs.declared.second.UtcSecond.{UtcSecond}
 use Rattle.irig_time.specs.declared.claim.Claim.{Claim}
 use Rattle.irig_time.specs.Tables.{TableValue}
@@ -14,6 +14,8 @@ use Rattle.irig_reader.specs.Rule.{step_of, state_of, report_of}
 use Rattle.irig_reader.proofs.TrueVotesInARow.{locked_by_true_votes}
 use Rattle.irig_lines.specs.declared.lines.Vote.{Vote}
 use Rattle.irig_timekeeper.specs.Rule.{missed, step_behind, against_table, step_checked}
+use Rattle.irig_lines.specs.Paces.{grown_us}
+use Rattle.irig_lines.proofs.PaceLaws.{none_grown}
 use Rattle.irig_timekeeper.specs.Clock.{bound_of, answer_to_vote}
 use Rattle.irig_lines.specs.Steps.{tells_of}
 use Rattle.irig_timekeeper.specs.Keeping.{Keeping}
@@ -66,6 +68,6 @@ beats_lock t n k vote before earlier u sound follows some silent there stands ar
     let head : Some vote.claim ≡ truth_at t (n + (rules.lock_after - 1)) = newest t n rules.lock_after some (Some vote.claim) before earlier are in
     let passed = passes_truth t k.clock.prefers_frames rules k.table follows (n + (rules.lock_after - 1)) k.state.reader vote.claim (sym head) in
     let report = ap (λ (x : Step). x.report) passed ∙ ap (λ (s : State). (step_of rules k.table s (Some vote.claim)).report) stands ∙ reports in
-    let bound : vote.bound_us + 0 * k.clock.drift_us ≡ vote.bound_us = omega arith in
-    ap (λ (r : Report). Some (record { report = r; told = tells_of k.state.lines; edge_us = vote.edge_us; bound_us = bound_of k.clock.drift_us vote.bound_us r.lock; missed = 0; moved = k.state.moved; against_table = against_table k.table (Some vote.claim) })) report
+    let bound : vote.bound_us + grown_us k.clock.drift_us k.state.pace 0 ≡ vote.bound_us = omega (arith, none_grown k.clock.drift_us k.state.pace) in
+    ap (λ (r : Report). Some (record { report = r; told = tells_of k.state.lines; edge_us = vote.edge_us; bound_us = bound_of k.clock.drift_us k.state.pace vote.bound_us r.lock; missed = 0; moved = k.state.moved; against_table = against_table k.table (Some vote.claim) })) report
     ∙ ap (λ (b : ℕ). Some (record { report = voted_report u; told = tells_of k.state.lines; edge_us = vote.edge_us; bound_us = b; missed = 0; moved = k.state.moved; against_table = against_table k.table (Some vote.claim) })) bound

@@ -7,14 +7,17 @@ use Rattle.irig_lines.specs.declared.interval.Interval.{Interval}
 use Rattle.irig_lines.specs.declared.rate.Anchor.{Anchor}
 use Rattle.irig_lines.specs.declared.rate.Anchors.{Anchors}
 use Rattle.irig_lines.specs.declared.rate.Rate.{Rate}
-use Rattle.irig_lines.specs.Edges.{IsQuartz}
+use Rattle.irig_lines.specs.Edges.{IsQuartz, IsNear}
+use Rattle.irig_lines.specs.Exactness.{most_held_us, most_vote_us}
+use Rattle.irig_lines.specs.declared.pace.Pace.{Pace}
 use Rattle.irig_lines.specs.Lines.{IsTrueLately}
 use Rattle.irig_lines.specs.declared.lines.Vote.{Vote}
 use Rattle.irig_lines.specs.Counting.{edges_own, edges_to_vote}
 use Rattle.irig_lines.specs.Intervals.{by_vote, carried_on, contradicts}
 use Rattle.irig_lines.specs.Rates.{no_anchors, anchors_on, mean_since, rate_of, serving}
 use Rattle.irig_lines.proofs.RateLaws.{AreRound, mean_is}
-use Rattle.irig_timekeeper.specs.Truth.{IsEdgeAt}
+use Rattle.irig_timekeeper.specs.Truth.{IsEdgeAt, age_of}
+use Rattle.irig_lines.specs.declared.setup.ClockRules.{ClockRules}
 use Rattle.irig_timekeeper.specs.Measures.{IsMeasured}
 use Rattle.irig_timekeeper.specs.declared.clock.ClockState.{ClockState}
 use Rattle.irig_timekeeper.specs.Clock.{after_own, clock_by, is_unsteady, known_then, settled_at}
@@ -54,10 +57,10 @@ module _ (d : ℕ) (edges : ℕ → ℕ) (quartz : IsQuartz d edges) (tick : ℕ
           edge = edge;
           told = refl;
           at = at;
-          near = record {
-            least = omega (arith, around.most, h.behind, h.grown, h.short);
-            most = omega (arith, around.least, h.before, h.grown, h.short);
-          };
+          near = subst (λ (i : ℕ). IsNear edges (most_vote_us + most_held_us) (most_vote_us + most_held_us) i edge) (sym p.since) (record {
+            least = omega (arith, h.near.least, h.grown, h.short);
+            most = omega (arith, h.near.most, h.grown, h.short);
+          });
         }
 
         of : (none : Bool) → (a.seconds == 0) ≡ none → cond none None (Some (mean_since a x)) ≡ Some rate → IsMeasured edges tick (Some e) rate
@@ -66,16 +69,16 @@ module _ (d : ℕ) (edges : ℕ → ℕ) (quartz : IsQuartz d edges) (tick : ℕ
             let same : mean_since a x ≡ rate = cc in
             subst (IsMeasured edges tick (Some e)) same (measured (omega (arith, eqb-false a.seconds 0 some)))
 
-  by_edge : (o : Option ℕ) (known : Option Interval) (anchors : Anchors) → IfEdge edges tick o known anchors → rate_of known (serving anchors) ≡ Some rate → IsMeasured edges tick o rate
-  by_edge None known anchors none is = let nothing : None ≡ Some rate = rw none at is in absurd cc
-  by_edge (Some e) None anchors h is = absurd cc
-  by_edge (Some e) (Some x) anchors h is = by_anchor e h.0 h.1 h.2 x h.3 (serving anchors) (is_served edges h.1 anchors h.4) is
+  by_edge : (c : ClockRules) (o : Option ℕ) (known : Option Interval) (anchors : Anchors) (age voted : ℕ) (pace : Option Pace) → IfEdge edges c tick o known anchors age voted pace → rate_of known (serving anchors) ≡ Some rate → IsMeasured edges tick o rate
+  by_edge c None known anchors age voted pace none is = let nothing : None ≡ Some rate = rw none.0 at is in absurd cc
+  by_edge c (Some e) None anchors age voted pace h is = absurd cc
+  by_edge c (Some e) (Some x) anchors age voted pace h is = by_anchor e h.0 h.1 h.2 x h.3 (serving anchors) (is_served edges h.1 anchors h.4) is
 
 pub measures_truly : (t : TimelineValue) (edges : ℕ → ℕ) (made : Made) (start : ℕ) (calls : List Call) (rate : Rate) → LivesTruly (IsTrueLately made.clock.within.us) t edges made start calls
     → rate_at (life_of made calls) ≡ Some rate → IsMeasured edges (last_tick start calls) (life_of made calls).state.edge_us rate
 measures_truly t edges made start calls rate lives is =
     let s = (life_of made calls).state in
-    by_edge made.clock.drift_us edges lives.is.steady (last_tick start calls) rate s.edge_us s.interval s.anchors (knows t edges made start calls lives).known is
+    by_edge made.clock.drift_us edges lives.is.steady (last_tick start calls) rate (life_of made calls).clock s.edge_us s.interval s.anchors (age_of s.reader) s.bound_us s.pace (knows t edges made start calls lives).known is
 
 -- ---- behind a tick at which a vote contradicts those before it, or frames tell that the counter is
 -- unsteady, nothing is measured: no anchor serves, or one of that second
@@ -100,9 +103,9 @@ begins_anew k clock = of (vote_at k clock) refl
     of : (o : Option Vote) → o ≡ vote_at k clock → ¬ ((clock_by k.clock k.table s clock o).strays ≡ k.state.strays)
         → rate_of (clock_by k.clock k.table s clock o).interval (serving (clock_by k.clock k.table s clock o).anchors) ≡ None
     of None at other =
-        let n = edges_own k.state.edge_us clock in
+        let n = edges_own s.pace k.state.edge_us clock in
         elim (cases_Bool (is_unsteady k.clock k.state clock)) [
-          | inl unsteady ↦ rw unsteady (none_serves n (carried_on k.clock.drift_us n k.state.interval))
+          | inl unsteady ↦ rw unsteady (none_serves (edges_own None k.state.edge_us clock) (carried_on k.clock.drift_us (edges_own None k.state.edge_us clock) k.state.interval))
           | inr even ↦ (let same : s.strays ≡ k.state.strays = rw even refl in absurd (other (stays n ∙ same)))
         ]
     of (Some v) at other =

@@ -21,7 +21,7 @@ use Rattle.irig_timekeeper.specs.declared.clock.Beat.{Beat}
 use Rattle.irig_lines.specs.declared.setup.ClockRules.{ClockRules}
 use Rattle.irig_timekeeper.specs.declared.clock.ClockState.{ClockState}
 use Rattle.irig_lines.specs.Lines.{IfKept}
-use Rattle.irig_lines.specs.Counting.{edges_between, edge_behind, is_late, has_come, edges_to_vote, edges_own}
+use Rattle.irig_lines.specs.Counting.{edges_between, is_late, has_come, edges_to_vote, edges_own}
 use Rattle.irig_lines.specs.Widths.{widest_us, reach_us}
 use Rattle.irig_lines.specs.Steps.{is_pulse, line_at, claim_kept, still_kept, line_taken, settled, taken, all_kept, first_us, last_us, agrees, is_candidate, first_candidate, agreed}
 use Rattle.irig_timekeeper.specs.Clock.{step_to, beat_by, after_vote, answer_to_vote, after_own, answer_alone, own_edge, clock_by, answer_by, settled_at}
@@ -34,7 +34,9 @@ use Rattle.irig_lines.proofs.PartLaws.{IsHalf, half_kept, one_more, agreeing_is,
 use Rattle.irig_lines.proofs.WidthLaws.{widest_few, reach_few}
 use Rattle.irig_timekeeper.proofs.VoteLaws.{still, come, exact_time, frame_settled, not_late, last_late}
 use Rattle.irig_lines.proofs.WholeLaws.{whole_of, AreSorted, whole_here, not_whole, whole_apart}
-use Rattle.irig_timekeeper.proofs.TimeLaws.{own_count, still_edge, own_edge_at, voted_count, same_edge}
+use Rattle.irig_lines.specs.Paces.{ahead_us, edge_on}
+use Rattle.irig_timekeeper.proofs.SoundLaws.{settled_sound}
+use Rattle.irig_timekeeper.proofs.TimeLaws.{own_count, still_edge, own_edge_at, voted_count, same_edge, lasts_so}
 use Rattle.irig_timekeeper.proofs.LifeLaws.{AreLinesAt, IsEndAt, line_soon, lines_after, order_before, ticked, line_takes, line_same, line_other, own_pulses, others_pulses, no_pulse, has_risen, unheard}
 use Rattle.irig_timekeeper.specs.Rule.{against_table}
 
@@ -567,28 +569,30 @@ module _ (new : Keeping) (start : ℕ) (begins : AreLinesAt new new (λ i. []) s
     }
 
     -- by the own counter
-    own : (o : Option ℕ) → IsPaced A calls o → (n : ℕ) → n ≡ edges_own o (now % 2 ^ 32) → IsPacedTick A now calls (after_own k.clock k.table (record s { edge_us = o }) n).edge_us (answer_alone k.clock k.table (record s { edge_us = o }) n)
+    own : (o : Option ℕ) → IsPaced A calls o → (n : ℕ) → n ≡ edges_own s.pace o (now % 2 ^ 32) → IsPacedTick A now calls (after_own k.clock k.table (record s { edge_us = o }) n).edge_us (answer_alone k.clock k.table (record s { edge_us = o }) n)
     own None paced n same =
         let none : (n == 0) ≡ true = ap (λ (x : ℕ). x == 0) same in
         rw none (record { next = paced; told = λ b e. absurd cc })
     own (Some e) paced n same =
         let edge : ℕ = paced.0 in
         let at = paced.1 in
-        let count = same ∙ own_count tick now ordered soon e edge at in
+        let count = same ∙ own_count tick now ordered soon e edge at s.pace in
         elim (cases_Bool (n == 0)) [
           | inl waits ↦
               let none : n ≡ 0 = eqb-true n 0 waits in
               let stays : (A ≤ edge) ⊎ ((A ≤ edge + 103000) × IsSetByVote edge (Tick now ∷ calls)) = elim paced.2 [ inl low ↦ inl low | inr set ↦ inr (set.0, set_before edge (Tick now) calls set.1) ] in
-              rw waits (record { next = (edge, still_edge tick now ordered soon e edge at (sym count ∙ none), stays); told = λ b e. absurd cc })
+              rw waits (record { next = (edge, still_edge tick now ordered soon e edge at s.pace (sym count ∙ none), stays); told = λ b e. absurd cc })
           | inr more ↦
               let some : 1 ≤ n = omega (arith, eqb-false n 0 more) in
               let near : A ≤ edge + 103000 = elim paced.2 [ inl low ↦ omega (arith, low) | inr set ↦ set.0 ] in
-              let then = own_edge_at tick now ordered soon e edge at n count some in
+              let sound = settled_sound k (lines_after new start begins calls now order).sound (now % 2 ^ 32) in
+              let then = own_edge_at tick now ordered soon e edge at s.pace sound n count some in
+              let long = (lasts_so s.pace sound n).least in
               rw more (record {
-                next = (edge + n * 1000000, then, inl (omega (arith, near, some)));
+                next = (edge + ahead_us s.pace n, then, inl (omega (arith, near, some, long)));
                 told = λ b answer.
-                    let beat : b ≡ beat_by k.clock (record s { edge_us = Some e }) false (step_to k.clock k.table (record s { edge_us = Some e }) n None) (n - 1) (own_edge (Some e) n) s.bound_us = cc in
-                    tells (edge_behind e n) (edge + n * 1000000) b then (omega (arith, some)) (inr (omega (arith, near, some))) (ap (λ (x : Beat). x.edge_us) beat);
+                    let beat : b ≡ beat_by k.clock (record s { edge_us = Some e }) false (step_to k.clock k.table (record s { edge_us = Some e }) n None) (n - 1) (own_edge s.pace (Some e) n) s.bound_us = cc in
+                    tells (edge_on s.pace e n) (edge + ahead_us s.pace n) b then (omega (arith, some, long)) (inr (omega (arith, near, some, long))) (ap (λ (x : Beat). x.edge_us) beat);
               })
         ]
 

@@ -24,7 +24,8 @@ use Rattle.irig_timekeeper.specs.Rows.{AreToldLast, TellNothing}
 use Rattle.irig_timekeeper.specs.Stamps.{first_stamp, next_us, serves, stamp_by, stamp_of}
 use Rattle.irig_lines.specs.Steps.{AreNewLines}
 use Rattle.irig_timekeeper.specs.Truth.{IsDevice, IsToldTruly}
-use Rattle.irig_timekeeper.proofs.LifeLaws.{TellAlwaysTruly, device_true, order_before, truth_before, truth_over}
+use Rattle.irig_timekeeper.proofs.LearnLaws.{IsPlain}
+use Rattle.irig_timekeeper.proofs.LifeLaws.{StepsIn, TellAlwaysTruly, device_true, order_before, steps_before, truth_before, truth_over}
 use Rattle.irig_lines.proofs.ReachLaws.{ComesBy, IsPut, close}
 use Rattle.irig_timekeeper.proofs.HealLaws.{newly}
 use Rattle.irig_timekeeper.proofs.TimeLaws.{same_edge}
@@ -163,24 +164,25 @@ module _ (rules : Rules) (clock : ClockRules) (table : TableValue) (lines : Line
       (stood new start (begun rules clock table lines start fresh) Put edge mid so.fresh.x so.fresh.is) (subst (λ (m : ℕ). ComesBy Put m so.fresh.x next) none comes)
 
   -- in a life that is true at each tick
-  pub in_a_row : (calls : List Call) (beat then : Beat) (edge next : ℕ) (u : UtcSecond) → AreInOrder start clock.redundancy calls → AreTrueAtTicks IsTrue (f_of clock.redundancy) calls → AreToldLast new calls beat then edge next
+  pub in_a_row : (calls : List Call) (beat then : Beat) (edge next : ℕ) (u : UtcSecond) → AreInOrder start clock.redundancy calls → AreTrueAtTicks IsTrue (f_of clock.redundancy) calls → StepsIn edges early late new start calls → AreToldLast new calls beat then edge next
       → beat.report.announce ≡ Some u → then.missed ≡ 0 → next < edge + 1500000
-  in_a_row calls beat then edge next u order truth row says none =
+  in_a_row calls beat then edge next u order truth steps row says none =
       let base : List Call = Tick row.before ∷ row.earlier in
       let mid : List Call = Tick row.now ∷ (row.between ++ base) in
       let ordered = order_before start clock.redundancy row.later mid (subst (AreInOrder start clock.redundancy) row.are order) in
       let true_so_far = truth_before IsTrue (f_of clock.redundancy) row.later mid (subst (AreTrueAtTicks IsTrue (f_of clock.redundancy)) row.are truth) in
       let at_base = order_before start clock.redundancy row.between base ordered.3 in
       let true_base = truth_before IsTrue (f_of clock.redundancy) row.between base true_so_far.1 in
-      let told = (device_true rules clock table lines start fresh IsTrue t edges early late is room truly row.earlier row.before beat u at_base true_base row.told says).told in
+      let steps_base = steps_before edges early late new start row.between base (steps_before edges early late new start row.later mid (subst (StepsIn edges early late new start) row.are steps)).1 in
+      let told = (device_true rules clock table lines start fresh IsTrue t edges early late is room truly row.earlier row.before beat u at_base true_base steps_base row.told says).told in
       told_in_a_row calls beat then edge next u row ordered (true_so_far.0, truth_over IsTrue (f_of clock.redundancy) row.between base true_so_far.1) told says none
 
   -- in one that is so since a vote
   pub in_a_row_since : (calls : List Call) (beat then : Beat) (edge next : ℕ) (u : UtcSecond) (row : AreToldLast new calls beat then edge next) (earlier later : List Call) (mend : ℕ) (v : Vote) (b : Beat) → AreTrueLately IsTrue (f_of clock.redundancy) mend earlier
       → vote_at (after_calls new earlier) (mend % 2 ^ 32) ≡ Some v → answer_at (after_calls new earlier) (mend % 2 ^ 32) ≡ Some b → Tick row.before ∷ row.earlier ≡ later ++ (Tick mend ∷ earlier) → AreTrueOver IsTrue (f_of clock.redundancy) later (Tick mend ∷ earlier)
-      → AreInOrder start clock.redundancy (Tick row.now ∷ (row.between ++ (Tick row.before ∷ row.earlier))) → AreTrueOver IsTrue (f_of clock.redundancy) (Tick row.now ∷ row.between) (Tick row.before ∷ row.earlier) → beat.report.announce ≡ Some u → then.missed ≡ 0 → next < edge + 1500000
-  in_a_row_since calls beat then edge next u row earlier later mend v b lately voted answer are since ordered truth says none =
+      → AreInOrder start clock.redundancy (Tick row.now ∷ (row.between ++ (Tick row.before ∷ row.earlier))) → AreTrueOver IsTrue (f_of clock.redundancy) (Tick row.now ∷ row.between) (Tick row.before ∷ row.earlier) → IsPlain new → beat.report.announce ≡ Some u → then.missed ≡ 0 → next < edge + 1500000
+  in_a_row_since calls beat then edge next u row earlier later mend v b lately voted answer are since ordered truth plain says none =
       let base : List Call = Tick row.before ∷ row.earlier in
       let at_base = order_before start clock.redundancy row.between base ordered.3 in
-      let told = (newly IsTrue t edges early late new start (begun rules clock table lines start fresh) tt is room truly earlier mend v b lately voted answer later row.earlier row.before are since at_base beat u row.told says).told in
+      let told = (newly IsTrue t edges early late new start (begun rules clock table lines start fresh) tt is room truly plain earlier mend v b lately voted answer later row.earlier row.before are since at_base beat u row.told says).told in
       told_in_a_row calls beat then edge next u row ordered truth told says none

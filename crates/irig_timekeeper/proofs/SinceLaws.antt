@@ -149,7 +149,7 @@ module _ (c : ClockRules) (table : TableValue) (s : ClockState) (since : ℕ) (a
       }
 
   since_own : (n : ℕ) → IsSinceTick since (after_own c table s n) (answer_alone c table s n)
-  since_own n = elim (cases_Bool (n == 0)) [ inl none ↦ rw none (waits s refl) | inr some ↦ rw some (tells n (own_edge s.edge_us n) s.bound_us None _ refl) ]
+  since_own n = elim (cases_Bool (n == 0)) [ inl none ↦ rw none (waits s refl) | inr some ↦ rw some (tells n (own_edge s.pace s.edge_us n) s.bound_us None _ refl) ]
 
   since_voted : (v : Vote) (n : ℕ) → IsSinceTick since (after_vote c table s v n) (answer_to_vote c table s v n)
   since_voted v n = elim (cases_Bool (n == 0)) [ inl none ↦ rw none (waits _ refl) | inr some ↦ rw some (tells n v.edge_us v.bound_us (Some v.claim) _ refl) ]
@@ -161,7 +161,7 @@ since_tick k clock since aged = of (vote_at k clock)
     s = settled_at k.clock k.state clock
 
     of : (o : Option Vote) → IsSinceTick since (clock_by k.clock k.table s clock o) (answer_by k.clock k.table s clock o)
-    of None = let h = since_own k.clock k.table s since aged (edges_own k.state.edge_us clock) in record { aged = h.aged; lasts = h.lasts }
+    of None = let h = since_own k.clock k.table s since aged (edges_own s.pace k.state.edge_us clock) in record { aged = h.aged; lasts = h.lasts }
     of (Some v) = let h = since_voted k.clock k.table s since aged v (edges_to_vote k.state.edge_us v.edge_us) in record { aged = h.aged; lasts = h.lasts }
 
 -- ---- a life

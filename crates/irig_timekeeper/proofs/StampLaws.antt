@@ -20,7 +20,7 @@ use Rattle.irig_lines.specs.declared.setup.ClockRules.{ClockRules}
 use Rattle.irig_timekeeper.specs.declared.clock.ClockState.{ClockState}
 use Rattle.irig_lines.specs.Edges.{IsQuartz, IsNear}
 use Rattle.irig_lines.specs.Exactness.{most_drift_us, most_held_us, most_vote_us}
-use Rattle.irig_lines.specs.Counting.{edge_behind, edges_between, edges_to_vote, edges_own}
+use Rattle.irig_lines.specs.Counting.{edges_between, edges_to_vote, edges_own}
 use Rattle.irig_lines.specs.Steps.{agreed, if_come, is_pulse, settled}
 use Rattle.irig_timekeeper.specs.Clock.{lasted, announced_at, still_serves, step_to, beat_by, after_vote, answer_to_vote, after_own, answer_alone, own_edge, clock_by, answer_by, settled_at}
 use Rattle.irig_timekeeper.specs.Stamps.{next_us, stamp_by, first_stamp, stamp_of}
@@ -30,10 +30,12 @@ use Rattle.irig_timekeeper.specs.Life.{Call, after_calls, last_tick, pulses_on, 
 use Rattle.irig_timekeeper.specs.Life.Call.{Hear, Tick}
 use Rattle.irig_timekeeper.proofs.BoundLaws.{answer_bound}
 use Rattle.irig_lines.proofs.CountingLaws.{rises}
-use Rattle.irig_timekeeper.proofs.TimeLaws.{own_count, own_edge_at, still_edge, voted_count, same_edge}
+use Rattle.irig_lines.specs.Paces.{ahead_us, edge_on}
+use Rattle.irig_timekeeper.proofs.SoundLaws.{settled_sound}
+use Rattle.irig_timekeeper.proofs.TimeLaws.{own_count, own_edge_at, still_edge, voted_count, same_edge, lasts_so}
 use Rattle.irig_lines.specs.Steps.{AreNewLines}
 use Rattle.irig_timekeeper.specs.Keeping.{new_keeping}
-use Rattle.irig_timekeeper.proofs.LifeLaws.{AreLinesAt, TellAlwaysTruly, begins, heard_truly, lines_after, ticks}
+use Rattle.irig_timekeeper.proofs.LifeLaws.{AreLinesAt, StepsIn, TellAlwaysTruly, begins, heard_truly, lines_after, ticks}
 use Rattle.irig_lines.proofs.WidthLaws.{reach_few}
 use Rattle.irig_lines.proofs.ReachLaws.{ComesBy, IsPut, StoodBy, reach}
 use Rattle.irig_timekeeper.proofs.VoteLaws.{vote_is_true}
@@ -60,7 +62,7 @@ serves_on (Some vote) (Some w) last u e = refl
 leaves_own : (c : ClockRules) (table : TableValue) (s : ClockState) (n : ℕ) → LeavesTold s (after_own c table s n) (answer_alone c table s n)
 leaves_own c table s n = elim (cases_Bool (n == 0)) [
   | inl waits ↦ rw waits (record { same = λ e. (refl, refl); told = λ b e. absurd cc })
-  | inr more ↦ rw more (record { same = λ e. absurd cc; told = λ b e. (let beat : beat_by c s false (step_to c table s n None) (n - 1) (own_edge s.edge_us n) s.bound_us ≡ b = cc in (ap (λ (x : Beat). announced_at x.edge_us x.bound_us x.report.announce) beat, (λ a e. e), ap (λ (x : Beat). Some x.edge_us) beat, (λ u says. refl))) })
+  | inr more ↦ rw more (record { same = λ e. absurd cc; told = λ b e. (let beat : beat_by c s false (step_to c table s n None) (n - 1) (own_edge s.pace s.edge_us n) s.bound_us ≡ b = cc in (ap (λ (x : Beat). announced_at x.edge_us x.bound_us x.report.announce) beat, (λ a e. e), ap (λ (x : Beat). Some x.edge_us) beat, (λ u says. refl))) })
 ]
 
 leaves_voted : (c : ClockRules) (table : TableValue) (s : ClockState) (v : Vote) (n : ℕ) → LeavesTold s (after_vote c table s v n) (answer_to_vote c table s v n)
@@ -76,7 +78,7 @@ leaves_told k clock = of (vote_at k clock)
     s = settled_at k.clock k.state clock
 
     of : (o : Option Vote) → LeavesTold k.state (clock_by k.clock k.table s clock o) (answer_by k.clock k.table s clock o)
-    of None = let l = leaves_own k.clock k.table s (edges_own k.state.edge_us clock) in record { same = l.same; told = l.told }
+    of None = let l = leaves_own k.clock k.table s (edges_own s.pace k.state.edge_us clock) in record { same = l.same; told = l.told }
     of (Some v) = let l = leaves_voted k.clock k.table s v (edges_to_vote k.state.edge_us v.edge_us) in record { same = l.same; told = l.told }
 
 -- ---- one that was told truly
@@ -153,13 +155,13 @@ module _ (new : Keeping) (start : ℕ) (begun : AreLinesAt new new (λ i. []) st
     soon : now ≤ last_tick start calls + 1800000000
     soon = omega (arith, order.1)
 
-    fresh_own : (n : ℕ) → n ≡ edges_own (Some e) (now % 2 ^ 32) → answer_alone k.clock k.table s n ≡ None → StaysFresh A (Tick now ∷ calls) (after_own k.clock k.table s n).edge_us
+    fresh_own : (n : ℕ) → n ≡ edges_own s.pace (Some e) (now % 2 ^ 32) → answer_alone k.clock k.table s n ≡ None → StaysFresh A (Tick now ∷ calls) (after_own k.clock k.table s n).edge_us
     fresh_own n same none = elim (cases_Bool (n == 0)) [
       | inl waits ↦
           let zero : n ≡ 0 = eqb-true n 0 waits in
-          let count = same ∙ own_count (last_tick start calls) now ordered soon e f.x f.at in
-          rw waits (record { e = e; edge = refl; fresh = record { x = f.x; at = still_edge (last_tick start calls) now ordered soon e f.x f.at (sym count ∙ zero); is = fresh_on A (Tick now) calls f.x f.is } })
-      | inr more ↦ let both : Some (beat_by k.clock s false (step_to k.clock k.table s n None) (n - 1) (own_edge (Some e) n) s.bound_us) ≡ None = rw more at none in absurd cc
+          let count = same ∙ own_count (last_tick start calls) now ordered soon e f.x f.at s.pace in
+          rw waits (record { e = e; edge = refl; fresh = record { x = f.x; at = still_edge (last_tick start calls) now ordered soon e f.x f.at s.pace (sym count ∙ zero); is = fresh_on A (Tick now) calls f.x f.is } })
+      | inr more ↦ let both : Some (beat_by k.clock s false (step_to k.clock k.table s n None) (n - 1) (own_edge s.pace (Some e) n) s.bound_us) ≡ None = rw more at none in absurd cc
     ]
 
     fresh_voted : (v : Vote) → vote_at k (now % 2 ^ 32) ≡ Some v → (n : ℕ) → n ≡ edges_to_vote (Some e) v.edge_us → answer_to_vote k.clock k.table s v n ≡ None → StaysFresh A (Tick now ∷ calls) (after_vote k.clock k.table s v n).edge_us
@@ -194,19 +196,21 @@ module _ (new : Keeping) (start : ℕ) (begun : AreLinesAt new new (λ i. []) st
         of (Some v) e x is none = subst (λ (y : ClockState). answer_by k.clock k.table y (now % 2 ^ 32) (Some v) ≡ None → StaysFresh A (Tick now ∷ calls) (clock_by k.clock k.table y (now % 2 ^ 32) (Some v)).edge_us) (sym is) (fresh_voted v e _ refl) none
 
     -- and one that tells an edge
-    next_own : (n : ℕ) → n ≡ edges_own (Some e) (now % 2 ^ 32) → (b : Beat) (B : ℕ) → IsEdgeAt b.edge_us B now → answer_alone k.clock k.table s n ≡ Some b → ComesBy Put b.missed f.x B
+    next_own : (n : ℕ) → n ≡ edges_own s.pace (Some e) (now % 2 ^ 32) → (b : Beat) (B : ℕ) → IsEdgeAt b.edge_us B now → answer_alone k.clock k.table s n ≡ Some b → ComesBy Put b.missed f.x B
     next_own n same b B at answer = elim (cases_Bool (n == 0)) [
       | inl waits ↦ let both : None ≡ Some b = rw waits at answer in absurd cc
       | inr more ↦
-          let both : Some (beat_by k.clock s false (step_to k.clock k.table s n None) (n - 1) (own_edge (Some e) n) s.bound_us) ≡ Some b = rw more at answer in
-          let beat : beat_by k.clock s false (step_to k.clock k.table s n None) (n - 1) (own_edge (Some e) n) s.bound_us ≡ b = cc in
+          let both : Some (beat_by k.clock s false (step_to k.clock k.table s n None) (n - 1) (own_edge s.pace (Some e) n) s.bound_us) ≡ Some b = rw more at answer in
+          let beat : beat_by k.clock s false (step_to k.clock k.table s n None) (n - 1) (own_edge s.pace (Some e) n) s.bound_us ≡ b = cc in
           let some : 1 ≤ n = omega (arith, eqb-false n 0 more) in
-          let count = same ∙ own_count (last_tick start calls) now ordered soon e f.x f.at in
-          let then = own_edge_at (last_tick start calls) now ordered soon e f.x f.at n count some in
-          let edge : edge_behind e n ≡ b.edge_us = ap (λ (x : Beat). x.edge_us) beat in
-          let here = same_edge b.edge_us (f.x + n * 1000000) B now (subst (λ (y : ℕ). IsEdgeAt y (f.x + n * 1000000) now) edge then) at in
+          let count = same ∙ own_count (last_tick start calls) now ordered soon e f.x f.at s.pace in
+          let sound = settled_sound k (lines_after new start begun calls now order).sound (now % 2 ^ 32) in
+          let then = own_edge_at (last_tick start calls) now ordered soon e f.x f.at s.pace sound n count some in
+          let long = lasts_so s.pace sound n in
+          let edge : edge_on s.pace e n ≡ b.edge_us = ap (λ (x : Beat). x.edge_us) beat in
+          let here = same_edge b.edge_us (f.x + ahead_us s.pace n) B now (subst (λ (y : ℕ). IsEdgeAt y (f.x + ahead_us s.pace n) now) edge then) at in
           let missed : n - 1 ≡ b.missed = ap (λ (x : Beat). x.missed) beat in
-          inl (omega (arith, here, missed, some))
+          inl (omega (arith, here, missed, some, long.least), omega (arith, here, missed, some, long.most))
     ]
 
     next_voted : (v : Vote) → vote_at k (now % 2 ^ 32) ≡ Some v → (n : ℕ) → n ≡ edges_to_vote (Some e) v.edge_us → (b : Beat) (B : ℕ) → IsEdgeAt b.edge_us B now → answer_to_vote k.clock k.table s v n ≡ Some b → ComesBy Put b.missed f.x B
@@ -247,7 +251,7 @@ none_stays k clock edge none = of (vote_at k clock) (settled_at k.clock k.state 
     of : (o : Option Vote) (s : ClockState) → s.edge_us ≡ None → answer_by k.clock k.table s clock o ≡ None → (clock_by k.clock k.table s clock o).edge_us ≡ None
     of None s edge none = own (s.edge_us) edge
       where
-        own : (o : Option ℕ) → o ≡ None → (after_own k.clock k.table s (edges_own o clock)).edge_us ≡ None
+        own : (o : Option ℕ) → o ≡ None → (after_own k.clock k.table s (edges_own s.pace o clock)).edge_us ≡ None
         own None e = edge
         own (Some x) e = absurd cc
     of (Some v) s edge none = first s.edge_us edge none
@@ -580,25 +584,25 @@ module _ (rules : Rules) (clock : ClockRules) (table : TableValue) (lines : Line
   -- ---- a life, true at each tick
 
   module _ (IsTrue : ℕ → List Pulse → Type 0) (room : early + late ≤ 3002) (truly : TellAlwaysTruly IsTrue clock rules t edges early late) where
-    tell_truly : (calls : List Call) → AreInOrder start clock.redundancy calls → AreTrueAtTicks IsTrue (f_of clock.redundancy) calls → TellSo rules clock table lines start new_lines Put Told calls []
-    tell_truly [] order truth = tt
-    tell_truly (Hear port rise width ∷ calls) order truth = tell_truly calls order.2 truth
-    tell_truly (Tick now ∷ calls) order truth =
+    tell_truly : (calls : List Call) → AreInOrder start clock.redundancy calls → AreTrueAtTicks IsTrue (f_of clock.redundancy) calls → StepsIn edges early late (new_keeping rules clock table lines) start calls → TellSo rules clock table lines start new_lines Put Told calls []
+    tell_truly [] order truth steps = tt
+    tell_truly (Hear port rise width ∷ calls) order truth steps = tell_truly calls order.2 truth steps
+    tell_truly (Tick now ∷ calls) order truth steps =
         let none : calls ≡ calls ++ [] = sym (append-nil calls) in (
-          subst (λ (x : List Call). TellsSo rules clock table lines start new_lines Told x now) none (tells_truly calls now (λ b u e says. ((ticks rules clock table lines start new_lines IsTrue t edges early late is room truly calls now order truth).told b u e says).told)),
+          subst (λ (x : List Call). TellsSo rules clock table lines start new_lines Told x now) none (tells_truly calls now (λ b u e says. ((ticks rules clock table lines start new_lines IsTrue t edges early late is room truly calls now order truth steps).told b u e says).told)),
           subst (λ (x : List Call). PutsVotes from start (begun rules clock table lines start new_lines) Put x now) none (puts_truly IsTrue room truly calls now order truth.0),
-          tell_truly calls order.3 truth.1,
+          tell_truly calls order.3 truth.1 steps.1,
         )
 
 module _ (rules : Rules) (clock : ClockRules) (table : TableValue) (lines : Lines) (start : ℕ) (new_lines : AreNewLines lines) (t : TimelineValue) (edges : ℕ → ℕ) (early late more : ℕ)
     (is : IsDevice t clock.drift_us edges clock.reader_rules table) (low : early ≤ more) (high : late ≤ more)
     (IsTrue : ℕ → List Pulse → Type 0) (room : early + late ≤ 3002) (truly : TellAlwaysTruly IsTrue clock rules t edges early late) where
-  pub stamped : (calls : List Call) (time now : ℕ) → AreInOrder start clock.redundancy (Tick now ∷ calls) → AreTrueAtTicks IsTrue (f_of clock.redundancy) calls → time ≤ now → now ≤ time + 1800000000 → (stamp : Stamp)
+  pub stamped : (calls : List Call) (time now : ℕ) → AreInOrder start clock.redundancy (Tick now ∷ calls) → AreTrueAtTicks IsTrue (f_of clock.redundancy) calls → StepsIn edges early late (new_keeping rules clock table lines) start calls → time ≤ now → now ≤ time + 1800000000 → (stamp : Stamp)
       → stamp_at (after_calls (new_keeping rules clock table lines) calls) (time % 2 ^ 32) ≡ Some stamp → IsStampedTruly t edges more time stamp
-  stamped calls time now order truth past young stamp e =
+  stamped calls time now order truth steps past young stamp e =
       let ToldBefore : Option Announced → ℕ → Announced → Type 0 = λ last A a. IsToldBefore (IsPut edges early late) (IsToldSo t edges early late clock.drift_us) A a in
       let are = stamps rules clock table lines start new_lines (IsPut edges early late) (IsToldSo t edges early late clock.drift_us) ToldBefore (λ last edge a told. told) calls order.3
-      (tell_truly rules clock table lines start new_lines t edges early late is IsTrue room truly calls order.3 truth) in
+      (tell_truly rules clock table lines start new_lines t edges early late is IsTrue room truly calls order.3 truth steps) in
       stamped_by rules clock table lines start new_lines t edges early late is more low high calls time now (order.0) (omega (arith, order.1)) past young ToldBefore
       (λ A a come near lasts was stamp none e.
       by_earlier rules clock table lines start new_lines t edges early late is more low high calls time now (order.0) (omega (arith, order.1)) past young room A a come near (state_at rules clock table lines start new_lines t edges early late is calls).last lasts was stamp e)

@@ -32,7 +32,7 @@ use Rattle.irig_timekeeper.specs.Life.{Call, Made, pulses_on, last_tick, life_of
 use Rattle.irig_timekeeper.specs.Life.Call.{Tick}
 use Rattle.irig_lines.proofs.PartLaws.{split}
 use Rattle.irig_lines.proofs.LineLaws.{frame_is_framed, frame_is_even}
-use Rattle.irig_timekeeper.proofs.LifeLaws.{TellAlwaysTruly, begins, each_new}
+use Rattle.irig_timekeeper.proofs.LifeLaws.{StepsIn, TellAlwaysTruly, begins, each_new}
 use Rattle.irig_timekeeper.proofs.EndedLaws.{IfBefore, IfEndedAt, EndedBy, up_one, up_two, second_one, ends_truly}
 use Rattle.irig_timekeeper.proofs.SeenLaws.{IsSeenOf, IfSeen, seen_in}
 use Rattle.irig_timekeeper.proofs.HeardLaws.{heard_in}
@@ -361,22 +361,22 @@ module _ (t : TimelineValue) (edges : ℕ → ℕ) (c : ClockRules) (quartz : Is
 
 -- a line that was true since 2.7 s before the last tick, whatever the others are of which the life asks nothing
 pub true_line : (IsTrue : Rules → TimelineValue → (ℕ → ℕ) → ℕ → List Pulse → Type 0) (t : TimelineValue) (edges : ℕ → ℕ) (made : Made) (start now : ℕ) (calls : List Call) → LivesTruly IsTrue t edges made start calls
-    → TellAlwaysTruly (IsTrue made.rules t edges) made.clock made.rules t edges 0 0 → AreInOrder start made.clock.redundancy (Tick now ∷ calls)
+    → TellAlwaysTruly (IsTrue made.rules t edges) made.clock made.rules t edges 0 0 → StepsIn edges 0 0 (device_of made) start calls → AreInOrder start made.clock.redundancy (Tick now ∷ calls)
     → (i : ℕ) → i < 5 → IsTrueLately made.clock.within.us made.rules t edges (last_tick start calls - 1500000) (pulses_on i calls) → is_untrue (state_of made.clock (life_of made calls).state i) ≡ false
-true_line IsTrue t edges made start now calls lives truly order i small line =
+true_line IsTrue t edges made start now calls lives truly steps order i small line =
     let begun = begins made.rules made.clock made.table made.lines start made.fresh in
-    let ends = ends_truly (IsTrue made.rules t edges) t edges (device_of made) start begun lives.is truly refl refl refl calls lives.order lives.truth in
+    let ends = ends_truly (IsTrue made.rules t edges) t edges (device_of made) start begun lives.is truly refl refl refl calls lives.order lives.truth steps in
     let seen = seen_in (device_of made) start begun lives.is.steady.few i small (each_new made.lines made.fresh i small).seen calls now order in
     let s : ClockState = (life_of made calls).state in
     seen_true t edges made.clock lives.is.steady made.rules (pulses_on i calls) (last_tick start calls) now order.1 line s.edge_us s.ended s.ended_before ends (line_at s.lines i).is_heard (line_at s.lines i).seen seen
 
 -- what is said of any line is so
 pub said_rightly : (IsTrue : Rules → TimelineValue → (ℕ → ℕ) → ℕ → List Pulse → Type 0) (t : TimelineValue) (edges : ℕ → ℕ) (made : Made) (start now : ℕ) (calls : List Call) → LivesTruly IsTrue t edges made start calls
-    → TellAlwaysTruly (IsTrue made.rules t edges) made.clock made.rules t edges 0 0 → AreInOrder start made.clock.redundancy (Tick now ∷ calls)
+    → TellAlwaysTruly (IsTrue made.rules t edges) made.clock made.rules t edges 0 0 → StepsIn edges 0 0 (device_of made) start calls → AreInOrder start made.clock.redundancy (Tick now ∷ calls)
     → (i : ℕ) → i < 5 → IsSaidRightly made.clock (life_of made calls).state made.rules t edges (last_tick start calls) (pulses_on i calls) (state_of made.clock (life_of made calls).state i)
-said_rightly IsTrue t edges made start now calls lives truly order i small =
+said_rightly IsTrue t edges made start now calls lives truly steps order i small =
     let begun = begins made.rules made.clock made.table made.lines start made.fresh in
-    let ends = ends_truly (IsTrue made.rules t edges) t edges (device_of made) start begun lives.is truly refl refl refl calls lives.order lives.truth in
+    let ends = ends_truly (IsTrue made.rules t edges) t edges (device_of made) start begun lives.is truly refl refl refl calls lives.order lives.truth steps in
     let seen = seen_in (device_of made) start begun lives.is.steady.few i small (each_new made.lines made.fresh i small).seen calls now order in
     let s : ClockState = (life_of made calls).state in
     seen_rightly t edges made.clock lives.is.steady made.rules (pulses_on i calls) (last_tick start calls) now order.1 s ends (line_at s.lines i).is_heard (heard_in (device_of made) start i small (each_new made.lines made.fresh i small) calls lives.order).idle (line_at s.lines i).seen seen
@@ -387,6 +387,6 @@ again start r now calls order = (omega arith, omega arith, order.2, order)
 
 -- so it is at a tick
 pub true_at_tick : (IsTrue : Rules → TimelineValue → (ℕ → ℕ) → ℕ → List Pulse → Type 0) (t : TimelineValue) (edges : ℕ → ℕ) (made : Made) (start now : ℕ) (calls : List Call) → LivesTruly IsTrue t edges made start (Tick now ∷ calls)
-    → TellAlwaysTruly (IsTrue made.rules t edges) made.clock made.rules t edges 0 0
+    → TellAlwaysTruly (IsTrue made.rules t edges) made.clock made.rules t edges 0 0 → StepsIn edges 0 0 (device_of made) start (Tick now ∷ calls)
     → (i : ℕ) → i < 5 → IsTrueLately made.clock.within.us made.rules t edges (now - 1500000) (pulses_on i calls) → is_untrue (state_of made.clock (life_of made (Tick now ∷ calls)).state i) ≡ false
-true_at_tick IsTrue t edges made start now calls lives truly i small line = true_line IsTrue t edges made start now (Tick now ∷ calls) lives truly (again start made.clock.redundancy now calls lives.order) i small line
+true_at_tick IsTrue t edges made start now calls lives truly steps i small line = true_line IsTrue t edges made start now (Tick now ∷ calls) lives truly steps (again start made.clock.redundancy now calls lives.order) i small line

@@ -1,7 +1,7 @@
 -- A device at a tick keeps to the truth.
 use Rattle.std.specs.Prelude.{◌==◌}
 use Rattle.std.proofs.Common.{◌≡◌, ◌∙◌, ℕ, suc, ◌+◌, ◌-◌, ◌*◌, ◌%◌, ◌^◌, ◌<◌, ◌≤◌, List, Option, Some, None, refl, sym, ap, subst, arith, inl, inr, Bool, false}
-use Rattle.std.proofs.Math.Nat.{mul-le-mul_left}
+use Rattle.std.proofs.Math.Nat.{mul-le-mul_left, mul-le-mul_right}
 use Rattle.std.proofs.lemmas.Bool.{cases_Bool, cases_lt, eqb-true, eqb-false}
 use Rattle.irig_time.specs.declared.second.UtcSecond.{UtcSecond}
 use Rattle.irig_time.specs.Timelines.{TimelineValue, IsSecond, truth_at}
@@ -16,7 +16,9 @@ use Rattle.irig_lines.specs.declared.lines.Vote.{Vote}
 use Rattle.irig_timekeeper.specs.declared.clock.Beat.{Beat}
 use Rattle.irig_lines.specs.Edges.{IsNear}
 use Rattle.irig_lines.specs.Exactness.{most_vote_us}
-use Rattle.irig_lines.specs.Counting.{edges_between, edges_to, edges_to_vote, edges_own, edge_behind}
+use Rattle.irig_lines.specs.Counting.{edges_between, edges_to, edges_to_vote, edges_own}
+use Rattle.irig_lines.specs.declared.pace.Pace.{Pace}
+use Rattle.irig_lines.specs.Paces.{IsSound, ahead_us, edge_on, grown_us}
 use Rattle.irig_timekeeper.specs.Rule.{missed, step_behind, against_table, step_checked}
 use Rattle.irig_timekeeper.specs.Truth.{IsTrueVote, IsEdgeAt, StandsAt, IsOnTrack, IsToldTruly, IsDevice, StandsSurely, age_of}
 use Rattle.irig_sync.specs.Lines.{Pulse}
@@ -28,10 +30,26 @@ use Rattle.irig_timekeeper.specs.Clock.{lasted, bound_of, own_edge, beat_by, ste
 use Rattle.irig_timekeeper.specs.Keeping.{Keeping, vote_at, after_tick, answer_at}
 use Rattle.irig_timekeeper.proofs.VoteLaws.{TellsTruly, vote_is_true}
 use Rattle.irig_lines.proofs.CountingLaws.{apart, counts, rises}
-use Rattle.irig_timekeeper.proofs.TimeLaws.{own_come, own_count, still_edge, own_edge_at, voted_count}
+use Rattle.irig_timekeeper.proofs.TimeLaws.{own_come, own_count, still_edge, own_edge_at, lasts_so, voted_count}
 use Rattle.irig_timekeeper.proofs.AgeLaws.{alone_step, gone, gone_idle, missed_idle}
 use Rattle.irig_timekeeper.proofs.DoubtedSteps.{rule_announces}
 use Rattle.irig_timekeeper.proofs.SureSteps.{IsSureStep, sure_step, missed_surely}
+
+-- so many seconds behind an edge that lies near T(w), as a device's edge does whose last vote was as old,
+-- its next edge lies near T(w + n): by the drift since that vote, and by what is told of it then
+pub record KeepsPace (edges : ℕ → ℕ) (early late d : ℕ) (rules : ReaderRules) (pace : Option Pace) (edge voted age n : ℕ) : Type 0 where
+  pub sound : IsSound pace
+  pub near : (w : ℕ) → voted ≤ most_vote_us → IsNear edges (early + voted + age * d) (late + voted + age * d) w edge → age ≤ rules.holdover → 1 ≤ n → IsNear edges (early + voted + (age + n) * d) (late + voted + (age + n) * d) (w + n) (edge + ahead_us pace n)
+  pub told : (w k : ℕ) → voted ≤ most_vote_us → IsNear edges (early + voted + age * d) (late + voted + age * d) w edge → age ≤ rules.holdover → 1 ≤ n → age + n ≤ k → IsNear edges (early + voted + grown_us d pace k) (late + voted + grown_us d pace k) (w + n) (edge + ahead_us pace n)
+
+-- so does a clock from its last edge, if there is one
+abbrev pub StepsBy : (ℕ → ℕ) → (early late : ℕ) → ClockRules → ClockState → (tick now : ℕ) → Type 0
+StepsBy edges early late c s tick now =
+    (e edge : ℕ) → s.edge_us ≡ Some e → IsEdgeAt e edge tick → KeepsPace edges early late c.drift_us c.reader_rules s.pace edge s.bound_us (age_of s.reader) (edges_own s.pace s.edge_us (now % 2 ^ 32))
+
+-- so does a device at a tick without a vote
+abbrev pub StepsAt : (ℕ → ℕ) → (early late : ℕ) → Keeping → (tick now : ℕ) → Type 0
+StepsAt edges early late k tick now = vote_at k (now % 2 ^ 32) ≡ None → StepsBy edges early late k.clock (settled_at k.clock k.state (now % 2 ^ 32)) tick now
 
 -- it announces a later second than the last one, and stands there
 pub record IsToldNewly (t : TimelineValue) (d : ℕ) (edges : ℕ → ℕ) (early late : ℕ) (M : ℕ) (rules : ReaderRules) (table : TableValue) (now : ℕ) (b : Beat) (u : UtcSecond) (s : State) (voted : ℕ) (o : Option ℕ) : Type 0 where
@@ -231,15 +249,15 @@ module _ (t : TimelineValue) (d : ℕ) (edges : ℕ → ℕ) (early late : ℕ) 
   -- ---- without a vote
 
   module _ (tick now : ℕ) (order : tick ≤ now) (soon : now ≤ tick + 1800000000) (e edge : ℕ) (at : IsEdgeAt e edge tick) where
-    module _ (s : State) (n : ℕ) (same : n ≡ own_come edge now) (some : 1 ≤ n) where
+    module _ (s : State) (pace : Option Pace) (sound : IsSound pace) (n : ℕ) (same : n ≡ own_come pace edge now) (some : 1 ≤ n) where
       abbrev last : Step
       last = step_behind prefers rules table (n - 1) s None
 
       one_more : suc (n - 1) ≡ n
       one_more = omega (arith, some)
 
-      idle_alone : (voted : ℕ) → s ≡ Idle → edges M + late + most_vote_us < edge + 500000 → IsOnTrack t edges early late d M rules table now last.state voted (Some (edge_behind e n))
-      idle_alone voted idle ahead = inl (missed_idle prefers rules table (suc (n - 1)) s idle, (edge + n * 1000000, own_edge_at tick now order soon e edge at n same some, omega (arith, room, ahead)))
+      idle_alone : (voted : ℕ) → s ≡ Idle → edges M + late + most_vote_us < edge + 500000 → IsOnTrack t edges early late d M rules table now last.state voted (Some (edge_on pace e n))
+      idle_alone voted idle ahead = inl (missed_idle prefers rules table (suc (n - 1)) s idle, (edge + ahead_us pace n, own_edge_at tick now order soon e edge at pace sound n same some, omega (arith, room, ahead)))
 
       idle_says : s ≡ Idle → last.report.announce ≡ None
       idle_says idle = elim (alone_step prefers rules table (missed prefers rules table (n - 1) s)) [
@@ -247,33 +265,35 @@ module _ (t : TimelineValue) (d : ℕ) (edges : ℕ → ℕ) (early late : ℕ) 
         | inr older ↦ let both : Idle ≡ Locked older.locked.h = sym (missed_idle prefers rules table (suc (n - 1)) s idle) ∙ older.locked.is in absurd cc
       ]
 
-      module _ (voted w a : ℕ) (near : IsNear edges (early + voted + a * d) (late + voted + a * d) w edge) (small : voted ≤ most_vote_us) (truth : StandsSurely t table w s) (young : a ≤ age_of s) (short : a ≤ rules.holdover) where
-        further : IsNear edges (early + voted + (a + n) * d) (late + voted + (a + n) * d) (w + n) (edge + n * 1000000)
-        further =
-            let far = apart d edges is.steady w n in
-            record { least = omega (arith, room, far.most, near.least); most = omega (arith, room, far.least, near.most) }
+      module _ (voted w a : ℕ) (near : IsNear edges (early + voted + a * d) (late + voted + a * d) w edge) (small : voted ≤ most_vote_us) (truth : StandsSurely t table w s) (young : a ≤ age_of s) (short : a ≤ rules.holdover)
+          (keeps : KeepsPace edges early late d rules pace edge voted (age_of s) n) where
+        aged : IsNear edges (early + voted + age_of s * d) (late + voted + age_of s * d) w edge
+        aged =
+            let grows = mul-le-mul_right d young in
+            record { least = omega (arith, near.least, grows); most = omega (arith, near.most, grows) }
 
-        ahead_then : M ≤ w → edges M + late + most_vote_us < edge + n * 1000000 + 500000
+        ahead_then : M ≤ w → edges M + late + most_vote_us < edge + ahead_us pace n + 500000
         ahead_then low =
             let rise = rises d edges is.steady M (w - M) in
             let there : M + (w - M) ≡ w = omega (arith, low) in
             let upto = subst (λ (x : ℕ). edges M + (w - M) * 999900 ≤ edges x) there rise in
             let most = mul-le-mul_left d (let h : a ≤ rules.holdover + 2 = omega (arith, short) in h) in
-            omega (arith, room, small, upto, most, is.short, near.least, some)
+            let long = (lasts_so pace sound n).least in
+            omega (arith, room, small, upto, most, is.short, near.least, some, long)
 
-        stands_alone : M ≤ w → IsOnTrack t edges early late d M rules table now last.state voted (Some (edge_behind e n))
+        stands_alone : M ≤ w → IsOnTrack t edges early late d M rules table now last.state voted (Some (edge_on pace e n))
         stands_alone low = elim (gone prefers rules table (n - 1) s) [
-          | inl idle ↦ inl (idle, (edge + n * 1000000, own_edge_at tick now order soon e edge at n same some, ahead_then low))
+          | inl idle ↦ inl (idle, (edge + ahead_us pace n, own_edge_at tick now order soon e edge at pace sound n same some, ahead_then low))
           | inr older ↦
               let reached : w + suc (n - 1) ≡ w + n = omega (arith, one_more) in
               let age : age_of last.state ≡ older.h.age = ap age_of older.is in
               inr (
                 w + n,
-                a + n,
+                age_of s + n,
                 record {
-                  edge = edge + n * 1000000;
-                  at = own_edge_at tick now order soon e edge at n same some;
-                  near = further;
+                  edge = edge + ahead_us pace n;
+                  at = own_edge_at tick now order soon e edge at pace sound n same some;
+                  near = keeps.near w small aged (omega (arith, older.older, older.young)) some;
                   small = small;
                   truth = subst (λ (i : ℕ). StandsSurely t table i last.state) reached (missed_surely t rules table is.sound is.knows prefers w (suc (n - 1)) s truth);
                   young = omega (arith, age, older.older, young, one_more);
@@ -284,7 +304,7 @@ module _ (t : TimelineValue) (d : ℕ) (edges : ℕ → ℕ) (early late : ℕ) 
         ]
 
         -- it has announced this second
-        stands_told : ¬ (last.state ≡ Idle) → IsOnTrack t edges early late d (w + n) rules table now last.state voted (Some (edge_behind e n))
+        stands_told : ¬ (last.state ≡ Idle) → IsOnTrack t edges early late d (w + n) rules table now last.state voted (Some (edge_on pace e n))
         stands_told goes = elim (gone prefers rules table (n - 1) s) [
           | inl idle ↦ absurd (goes idle)
           | inr older ↦
@@ -292,11 +312,11 @@ module _ (t : TimelineValue) (d : ℕ) (edges : ℕ → ℕ) (early late : ℕ) 
               let age : age_of last.state ≡ older.h.age = ap age_of older.is in
               inr (
                 w + n,
-                a + n,
+                age_of s + n,
                 record {
-                  edge = edge + n * 1000000;
-                  at = own_edge_at tick now order soon e edge at n same some;
-                  near = further;
+                  edge = edge + ahead_us pace n;
+                  at = own_edge_at tick now order soon e edge at pace sound n same some;
+                  near = keeps.near w small aged (omega (arith, older.older, older.young)) some;
                   small = small;
                   truth = subst (λ (i : ℕ). StandsSurely t table i last.state) reached (missed_surely t rules table is.sound is.knows prefers w (suc (n - 1)) s truth);
                   young = omega (arith, age, older.older, young, one_more);
@@ -306,7 +326,7 @@ module _ (t : TimelineValue) (d : ℕ) (edges : ℕ → ℕ) (early late : ℕ) 
               )
         ]
 
-        says_alone : (b : Beat) (u : UtcSecond) → b.edge_us ≡ edge_behind e n → b.bound_us ≡ bound_of d voted b.report.lock → last.report.lock ≡ b.report.lock → last.report.announce ≡ Some u → M ≤ w → IsToldNewly t d edges early late M rules table now b u last.state voted (Some (edge_behind e n))
+        says_alone : (b : Beat) (u : UtcSecond) → b.edge_us ≡ edge_on pace e n → b.bound_us ≡ bound_of d pace voted b.report.lock → last.report.lock ≡ b.report.lock → last.report.announce ≡ Some u → M ≤ w → IsToldNewly t d edges early late M rules table now b u last.state voted (Some (edge_on pace e n))
         says_alone b u is_edge is_bound locks says low = elim (alone_step prefers rules table (missed prefers rules table (n - 1) s)) [
           | inl stop ↦ absurd (let both : None ≡ Some u = sym stop.1 ∙ says in cc)
           | inr older ↦ elim (gone prefers rules table (n - 1) s) [
@@ -317,16 +337,16 @@ module _ (t : TimelineValue) (d : ℕ) (edges : ℕ → ℕ) (early late : ℕ) 
                 let second = (sure_step t rules table is.sound is.knows prefers (w + (n - 1)) (missed prefers rules table (n - 1) s) None before (inl refl)).says u says in
                 let age : older.locked.h.age ≡ gone.h.age = ap age_of (sym older.locked.is ∙ gone.is) in
                 let lasts : lasted b.report.lock ≡ age_of (missed prefers rules table (n - 1) s) + 1 = ap lasted (sym locks ∙ older.says) in
-                let held : a + n ≤ lasted b.report.lock = omega (arith, lasts, older.locked.older, age, gone.older, young, one_more) in
-                let drifts = mul-le-mul_left d held in
+                let held : age_of s + n ≤ lasted b.report.lock = omega (arith, lasts, older.locked.older, age, gone.older, one_more) in
+                let then = keeps.told w (lasted b.report.lock) small aged (omega (arith, gone.older, gone.young)) some held in
                 record {
                   told = record {
                     m = w + n;
-                    edge = edge + n * 1000000;
-                    clock = is_edge ∙ (own_edge_at tick now order soon e edge at n same some).clock;
-                    near = record { least = omega (arith, is_bound, drifts, further.least); most = omega (arith, is_bound, drifts, further.most) };
-                    come = (own_edge_at tick now order soon e edge at n same some).come;
-                    soon = (own_edge_at tick now order soon e edge at n same some).soon;
+                    edge = edge + ahead_us pace n;
+                    clock = is_edge ∙ (own_edge_at tick now order soon e edge at pace sound n same some).clock;
+                    near = record { least = omega (arith, is_bound, then.least); most = omega (arith, is_bound, then.most) };
+                    come = (own_edge_at tick now order soon e edge at pace sound n same some).come;
+                    soon = (own_edge_at tick now order soon e edge at pace sound n same some).soon;
                     truth = subst (λ (i : ℕ). IsSecond t i u) reached second;
                   };
                   later = omega (arith, low, some);
@@ -343,19 +363,19 @@ module _ (t : TimelineValue) (d : ℕ) (edges : ℕ → ℕ) (early late : ℕ) 
     comes v vote voted (Some e) s (inl idle) = let c = idle_comes now v vote tick order soon e idle.1.0 idle.1.1 s idle.0 idle.1.2 in record { before = c.before; none = c.none; later = c.later }
     comes v vote voted (Some e) s (inr at) = let c = stands_comes now v vote tick order soon s voted e at.0 at.1 at.2 in record { before = c.before; none = c.none; later = c.later }
 
-    own_waits : (voted : ℕ) (o : Option ℕ) (s : State) → IsOnTrack t edges early late d M rules table tick s voted o → edges_own o (now % 2 ^ 32) ≡ 0 → IsOnTrack t edges early late d M rules table now s voted o
-    own_waits voted None s idle none = idle
-    own_waits voted (Some e) s (inl idle) none =
+    own_waits : (voted : ℕ) (pace : Option Pace) (o : Option ℕ) (s : State) → IsOnTrack t edges early late d M rules table tick s voted o → edges_own pace o (now % 2 ^ 32) ≡ 0 → IsOnTrack t edges early late d M rules table now s voted o
+    own_waits voted pace None s idle none = idle
+    own_waits voted pace (Some e) s (inl idle) none =
         let at = idle.1 in
-        inl (idle.0, (at.0, still_edge tick now order soon e at.0 at.1 (sym (own_count tick now order soon e at.0 at.1) ∙ none), at.2))
-    own_waits voted (Some e) s (inr at) none =
+        inl (idle.0, (at.0, still_edge tick now order soon e at.0 at.1 pace (sym (own_count tick now order soon e at.0 at.1 pace) ∙ none), at.2))
+    own_waits voted pace (Some e) s (inr at) none =
         let stands = at.2 in
         inr (
           at.0,
           at.1,
           record {
             edge = stands.edge;
-            at = still_edge tick now order soon e stands.edge stands.at (sym (own_count tick now order soon e stands.edge stands.at) ∙ none);
+            at = still_edge tick now order soon e stands.edge stands.at pace (sym (own_count tick now order soon e stands.edge stands.at pace) ∙ none);
             near = stands.near;
             small = stands.small;
             truth = stands.truth;
@@ -365,25 +385,33 @@ module _ (t : TimelineValue) (d : ℕ) (edges : ℕ → ℕ) (early late : ℕ) 
           },
         )
 
-    own_tracks : (voted : ℕ) (o : Option ℕ) (s : State) → IsOnTrack t edges early late d M rules table tick s voted o → (n : ℕ) → n ≡ edges_own o (now % 2 ^ 32) → 1 ≤ n
-        → IsOnTrack t edges early late d M rules table now (step_behind prefers rules table (n - 1) s None).state voted (Some (own_edge o n))
-    own_tracks voted None s idle n same some = absurd (omega (arith, same, some))
-    own_tracks voted (Some e) s (inl idle) n same some =
-        let at = idle.1 in
-        idle_alone tick now order soon e at.0 at.1 s n (same ∙ own_count tick now order soon e at.0 at.1) some voted idle.0 idle.1.2
-    own_tracks voted (Some e) s (inr at) n same some =
-        let stands = at.2 in
-        stands_alone tick now order soon e stands.edge stands.at s n (same ∙ own_count tick now order soon e stands.edge stands.at) some voted at.0 at.1 stands.near stands.small stands.truth stands.young stands.few stands.behind
+    -- how it goes on from its last edge, if there is one
+    abbrev GoesOn : (voted : ℕ) → Option Pace → Option ℕ → State → ℕ → Type 0
+    GoesOn voted pace o s n = (e edge : ℕ) → o ≡ Some e → IsEdgeAt e edge tick → KeepsPace edges early late d rules pace edge voted (age_of s) n
 
-    own_says : (voted : ℕ) (o : Option ℕ) (s : State) → IsOnTrack t edges early late d M rules table tick s voted o → (n : ℕ) → n ≡ edges_own o (now % 2 ^ 32) → 1 ≤ n → (b : Beat) (u : UtcSecond) → b.edge_us ≡ own_edge o n → b.bound_us ≡ bound_of d voted b.report.lock
-        → (step_behind prefers rules table (n - 1) s None).report.lock ≡ b.report.lock → (step_behind prefers rules table (n - 1) s None).report.announce ≡ Some u → IsToldNewly t d edges early late M rules table now b u (step_behind prefers rules table (n - 1) s None).state voted (Some (own_edge o n))
-    own_says voted None s idle n same some b u is_edge is_bound locks says = absurd (omega (arith, same, some))
-    own_says voted (Some e) s (inl idle) n same some b u is_edge is_bound locks says =
+    own_tracks : (voted : ℕ) (pace : Option Pace) (o : Option ℕ) (s : State) → IsOnTrack t edges early late d M rules table tick s voted o → (n : ℕ) → n ≡ edges_own pace o (now % 2 ^ 32) → 1 ≤ n → GoesOn voted pace o s n
+        → IsOnTrack t edges early late d M rules table now (step_behind prefers rules table (n - 1) s None).state voted (Some (own_edge pace o n))
+    own_tracks voted pace None s idle n same some keeps = absurd (omega (arith, same, some))
+    own_tracks voted pace (Some e) s (inl idle) n same some keeps =
         let at = idle.1 in
-        absurd (let both : None ≡ Some u = sym (idle_says tick now order soon e at.0 at.1 s n (same ∙ own_count tick now order soon e at.0 at.1) some idle.0) ∙ says in cc)
-    own_says voted (Some e) s (inr at) n same some b u is_edge is_bound locks says =
+        let paced = keeps e at.0 refl at.1 in
+        idle_alone tick now order soon e at.0 at.1 s pace paced.sound n (same ∙ own_count tick now order soon e at.0 at.1 pace) some voted idle.0 idle.1.2
+    own_tracks voted pace (Some e) s (inr at) n same some keeps =
         let stands = at.2 in
-        says_alone tick now order soon e stands.edge stands.at s n (same ∙ own_count tick now order soon e stands.edge stands.at) some voted at.0 at.1 stands.near stands.small stands.truth stands.young stands.few b u is_edge is_bound locks says stands.behind
+        let paced = keeps e stands.edge refl stands.at in
+        stands_alone tick now order soon e stands.edge stands.at s pace paced.sound n (same ∙ own_count tick now order soon e stands.edge stands.at pace) some voted at.0 at.1 stands.near stands.small stands.truth stands.young stands.few paced stands.behind
+
+    own_says : (voted : ℕ) (pace : Option Pace) (o : Option ℕ) (s : State) → IsOnTrack t edges early late d M rules table tick s voted o → (n : ℕ) → n ≡ edges_own pace o (now % 2 ^ 32) → 1 ≤ n → GoesOn voted pace o s n → (b : Beat) (u : UtcSecond) → b.edge_us ≡ own_edge pace o n → b.bound_us ≡ bound_of d pace voted b.report.lock
+        → (step_behind prefers rules table (n - 1) s None).report.lock ≡ b.report.lock → (step_behind prefers rules table (n - 1) s None).report.announce ≡ Some u → IsToldNewly t d edges early late M rules table now b u (step_behind prefers rules table (n - 1) s None).state voted (Some (own_edge pace o n))
+    own_says voted pace None s idle n same some keeps b u is_edge is_bound locks says = absurd (omega (arith, same, some))
+    own_says voted pace (Some e) s (inl idle) n same some keeps b u is_edge is_bound locks says =
+        let at = idle.1 in
+        let paced = keeps e at.0 refl at.1 in
+        absurd (let both : None ≡ Some u = sym (idle_says tick now order soon e at.0 at.1 s pace paced.sound n (same ∙ own_count tick now order soon e at.0 at.1 pace) some idle.0) ∙ says in cc)
+    own_says voted pace (Some e) s (inr at) n same some keeps b u is_edge is_bound locks says =
+        let stands = at.2 in
+        let paced = keeps e stands.edge refl stands.at in
+        says_alone tick now order soon e stands.edge stands.at s pace paced.sound n (same ∙ own_count tick now order soon e stands.edge stands.at pace) some voted at.0 at.1 stands.near stands.small stands.truth stands.young stands.few paced b u is_edge is_bound locks says stands.behind
 
   -- by the own counter it tells no jump
   own_calm : (voted : ℕ) (o : Option ℕ) (s : State) (tick : ℕ) → IsOnTrack t edges early late d M rules table tick s voted o → (n : ℕ) → ¬ ((step_behind prefers rules table n s None).report.cause ≡ cause.Jump)
@@ -424,7 +452,7 @@ module _ (t : TimelineValue) (edges : ℕ → ℕ) (early late : ℕ) (c : Clock
                   let beat : b ≡ beat_by c s (against_table table (Some v.claim)) (step_to c table s n (Some v.claim)) (n - 1) v.edge_us v.bound_us = cc in
                   record {
                     told =
-                        let bound : b.bound_us ≡ bound_of c.drift_us v.bound_us (step_to c table s n (Some v.claim)).report.lock = ap (λ (x : Beat). x.bound_us) beat in
+                        let bound : b.bound_us ≡ bound_of c.drift_us s.pace v.bound_us (step_to c table s n (Some v.claim)).report.lock = ap (λ (x : Beat). x.bound_us) beat in
                         told t c.drift_us edges early late c.prefers_frames c.reader_rules table is room M now v vote state b u reached (ap (λ (x : Beat). x.edge_us) beat) (omega (arith, bound)) (sym (ap (λ (x : Beat). x.report.announce) beat) ∙ says);
                     later = all.later (omega (arith, same, some));
                     track = on_track t c.drift_us edges early late c.prefers_frames c.reader_rules table is room M now v vote (vote.truth.second + 1) state (omega arith) reached;
@@ -435,23 +463,24 @@ module _ (t : TimelineValue) (edges : ℕ → ℕ) (early late : ℕ) (c : Clock
             })
       ]
 
-  alone : (n : ℕ) → n ≡ edges_own s.edge_us (now % 2 ^ 32) → KeepsTrue t c.drift_us edges early late M c.reader_rules table now (after_own c table s n) (answer_alone c table s n)
-  alone n same =
+  alone : StepsBy edges early late c s tick now → (n : ℕ) → n ≡ edges_own s.pace s.edge_us (now % 2 ^ 32) → KeepsTrue t c.drift_us edges early late M c.reader_rules table now (after_own c table s n) (answer_alone c table s n)
+  alone steps n same =
+      let keeps : (e edge : ℕ) → s.edge_us ≡ Some e → IsEdgeAt e edge tick → KeepsPace edges early late c.drift_us c.reader_rules s.pace edge s.bound_us (age_of s.reader) n = λ e edge is_edge at. subst (KeepsPace edges early late c.drift_us c.reader_rules s.pace edge s.bound_us (age_of s.reader)) (sym same) (steps e edge is_edge at) in
       elim (cases_Bool (n == 0)) [
         | inl waits ↦
-            let none : edges_own s.edge_us (now % 2 ^ 32) ≡ 0 = sym same ∙ eqb-true n 0 waits in
-            rw waits (record { track = own_waits t c.drift_us edges early late c.prefers_frames c.reader_rules table is room M tick now order soon s.bound_us s.edge_us s.reader on none; told = λ b u e says. absurd cc; calm = λ b e. absurd cc })
+            let none : edges_own s.pace s.edge_us (now % 2 ^ 32) ≡ 0 = sym same ∙ eqb-true n 0 waits in
+            rw waits (record { track = own_waits t c.drift_us edges early late c.prefers_frames c.reader_rules table is room M tick now order soon s.bound_us s.pace s.edge_us s.reader on none; told = λ b u e says. absurd cc; calm = λ b e. absurd cc })
         | inr more ↦
             let some : 1 ≤ n = omega (arith, eqb-false n 0 more) in
             rw more (record {
-              track = own_tracks t c.drift_us edges early late c.prefers_frames c.reader_rules table is room M tick now order soon s.bound_us s.edge_us s.reader on n same some;
+              track = own_tracks t c.drift_us edges early late c.prefers_frames c.reader_rules table is room M tick now order soon s.bound_us s.pace s.edge_us s.reader on n same some keeps;
               told = λ b u e says.
-                  let beat : b ≡ beat_by c s false (step_to c table s n None) (n - 1) (own_edge s.edge_us n) s.bound_us = cc in
-                  own_says t c.drift_us edges early late c.prefers_frames c.reader_rules table is room M tick now order soon s.bound_us s.edge_us s.reader on n same some b u (ap (λ (x : Beat). x.edge_us) beat)
-                  (ap (λ (x : Beat). x.bound_us) beat ∙ ap (λ (x : Beat). bound_of c.drift_us s.bound_us x.report.lock) (sym beat)) (sym (ap (λ (x : Beat). x.report.lock) beat))
+                  let beat : b ≡ beat_by c s false (step_to c table s n None) (n - 1) (own_edge s.pace s.edge_us n) s.bound_us = cc in
+                  own_says t c.drift_us edges early late c.prefers_frames c.reader_rules table is room M tick now order soon s.bound_us s.pace s.edge_us s.reader on n same some keeps b u (ap (λ (x : Beat). x.edge_us) beat)
+                  (ap (λ (x : Beat). x.bound_us) beat ∙ ap (λ (x : Beat). bound_of c.drift_us s.pace s.bound_us x.report.lock) (sym beat)) (sym (ap (λ (x : Beat). x.report.lock) beat))
                   (rule_announces s.doubt None (step_behind c.prefers_frames c.reader_rules table (n - 1) s.reader None).report.announce u (sym (ap (λ (x : Beat). x.report.announce) beat) ∙ says));
               calm = λ b e jumps.
-                  let beat : b ≡ beat_by c s false (step_to c table s n None) (n - 1) (own_edge s.edge_us n) s.bound_us = cc in
+                  let beat : b ≡ beat_by c s false (step_to c table s n None) (n - 1) (own_edge s.pace s.edge_us n) s.bound_us = cc in
                   own_calm t c.drift_us edges early late c.prefers_frames c.reader_rules table is room M s.bound_us s.edge_us s.reader tick on (n - 1) (sym (ap (λ (x : Beat). x.report.cause) beat) ∙ jumps);
             })
       ]
@@ -460,15 +489,15 @@ module _ (t : TimelineValue) (edges : ℕ → ℕ) (early late : ℕ) (c : Clock
 pub tick_true : (IsTrue : List Pulse → Type 0) (t : TimelineValue) (edges : ℕ → ℕ) (early late : ℕ) (k : Keeping) (M tick now : ℕ) (pulses : ℕ → List Pulse) → early + late ≤ 3002 → TellsTruly IsTrue k.clock k.rules t edges early late now
     → IsDevice t k.clock.drift_us edges k.clock.reader_rules k.table → tick ≤ now → now ≤ tick + 1800000000
     → IsOnTrack t edges early late k.clock.drift_us M k.clock.reader_rules k.table tick k.state.reader k.state.bound_us k.state.edge_us → AreHeardTruly IsTrue k.clock k.rules (f_of k.clock.redundancy) now k.state.lines pulses
-    → KeepsTrue t k.clock.drift_us edges early late M k.clock.reader_rules k.table now (after_tick k (now % 2 ^ 32)).state (answer_at k (now % 2 ^ 32))
-tick_true IsTrue t edges early late k M tick now pulses room truly is order soon on heard = of (vote_at k (now % 2 ^ 32)) refl
+    → StepsAt edges early late k tick now → KeepsTrue t k.clock.drift_us edges early late M k.clock.reader_rules k.table now (after_tick k (now % 2 ^ 32)).state (answer_at k (now % 2 ^ 32))
+tick_true IsTrue t edges early late k M tick now pulses room truly is order soon on heard steps = of (vote_at k (now % 2 ^ 32)) refl
   where
     s : ClockState
     s = settled_at k.clock k.state (now % 2 ^ 32)
 
     of : (v : Option Vote) → vote_at k (now % 2 ^ 32) ≡ v → KeepsTrue t k.clock.drift_us edges early late M k.clock.reader_rules k.table now (clock_by k.clock k.table s (now % 2 ^ 32) v) (answer_by k.clock k.table s (now % 2 ^ 32) v)
     of None e =
-        let h = alone t edges early late k.clock k.table s is room M tick now order soon on (edges_own s.edge_us (now % 2 ^ 32)) refl in
+        let h = alone t edges early late k.clock k.table s is room M tick now order soon on (steps e) (edges_own s.pace s.edge_us (now % 2 ^ 32)) refl in
         record { track = h.track; told = h.told; calm = h.calm }
     of (Some v) e =
         let vote = vote_is_true IsTrue k.rules t k.clock edges is.steady early late room now k.state.lines pulses truly heard v e in

@@ -1,6 +1,6 @@
 -- A second that a tick announces by a vote is true, from any state.
 use Rattle.std.specs.Prelude.{◌==◌}
-use Rattle.std.proofs.Common.{◌≡◌, ◌∙◌, ℕ, ◌+◌, ◌-◌, ◌*◌, ◌%◌, ◌^◌, ◌≤◌, Bool, true, false, cond, List, Option, Some, None, refl, sym, ap, subst, arith}
+use Rattle.std.proofs.Common.{◌≡◌, ◌∙◌, ℕ, ◌+◌, ◌-◌, ◌%◌, ◌^◌, ◌≤◌, Bool, true, false, cond, List, Option, Some, None, refl, sym, ap, subst, arith}
 use Rattle.irig_sync.specs.Lines.{Pulse}
 use Rattle.irig_sync.specs.Edges.{element_drift}
 use Rattle.irig_time.specs.declared.second.UtcSecond.{UtcSecond}
@@ -32,7 +32,7 @@ use Rattle.irig_lines.specs.declared.setup.ClockRules.{ClockRules}
 use Rattle.irig_lines.specs.Edges.{IsQuartz}
 use Rattle.irig_lines.specs.Counting.{edges_to_vote, edges_own}
 use Rattle.irig_timekeeper.specs.Rule.{missed, against_table, step_checked}
-use Rattle.irig_timekeeper.specs.Clock.{lasted, beat_by, step_to, own_edge, answer_by, settled_at}
+use Rattle.irig_timekeeper.specs.Clock.{bound_of, beat_by, step_to, own_edge, answer_by, settled_at}
 use Rattle.irig_timekeeper.specs.declared.clock.ClockState.{ClockState}
 use Rattle.irig_timekeeper.specs.Keeping.{Keeping, answer_at, vote_at}
 use Rattle.irig_timekeeper.specs.Truth.{AreHeardTruly, IsToldTruly}
@@ -99,10 +99,10 @@ tick_voted_by IsTrue t edges k d early late room now pulses b u quartz truly sou
     s : ClockState
     s = settled_at k.clock k.state (now % 2 ^ 32)
 
-    by_own : (n : ℕ) (test : Bool) → (n == 0) ≡ test → cond test None (Some (beat_by k.clock s false (step_to k.clock k.table s n None) (n - 1) (own_edge s.edge_us n) s.bound_us)) ≡ Some b → IsToldBy k.clock d t edges early late now b u
+    by_own : (n : ℕ) (test : Bool) → (n == 0) ≡ test → cond test None (Some (beat_by k.clock s false (step_to k.clock k.table s n None) (n - 1) (own_edge s.pace s.edge_us n) s.bound_us)) ≡ Some b → IsToldBy k.clock d t edges early late now b u
     by_own n true e answer = absurd cc
     by_own n false e answer =
-        let beat : beat_by k.clock s false (step_to k.clock k.table s n None) (n - 1) (own_edge s.edge_us n) s.bound_us ≡ b = cc in
+        let beat : beat_by k.clock s false (step_to k.clock k.table s n None) (n - 1) (own_edge s.pace s.edge_us n) s.bound_us ≡ b = cc in
         absurd (never_voted k.clock.reader_rules k.table k.clock.prefers_frames (missed k.clock.prefers_frames k.clock.reader_rules k.table (n - 1) k.state.reader) (ap (λ (x : Beat). x.report.cause) beat ∙ voted))
 
     by_vote : (v : Vote) → IsVoteNear k.clock d t edges early late now v → (n : ℕ) (test : Bool) → (n == 0) ≡ test → cond test None (Some (beat_by k.clock s (against_table k.table (Some v.claim)) (step_to k.clock k.table s n (Some v.claim)) (n - 1) v.edge_us v.bound_us)) ≡ Some b
@@ -113,7 +113,7 @@ tick_voted_by IsTrue t edges k d early late room now pulses b u quartz truly sou
         let state = missed k.clock.prefers_frames k.clock.reader_rules k.table (n - 1) k.state.reader in
         let truth : truth_at t vote.truth.second ≡ Some v.claim = (claim_is t vote.truth.second v.claim).1 vote.truth.truth in
         let lock : Lock = (step_to k.clock k.table s n (Some v.claim)).report.lock in
-        let bound : b.bound_us ≡ v.bound_us + lasted lock * k.clock.drift_us = ap (λ (x : Beat). x.bound_us) (sym beat) in
+        let bound : b.bound_us ≡ bound_of k.clock.drift_us s.pace v.bound_us lock = ap (λ (x : Beat). x.bound_us) (sym beat) in
         record {
           far = vote.far;
           bound = omega (arith, vote.told, bound);
@@ -130,7 +130,7 @@ tick_voted_by IsTrue t edges k d early late room now pulses b u quartz truly sou
         }
 
     of : (v : Option Vote) → vote_at k (now % 2 ^ 32) ≡ v → answer_by k.clock k.table s (now % 2 ^ 32) v ≡ Some b → IsToldBy k.clock d t edges early late now b u
-    of None e answer = by_own (edges_own s.edge_us (now % 2 ^ 32)) _ refl answer
+    of None e answer = by_own (edges_own s.pace s.edge_us (now % 2 ^ 32)) _ refl answer
     of (Some v) e answer =
         by_vote v (vote_is_near IsTrue k.rules t k.clock d edges quartz early late room now k.state.lines pulses truly heard v e) (edges_to_vote s.edge_us v.edge_us) _ refl answer
 

@@ -1,6 +1,6 @@
 -- How long to wait, and that enough lines agree.
 use Rattle.std.specs.Prelude.{nat_le, nat_lt, slice_get}
-use Rattle.std.proofs.Common.{◌≡◌, ◌∙◌, ℕ, zero, suc, ◌+◌, ◌-◌, ◌/◌, ◌%◌, ◌^◌, ◌<◌, ◌≤◌, Bool, true, false, cond, List, [], ◌∷◌, Option, Some, None, refl, ap, subst, arith, inl, inr}
+use Rattle.std.proofs.Common.{◌≡◌, ◌∙◌, ℕ, zero, suc, ◌+◌, ◌-◌, ◌%◌, ◌^◌, ◌<◌, ◌≤◌, Bool, true, false, cond, List, [], ◌∷◌, Option, Some, None, refl, sym, subst, arith, inl, inr}
 use Rattle.std.proofs.lemmas.Bool.{cases_lt}
 use Rattle.irig_sync.specs.Sync.{clock_gap}
 use Rattle.irig_vote.specs.Vote.{f_of}
@@ -12,7 +12,9 @@ use Rattle.irig_lines.specs.Widths.{reach_us}
 use Rattle.irig_lines.specs.Counting.{edges_own}
 use Rattle.irig_lines.specs.Steps.{line_at, claim_kept, all_kept, last_us, is_candidate, earlier, first_candidate, vote_with, agreed, wait_by}
 use Rattle.irig_lines.proofs.PartLaws.{vote_by}
+use Rattle.irig_lines.specs.declared.pace.Pace.{Pace}
 use Rattle.irig_timekeeper.specs.Truth.{IsEdgeAt}
+use Rattle.irig_timekeeper.proofs.TimeLaws.{one_at, own_come, own_count, still_edge}
 
 -- ---- waiting
 
@@ -50,14 +52,8 @@ module _ (e edge tick now : ℕ) (at : IsEdgeAt e edge tick) (order : tick ≤ n
       no_gap e edge now is same = omega (arith, is, same)
 
   -- what is counted at a time
-  own_then : edges_own (Some e) (now % 2 ^ 32) ≡ (now - edge - 6000) / 1000000
-  own_then =
-      let gap : clock_gap e (now % 2 ^ 32) ≡ now - edge = ap (λ (x : ℕ). clock_gap x (now % 2 ^ 32)) at.clock ∙ gap_is edge now (omega (arith, at.come, order)) (omega (arith, at.soon, soon)) in
-      let low = low_is (now - edge) (omega (arith, at.soon, soon)) in
-      rw (gap, low) refl
-    where
-      gap_is : (u v : ℕ) → u ≤ v → v < u + 2 ^ 32 → clock_gap (u % 2 ^ 32) (v % 2 ^ 32) ≡ v - u
-      gap_is u v h k = omega arith
+  own_then : (pace : Option Pace) → edges_own pace (Some e) (now % 2 ^ 32) ≡ own_come pace edge now
+  own_then pace = own_count tick now order soon e edge at pace
 
   -- it is so long that the edge is counted behind it
   pub enough : edge + 1006000 ≤ now + wait_by (now % 2 ^ 32) (Some e) None
@@ -66,18 +62,19 @@ module _ (e edge tick now : ℕ) (at : IsEdgeAt e edge tick) (order : tick ≤ n
     | inr behind ↦ omega (arith, behind)
   ]
 
-  pub waits : edges_own (Some e) (now % 2 ^ 32) ≡ 0 → (1 ≤ wait_by (now % 2 ^ 32) (Some e) None) × (wait_by (now % 2 ^ 32) (Some e) None ≤ 1006000)
-  waits none =
-      let ahead : now < edge + 1006000 = omega (arith, own_then, none) in
+  pub waits : (pace : Option Pace) → edges_own pace (Some e) (now % 2 ^ 32) ≡ 0 → (1 ≤ wait_by (now % 2 ^ 32) (Some e) None) × (wait_by (now % 2 ^ 32) (Some e) None ≤ 1006000)
+  waits pace none =
+      let ahead : now < edge + 1006000 = (still_edge tick now order soon e edge at pace (sym (own_then pace) ∙ none)).soon in
       (omega (arith, wait_ahead ahead, ahead), omega (arith, wait_ahead ahead, at.come, order))
 
-pub counts_then : (e edge tick now more : ℕ) → IsEdgeAt e edge tick → tick ≤ now → now + wait_by (now % 2 ^ 32) (Some e) None + more ≤ tick + 1800000000
-    → 1 ≤ edges_own (Some e) ((now + wait_by (now % 2 ^ 32) (Some e) None + more) % 2 ^ 32)
-counts_then e edge tick now more at order soon =
+pub counts_then : (pace : Option Pace) (e edge tick now more : ℕ) → IsEdgeAt e edge tick → tick ≤ now → now + wait_by (now % 2 ^ 32) (Some e) None + more ≤ tick + 1800000000
+    → 1 ≤ edges_own pace (Some e) ((now + wait_by (now % 2 ^ 32) (Some e) None + more) % 2 ^ 32)
+counts_then pace e edge tick now more at order soon =
     let then : ℕ = now + wait_by (now % 2 ^ 32) (Some e) None + more in
     let there = enough e edge tick now at order (omega (arith, soon)) in
-    let count = own_then e edge tick then at (omega (arith, order)) soon in
-    omega (arith, count, there)
+    let count = own_then e edge tick then at (omega (arith, order)) soon pace in
+    let one = one_at pace (then - edge) (omega (arith, there)) in
+    omega (arith, count, one)
 
 -- ---- enough lines agree
 

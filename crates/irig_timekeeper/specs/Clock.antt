@@ -1,7 +1,7 @@
 -- A device's clock: what becomes of it at a tick, and what it then says. It counts the seconds from
 -- its last edge to one on which lines agree, or else by its own counter.
 -- Source: this project's profile.
-use Rattle.std.specs.Prelude.{ℕ, Bool, false, not, ◌&&◌, ◌≤◌, ◌+◌, ◌-◌, ◌*◌, ◌%◌, ◌^◌, ◌==◌, min, max, if◌then◌else◌, Option, Some, None, is_none, IfSome}
+use Rattle.std.specs.Prelude.{ℕ, Bool, true, false, not, ◌&&◌, ◌≤◌, ◌+◌, ◌-◌, ◌%◌, ◌^◌, ◌==◌, min, max, if◌then◌else◌, Option, Some, None, is_none, IfSome}
 use Rattle.irig_time.specs.declared.second.UtcSecond.{UtcSecond}
 use Rattle.irig_time.specs.declared.claim.Claim.{Claim}
 use Rattle.irig_time.specs.Seconds.{IsValid}
@@ -18,12 +18,14 @@ use Rattle.irig_timekeeper.specs.declared.stamp.Announced.{Announced}
 use Rattle.irig_timekeeper.specs.declared.clock.Beat.{Beat}
 use Rattle.irig_lines.specs.declared.setup.ClockRules.{ClockRules}
 use Rattle.irig_timekeeper.specs.declared.clock.ClockState.{ClockState}
-use Rattle.irig_lines.specs.Counting.{edges_to_vote, edges_own, edge_behind}
+use Rattle.irig_lines.specs.Counting.{edges_to_vote, edges_own}
+use Rattle.irig_lines.specs.declared.pace.Pace.{Pace}
+use Rattle.irig_lines.specs.Paces.{edge_on, grown_us, learned, pace_on}
 use Rattle.irig_lines.specs.Steps.{settled, taken, tells_of, are_uneven, agreed, if_come, wait_by}
 use Rattle.irig_lines.specs.declared.interval.Interval.{Interval}
 use Rattle.irig_lines.specs.Intervals.{by_vote, carried_on, cut, contradicts}
 use Rattle.irig_lines.specs.declared.rate.Anchors.{Anchors}
-use Rattle.irig_lines.specs.Rates.{no_anchors, anchors_on, anchors_cut}
+use Rattle.irig_lines.specs.Rates.{no_anchors, anchors_on, anchors_cut, rate_of, serving}
 use Rattle.irig_timekeeper.specs.Rule.{against_table, step_behind}
 use Rattle.std.specs.Option.{ForSome}
 use Rattle.irig_lines.specs.Exactness.{most_vote_us, most_held_us}
@@ -37,9 +39,9 @@ lasted (lock.Acquiring count) = 0
 lasted lock.Locked = 0
 lasted (lock.Holdover edges) = edges
 
--- its edge lies at most as far off as that of the last vote, and the drift of each second since
-abbrev pub bound_of : (drift voted : ℕ) → Lock → ℕ
-bound_of drift voted lock = voted + lasted lock * drift
+-- its edge lies at most as far off as that of the last vote, and what comes of each second since
+abbrev pub bound_of : (drift : ℕ) → Option Pace → (voted : ℕ) → Lock → ℕ
+bound_of drift pace voted lock = voted + grown_us drift pace (lasted lock)
 
 -- what is kept of it
 abbrev pub announced_at : ℕ → ℕ → Option UtcSecond → Option Announced
@@ -47,9 +49,9 @@ announced_at edge bound None = None
 announced_at edge bound (Some u) = Some (record { second = u; edge_us = edge; bound_us = bound })
 
 -- what is kept of the second that a report announces at an edge
-abbrev pub announced : (drift voted : ℕ) → Report → ℕ → Option Announced
-announced drift voted report edge =
-    announced_at edge (bound_of drift voted report.lock) report.announce
+abbrev pub announced : (drift : ℕ) → Option Pace → (voted : ℕ) → Report → ℕ → Option Announced
+announced drift pace voted report edge =
+    announced_at edge (bound_of drift pace voted report.lock) report.announce
 
 -- what was announced before an edge serves on, unless a vote announces nothing there, as at a jump
 abbrev pub still_serves : Option Claim → Option UtcSecond → Option Announced → Option Announced
@@ -95,11 +97,17 @@ beat_by c s against step missed edge voted = record {
   report = step.report;
   told = tells_of s.lines;
   edge_us = edge;
-  bound_us = bound_of c.drift_us voted step.report.lock;
+  bound_us = bound_of c.drift_us s.pace voted step.report.lock;
   missed = missed;
   moved = s.moved;
   against_table = against;
 }
+
+-- the reader is locked
+abbrev pub is_held : State → Bool
+is_held Idle = false
+is_held (Acquiring h count) = false
+is_held (Locked h) = true
 
 -- where the clock then stands, with these lines, by this vote if there is one, behind so many seconds
 -- that were missed
@@ -112,12 +120,13 @@ beaten c s lines vote step missed edge voted = record {
   bound_us = voted;
   interval = s.interval;
   anchors = s.anchors;
+  pace = s.pace;
   strays = s.strays;
   doubt = s.doubt;
   moved = 0;
-  last = announced c.drift_us voted step.report edge;
+  last = announced c.drift_us s.pace voted step.report edge;
   before = still_serves vote step.report.announce s.last;
-  ended = announced_at edge (bound_of c.drift_us voted step.report.lock)
+  ended = announced_at edge (bound_of c.drift_us s.pace voted step.report.lock)
       (second_ended (held_second s.reader) missed vote step.report.announce);
   ended_before = if missed == 0 then s.ended else None;
 }
@@ -153,23 +162,27 @@ answer_to_vote c table s vote edges =
 -- ---- they do not: so many have come by the own counter
 
 -- the edge so many seconds behind the last one
-abbrev pub own_edge : Option ℕ → ℕ → ℕ
-own_edge None edges = 0
-own_edge (Some edge) edges = edge_behind edge edges
+abbrev pub own_edge : Option Pace → Option ℕ → ℕ → ℕ
+own_edge pace None edges = 0
+own_edge pace (Some edge) edges = edge_on pace edge edges
+
+-- what was learned serves on while the reader is locked
+abbrev pub serving_on : (seconds : ℕ) → ClockState → ClockState
+serving_on seconds s = record s { pace = pace_on (is_held s.reader) seconds s.pace }
 
 -- where the clock then stands
 abbrev pub after_own : ClockRules → TableValue → ClockState → ℕ → ClockState
 after_own c table s edges =
     if edges == 0 then s
-    else beaten c s s.lines None (step_to c table s edges None) (edges - 1)
-    (own_edge s.edge_us edges) s.bound_us
+    else serving_on edges (beaten c s s.lines None (step_to c table s edges None) (edges - 1)
+    (own_edge s.pace s.edge_us edges) s.bound_us)
 
 -- what a tick answers without a vote
 abbrev pub answer_alone : ClockRules → TableValue → ClockState → ℕ → Option Beat
 answer_alone c table s edges =
     if edges == 0 then None
     else Some (beat_by c s false (step_to c table s edges None) (edges - 1)
-    (own_edge s.edge_us edges) s.bound_us)
+    (own_edge s.pace s.edge_us edges) s.bound_us)
 
 -- ---- what is known of the edge by all votes
 
@@ -209,19 +222,23 @@ knowing_vote c s vote seconds next = record next {
       else s.doubt - seconds;
 }
 
+-- what is learned of the counter by what is then measured
+abbrev pub learning : ClockRules → ClockState → ClockState
+learning c s = record s { pace = learned c (rate_of s.interval (serving s.anchors)) }
+
 -- ---- a tick
 
 -- by the edge on which lines agree, if they do; the lines are settled
 abbrev pub clock_by : ClockRules → TableValue → ClockState → ℕ → Option Vote → ClockState
 clock_by c table s now None =
-    knowing c s (edges_own s.edge_us now) (after_own c table s (edges_own s.edge_us now))
+    knowing c s (edges_own s.pace s.edge_us now) (after_own c table s (edges_own s.pace s.edge_us now))
 clock_by c table s now (Some vote) =
-    knowing_vote c s vote (edges_to_vote s.edge_us vote.edge_us)
-    (after_vote c table s vote (edges_to_vote s.edge_us vote.edge_us))
+    learning c (knowing_vote c s vote (edges_to_vote s.edge_us vote.edge_us)
+    (after_vote c table s vote (edges_to_vote s.edge_us vote.edge_us)))
 
 -- what it answers, by the edge on which lines agree, if they do
 abbrev pub answer_by : ClockRules → TableValue → ClockState → ℕ → Option Vote → Option Beat
-answer_by c table s now None = answer_alone c table s (edges_own s.edge_us now)
+answer_by c table s now None = answer_alone c table s (edges_own s.pace s.edge_us now)
 answer_by c table s now (Some vote) =
     answer_to_vote c table s vote (edges_to_vote s.edge_us vote.edge_us)
 
@@ -234,13 +251,18 @@ vote_of_lines c s now = if_come now (agreed c (settled now s.lines))
 abbrev pub is_unsteady : ClockRules → ClockState → ℕ → Bool
 is_unsteady c s now =
     is_none (vote_of_lines c s now)
-    && (not (edges_own s.edge_us now == 0) && are_uneven c (settled now s.lines))
+    && (not (edges_own s.pace s.edge_us now == 0) && are_uneven c (settled now s.lines))
+
+-- what was learned serves no more where frames tell that
+abbrev pub pace_unless : (unsteady : Bool) → Option Pace → Option Pace
+pace_unless unsteady pace = if unsteady then None else pace
 
 -- the clock with its lines settled; that counts as a vote does that contradicts those before it
 abbrev pub settled_at : ClockRules → ClockState → ℕ → ClockState
 settled_at c s now = record s {
   lines = settled now s.lines;
   anchors = anchors_unless (is_unsteady c s now) s.anchors;
+  pace = pace_unless (is_unsteady c s now) s.pace;
   strays = if is_unsteady c s now then (s.strays + 1) % 2 ^ 32 else s.strays;
   doubt = if is_unsteady c s now then doubted_s c else s.doubt;
 }

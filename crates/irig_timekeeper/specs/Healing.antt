@@ -12,7 +12,7 @@ use Rattle.irig_timekeeper.specs.Truth.{IsDevice}
 use Rattle.irig_timekeeper.specs.Life.{Call, Made, AreInOrder, AreTrueLately, AreTrueOver, life_of}
 use Rattle.irig_timekeeper.specs.Life.Call.{Tick}
 
--- a device is what its setup says, its calls are in order, and one of them was a tick with a vote
+-- a device is what its setup says, learns nothing from votes, its calls are in order, and one of them was a tick with a vote
 -- that counts an edge; at it and at each tick since, all but at most f lines are such true lines.
 -- What came before may be anything
 pub record HasHealed
@@ -20,6 +20,7 @@ pub record HasHealed
     (edges : ℕ → ℕ) (made : Made) (start : ℕ) (calls : List Call)
     : Type 0 where
   pub is : IsDevice t made.clock.drift_us edges made.clock.reader_rules made.table
+  pub plain : made.clock.wander_ppb ≡ 0
   pub order : AreInOrder start made.clock.redundancy calls
   pub later : List Call
   pub mend : ℕ

@@ -67,6 +67,7 @@ new_state lines = record {
   bound_us = 0;
   interval = None;
   anchors = no_anchors;
+  pace = None;
   strays = 0;
   doubt = 0;
   moved = 0;

@@ -16,3 +16,4 @@ pub mod Healing
 pub mod Lived
 pub mod Doubts
 pub mod Measures
+pub mod Learning

@@ -9,6 +9,7 @@ use Rattle.irig_time.specs.Tables.{TableValue}
 use Rattle.irig_time.specs.Timelines.{TimelineValue}
 use Rattle.irig_vote.specs.declared.redundancy.Redundancy.{Redundancy}
 use Rattle.irig_vote.specs.Vote.{ports_in, f_of}
+use Rattle.irig_lines.specs.Paces.{WandersAsSet}
 use Rattle.irig_lines.specs.declared.setup.ClockRules.{ClockRules}
 use Rattle.irig_lines.specs.declared.lines.Lines.{Lines}
 use Rattle.irig_lines.specs.Steps.{is_pulse, AreNewLines}
@@ -101,12 +102,13 @@ AreTrueOver IsTrue f (Hear port rise width ∷ calls) before = AreTrueOver IsTru
 AreTrueOver IsTrue f (Tick now ∷ calls) before =
     AreTrueLately IsTrue f now (calls ++ before) × AreTrueOver IsTrue f calls before
 
--- a device is what its setup says, its calls are in order, and at each tick all but at most f lines
--- are such true lines
+-- a device is what its setup says, its counter wanders no more than that if it is to learn from votes,
+-- its calls are in order, and at each tick all but at most f lines are such true lines
 pub record LivesTruly
     (IsTrue : Rules → TimelineValue → (ℕ → ℕ) → ℕ → List Pulse → Type 0) (t : TimelineValue)
     (edges : ℕ → ℕ) (made : Made) (start : ℕ) (calls : List Call)
     : Type 0 where
   pub is : IsDevice t made.clock.drift_us edges made.clock.reader_rules made.table
   pub order : AreInOrder start made.clock.redundancy calls
+  pub learns : WandersAsSet made.clock edges
   pub truth : AreTrueAtTicks (IsTrue made.rules t edges) (f_of made.clock.redundancy) calls

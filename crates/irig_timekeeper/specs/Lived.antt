@@ -8,6 +8,7 @@ use Rattle.irig_time.specs.Tables.{TableValue}
 use Rattle.irig_time.specs.Timelines.{TimelineValue}
 use Rattle.irig_port.specs.declared.port.Port.{Ghosts}
 use Rattle.irig_vote.specs.Vote.{f_of}
+use Rattle.irig_lines.specs.Paces.{WandersAsSet}
 use Rattle.irig_lines.specs.declared.setup.ClockRules.{ClockRules}
 use Rattle.irig_timekeeper.specs.declared.keeper.Timekeeper.{Timekeeper}
 use Rattle.irig_lines.specs.declared.lines.Lines.{Lines}
@@ -40,12 +41,13 @@ pub record HasLived {P : Type 0} {g : Ghosts P} (keeper : Timekeeper P g) (made 
   pub fresh : AreNewLines lines
   pub is : IsKeeping keeper (life_of (made_with made lines fresh) calls)
 
--- a device is what its setup says, its calls are in order, and at each tick all but at most f lines
--- are such true lines
+-- a device is what its setup says, its counter wanders no more than that if it is to learn from votes,
+-- its calls are in order, and at each tick all but at most f lines are such true lines
 pub record LivesWell
     (IsTrue : Rules → TimelineValue → (ℕ → ℕ) → ℕ → List Pulse → Type 0) (t : TimelineValue)
     (edges : ℕ → ℕ) (made : MadeOf) (start : ℕ) (calls : List Call)
     : Type 0 where
   pub is : IsDevice t made.clock.drift_us edges made.clock.reader_rules made.table
   pub order : AreInOrder start made.clock.redundancy calls
+  pub learns : WandersAsSet made.clock edges
   pub truth : AreTrueAtTicks (IsTrue made.rules t edges) (f_of made.clock.redundancy) calls

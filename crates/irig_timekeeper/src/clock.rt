@@ -8,15 +8,17 @@ ghost use Rattle.irig_timekeeper.specs.Rule.{against_table, missed, step_behind}
 ghost use Rattle.irig_lines.specs.Steps.{AreKeptOfUtc, AreNewLines};
 ghost use Rattle.irig_timekeeper.specs.Keeping.{new_state};
 ghost use Rattle.irig_lines.specs.Intervals.{IsShort};
-ghost use Rattle.irig_timekeeper.specs.Clock.{knowing, knowing_vote, lasted, bound_of, announced_at, still_serves, beat_by, beaten, step_to, after_vote, answer_to_vote, after_own, answer_alone, doubted_s, settled_at, vote_of_lines, clock_after, clock_answer, clock_vote, clock_wait, held_second, second_ended, unless_doubted, SaysOfUtc, AnnouncedOfUtc, AreSmall};
+ghost use Rattle.irig_lines.specs.Paces.{IsSound};
+ghost use Rattle.irig_lines.specs.Rates.{rate_of, serving};
+ghost use Rattle.irig_timekeeper.specs.Clock.{knowing, knowing_vote, learning, is_held, lasted, bound_of, announced_at, still_serves, beat_by, beaten, step_to, after_vote, answer_to_vote, after_own, answer_alone, doubted_s, settled_at, vote_of_lines, clock_after, clock_answer, clock_vote, clock_wait, held_second, second_ended, unless_doubted, SaysOfUtc, AnnouncedOfUtc, AreSmall};
 ghost use Rattle.irig_lines.specs.Exactness.{most_drift_us, most_vote_us, most_held_us};
 
 use crate::check::{against_table, step_checked};
 use crate::stamp::Announced;
 use irig_lines::{
-    Anchors, ClockRules, Interval, Lines, NO_ANCHORS, Vote, agreed, anchors_cut, anchors_on,
-    are_uneven, by_vote, carried_on, contradicts, cut, edge_behind, edges_own, edges_to_vote,
-    if_come, lines_of_nothing, settle, take, tells_of, wait_by,
+    Anchors, ClockRules, Interval, Lines, NO_ANCHORS, Pace, Vote, agreed, anchors_cut, anchors_on,
+    are_uneven, by_vote, carried_on, contradicts, cut, edge_on, edges_own, edges_to_vote, grown_us,
+    if_come, learned, lines_of_nothing, pace_on, rate_of, settle, take, tells_of, wait_by,
 };
 use irig_reader::{Lock, Report, State, Step};
 use irig_time::{Claim, Leaps, UtcSecond};
@@ -39,6 +41,8 @@ pub struct ClockState {
     pub interval: Option<Interval>,
     /// The intervals at up to two votes before, from which the length of a second is measured.
     pub anchors: Anchors,
+    /// How long seconds are by the counter, as votes have taught it, if the setup has a `wander_ppb`.
+    pub pace: Option<Pace>,
     /// How many votes contradicted those before them, and how many seconds were counted without a
     /// vote where frames told that the counter is not so steady as the setup says.
     pub strays: u32,
@@ -97,6 +101,7 @@ pub fn clock_of_nothing() -> ClockState
         bound_us: 0,
         interval: None,
         anchors: NO_ANCHORS,
+        pace: None,
         strays: 0,
         doubt: 0,
         moved: 0,
@@ -119,6 +124,7 @@ pub fn tick<T: Leaps>(rules: &ClockRules, table: &T, state: &mut ClockState, now
     requires counting { count_of state.old.reader < rules.now.reader_rules.lock_after }
     requires small { state.old.bound_us ≤ most_vote_us }
     requires known { IsShort state.old.interval }
+    requires paced { IsSound state.old.pace }
     requires ended { AreSmall state.old }
     requires valid { AreKeptOfUtc state.old.lines }
     ensures answer { result.beat ≡ clock_answer rules.now (T.says table.now) state.old now_us }
@@ -129,6 +135,7 @@ pub fn tick<T: Leaps>(rules: &ClockRules, table: &T, state: &mut ClockState, now
     ensures said { SaysOfUtc result.beat }
     ensures small { state.new.bound_us ≤ most_vote_us }
     ensures known { IsShort state.new.interval }
+    ensures paced { IsSound state.new.pace }
     ensures ended { AreSmall state.new }
     ensures announced { AnnouncedOfUtc state.old → AnnouncedOfUtc state.new }
 {
@@ -147,6 +154,7 @@ fn tick_by_vote<T: Leaps>(
 ) -> Ticked
     requires steady { rules.now.drift_us ≤ most_drift_us }
     requires known { IsShort state.old.interval }
+    requires paced { IsSound state.old.pace }
     requires ended { AreSmall state.old }
     requires short { (rules.now.reader_rules.holdover + 2) * rules.now.drift_us ≤ most_held_us }
     requires small { vote.bound_us ≤ most_vote_us }
@@ -154,11 +162,12 @@ fn tick_by_vote<T: Leaps>(
     requires valid { IsValid vote.claim.at }
     ensures answer { result.beat ≡ answer_to_vote rules.now (T.says table.now) state.old vote
         (edges_to_vote state.old.edge_us vote.edge_us) }
-    ensures after { state.new ≡ knowing_vote rules.now state.old vote
+    ensures after { state.new ≡ learning rules.now (knowing_vote rules.now state.old vote
         (edges_to_vote state.old.edge_us vote.edge_us)
         (after_vote rules.now (T.says table.now) state.old vote
-        (edges_to_vote state.old.edge_us vote.edge_us)) }
+        (edges_to_vote state.old.edge_us vote.edge_us))) }
     ensures known { IsShort state.new.interval }
+    ensures paced { IsSound state.new.pace }
     ensures ended { AreSmall state.new }
     ensures vote { result.vote ≡ Some vote.claim }
     ensures counting { count_of state.new.reader < rules.now.reader_rules.lock_after }
@@ -178,6 +187,7 @@ fn tick_by_vote<T: Leaps>(
         None
     };
     take(&mut state.lines);
+    state.pace = learned(rules, rate_of(state.interval, state.anchors));
     Ticked {
         beat,
         vote: Some(vote.claim),
@@ -193,16 +203,18 @@ fn tick_alone<T: Leaps>(
 ) -> Ticked
     requires steady { rules.now.drift_us ≤ most_drift_us }
     requires known { IsShort state.old.interval }
+    requires paced { IsSound state.old.pace }
     requires ended { AreSmall state.old }
     requires short { (rules.now.reader_rules.holdover + 2) * rules.now.drift_us ≤ most_held_us }
     requires counting { count_of state.old.reader < rules.now.reader_rules.lock_after }
     requires small { state.old.bound_us ≤ most_vote_us }
     requires valid { AreKeptOfUtc state.old.lines }
     ensures answer { result.beat ≡ answer_alone rules.now (T.says table.now) state.old
-        (edges_own state.old.edge_us now_us) }
-    ensures after { state.new ≡ knowing rules.now state.old (edges_own state.old.edge_us now_us)
-        (after_own rules.now (T.says table.now) state.old (edges_own state.old.edge_us now_us)) }
+        (edges_own state.old.pace state.old.edge_us now_us) }
+    ensures after { state.new ≡ knowing rules.now state.old (edges_own state.old.pace state.old.edge_us now_us)
+        (after_own rules.now (T.says table.now) state.old (edges_own state.old.pace state.old.edge_us now_us)) }
     ensures known { IsShort state.new.interval }
+    ensures paced { IsSound state.new.pace }
     ensures ended { AreSmall state.new }
     ensures vote { result.vote ≡ None }
     ensures counting { count_of state.new.reader < rules.now.reader_rules.lock_after }
@@ -211,13 +223,15 @@ fn tick_alone<T: Leaps>(
     ensures small { state.new.bound_us ≤ most_vote_us }
     ensures announced { AnnouncedOfUtc state.old → AnnouncedOfUtc state.new }
 {
-    let edges = edges_own(state.edge_us, now_us);
+    let edges = edges_own(state.pace, state.edge_us, now_us);
     state.interval = carried_on(rules.drift_us, edges, state.interval);
     state.anchors = anchors_on(edges, state.interval, state.anchors);
     let beat = match state.edge_us {
         Some(edge) if edges > 0 => {
-            let edge_us = edge_behind(edge, edges);
-            Some(beat_at(rules, table, state, edges, None, edge_us))
+            let edge_us = edge_on(state.pace, edge, edges);
+            let beat = beat_at(rules, table, state, edges, None, edge_us);
+            state.pace = pace_on(is_held(&state.reader), edges, state.pace);
+            Some(beat)
         }
         _ => None,
     };
@@ -228,16 +242,22 @@ fn tick_alone<T: Leaps>(
 // frames last tells whether the counter is so steady as the setup says.
 fn settle_clock(rules: &ClockRules, state: &mut ClockState, now_us: u32) -> Option<Vote>
     requires steady { rules.now.drift_us ≤ most_drift_us }
+    requires paced { IsSound state.old.pace }
     ensures vote { result ≡ vote_of_lines rules.now state.old now_us }
     ensures after { state.new ≡ settled_at rules.now state.old now_us }
     ensures small { IfSome result (λ vote. vote.bound_us ≤ most_vote_us) }
+    ensures paced { IsSound state.new.pace }
 {
     settle(&mut state.lines, now_us);
     let vote = if_come(now_us, agreed(rules, &state.lines));
-    if vote.is_none() && edges_own(state.edge_us, now_us) > 0 && are_uneven(rules, &state.lines) {
+    if vote.is_none()
+        && edges_own(state.pace, state.edge_us, now_us) > 0
+        && are_uneven(rules, &state.lines)
+    {
         state.strays = state.strays.wrapping_add(1);
         state.doubt = doubted_s(rules);
         state.anchors = NO_ANCHORS;
+        state.pace = None;
     }
     vote
 }
@@ -288,6 +308,7 @@ fn beat_at<T: Leaps>(
     requires valid { IfSome vote (λ claim. IsValid claim.at) }
     requires ended { AreSmall state.old }
     requires some { 1 ≤ edges }
+    requires paced { IsSound state.old.pace }
     ensures answer { result ≡ beat_by rules.now state.old
         (against_table (T.says table.now) vote)
         (step_to rules.now (T.says table.now) state.old edges vote) (edges - 1) edge_us
@@ -298,6 +319,7 @@ fn beat_at<T: Leaps>(
     ensures counting { count_of state.new.reader < rules.now.reader_rules.lock_after }
     ensures said { IfSome result.report.announce IsValid }
     ensures ended { AreSmall state.new }
+    ensures paced { IsSound state.new.pace }
     ensures announced { AnnouncedOfUtc state.old → AnnouncedOfUtc state.new }
 {
     let reader = mem::replace(&mut state.reader, State::Idle);
@@ -307,7 +329,7 @@ fn beat_at<T: Leaps>(
         report: unless_doubted(state.doubt, vote, step.report),
         told: tells_of(&state.lines),
         edge_us,
-        bound_us: bound_of(rules, state.bound_us, step.report.lock),
+        bound_us: bound_of(rules, state.pace, state.bound_us, step.report.lock),
         missed: edges - 1,
         moved: state.moved,
         against_table: against_table(table, vote),
@@ -347,6 +369,13 @@ fn step_behind<T: Leaps>(
         state = step_checked(rules.prefers_frames, rules.reader_rules, table, state, None).state;
     }
     step_checked(rules.prefers_frames, rules.reader_rules, table, state, vote)
+}
+
+// Whether a reader is locked.
+fn is_held(reader: &State) -> bool
+    ensures { result ≡ is_held reader.now }
+{
+    matches!(reader, State::Locked(_))
 }
 
 // The second at which a locked reader stands.
@@ -406,13 +435,13 @@ fn still_serves(
 }
 
 // How far an edge may lie off, if that of the last vote lay so far off at most.
-fn bound_of(rules: &ClockRules, voted_us: u32, lock: Lock) -> u32
+fn bound_of(rules: &ClockRules, pace: Option<Pace>, voted_us: u32, lock: Lock) -> u32
     requires short { (rules.now.reader_rules.holdover + 2) * rules.now.drift_us ≤ most_held_us }
     requires small { voted_us ≤ most_vote_us }
     requires lasted { lasted lock ≤ rules.now.reader_rules.holdover }
-    ensures { result ≡ bound_of rules.now.drift_us voted_us lock }
+    ensures { result ≡ bound_of rules.now.drift_us pace voted_us lock }
 {
-    voted_us + lasted(lock) * rules.drift_us
+    voted_us + grown_us(rules.drift_us, pace, lasted(lock))
 }
 
 // What is kept of a second that is announced.

@@ -14,14 +14,15 @@ ghost use Rattle.irig_reader.specs.Rules.{IsReaderRules};
 ghost use Rattle.irig_lines.specs.Steps.{line_at, line_heard, whole_frame, AreKeptOfUtc, IsKeptOfUtc, AreNewLines};
 ghost use Rattle.irig_timekeeper.specs.Clock.{AreSmall};
 ghost use Rattle.irig_lines.specs.Intervals.{IsShort};
+ghost use Rattle.irig_lines.specs.Paces.{IsSound};
 ghost use Rattle.irig_lines.specs.Exactness.{most_drift_us, most_vote_us, most_held_us};
 
 use crate::clock::{Beat, ClockState, clock_of_nothing, tick, wait_of};
 use crate::stamp::{Stamp, stamp_of};
 use crate::states::{LineState, state_of};
 use irig_lines::{
-    ClockFault, ClockRules, KeptFrame, Line, Rate, clock_fault, corrected, delay_at, is_pulse,
-    line_at, rate_of, whole_frame, with_line,
+    ClockFault, ClockRules, KeptFrame, Line, Pace, Rate, clock_fault, corrected, delay_at,
+    is_pulse, line_at, rate_of, whole_frame, with_line,
 };
 use irig_port::{Limits, Port, Told, edge_within, hear};
 use irig_time::{LeapTable, Rules};
@@ -45,6 +46,7 @@ pub struct Timekeeper<P: Port> {
     ghost counting: { count_of state.reader < clock.reader_rules.lock_after },
     ghost small: { state.bound_us ≤ most_vote_us },
     ghost known: { IsShort state.interval },
+    ghost paced: { IsSound state.pace },
     ghost valid: { ∥ AreKeptOfUtc state.lines ∥₁ },
     ghost ended: { AreSmall state },
 }
@@ -64,6 +66,7 @@ impl<P: Port> Timekeeper<P> {
     ghost use Rattle.irig_lines.specs.Lines.{IsTrueLately};
     ghost use Rattle.irig_timekeeper.specs.Truth.{KnowsEnd, IsToldInHoldover, IsStampedTruly};
     ghost use Rattle.irig_timekeeper.specs.Measures.{IsMeasured};
+    ghost use Rattle.irig_timekeeper.specs.Learning.{IsLearned};
     ghost use Rattle.irig_lines.specs.declared.lines.Vote.{Vote};
     ghost use Rattle.irig_time.specs.Timelines.{TimelineValue, IsSecond};
     ghost use Rattle.irig_time.specs.TimelineFaults.{IsTimeline};
@@ -273,6 +276,22 @@ impl<P: Port> Timekeeper<P> {
             → IsMeasured edges (last_tick start calls) self.now.state.edge_us rate }
     {
         rate_of(self.state.interval, self.state.anchors)
+    }
+
+    /// What it has learned of its counter, by which it holds over: how long each of the next seconds is, if
+    /// all lines but f were true, and the counter is as steady as the setup says and wanders no more than
+    /// its `wander_ppb`. None until votes 1,000 s apart have taught it, after a stray (`strays`), once the
+    /// holdover has ended, and by a `wander_ppb` of 0.
+    pub fn pace(&self) -> Option<Pace>
+        ensures value { ForKeeping self.now (λ k. result ≡ k.state.pace) }
+        // the law `what_is_learned_is_so`
+        ensures truth { (t : TimelineValue) (edges : ℕ → ℕ) (made : MadeOf) (start : ℕ)
+            (calls : List Call) (pace : Pace) → HasLived self.now made calls
+            → LivesWell (IsTrueLately made.clock.within.us) t edges made start calls
+            → result ≡ Some pace
+            → IsLearned edges (last_tick start calls) self.now.state.edge_us pace }
+    {
+        self.state.pace
     }
 
     /// The time of an event, if it lies behind the edge of the last second that was told, or behind

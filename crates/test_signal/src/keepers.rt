@@ -47,6 +47,7 @@ fn clock_within(limits: VoteLimits) -> ClockRules
         within: nearest_within(450),
         limits,
         drift_us: 100,
+        wander_ppb: 0,
         delays: NO_DELAYS,
         prefers_frames: false,
     }

@@ -11,10 +11,10 @@ pub returns-clause-sealed : goal.returns-clause-sealed
 returns-clause-sealed c =
     let t = c.args.timekeeper.now in
     let fits : t.check < 18446744073709551616 = search rules in
-    let by_port = subst (λ (port : ℕ). (weighted (381 + 32 * port) (line_numbers c.line_at.result.now) + c.line_change-change.result) % 18446744073709551616
-    ≡ weighted (381 + 32 * port) (line_numbers c.args.line.now) % 18446744073709551616) c.from.ensures c.line_change-change.ensures in
-    let adds = subst (λ (l : IrigLine). (weighted (381 + 32 * c.args.port) (line_numbers l) + c.line_change-change.result) % 18446744073709551616
-    ≡ weighted (381 + 32 * c.args.port) (line_numbers c.args.line.now) % 18446744073709551616) c.line_at.ensures by_port in
+    let by_port = subst (λ (port : ℕ). (weighted (389 + 32 * port) (line_numbers c.line_at.result.now) + c.line_change-change.result) % 18446744073709551616
+    ≡ weighted (389 + 32 * port) (line_numbers c.args.line.now) % 18446744073709551616) c.from.ensures c.line_change-change.ensures in
+    let adds = subst (λ (l : IrigLine). (weighted (389 + 32 * c.args.port) (line_numbers l) + c.line_change-change.result) % 18446744073709551616
+    ≡ weighted (389 + 32 * c.args.port) (line_numbers c.args.line.now) % 18446744073709551616) c.line_at.ensures by_port in
     subst (λ (ls : IrigLines). IsSealed (record t { lines = ls; check = (t.check + c.line_change-change.result) % 18446744073709551616 }) ↔ IsSealed t)
     (sym c.put_line.ensures)
     (renewed_line t c.args.port c.args.line.now c.line_change-change.result c.requires fits adds)

@@ -53,6 +53,7 @@ returns-clause-rest c =
       bound_us = bound i;
       interval = c.set_interval.ensures.interval i;
       anchors = c.anchors_for_c-timekeeper.ensures i;
+      pace = c.pace_for_c-timekeeper.ensures.value i;
       strays = c.args.state.now.strays;
       doubt = c.args.state.now.doubt;
       moved = c.args.state.now.moved;

@@ -41,7 +41,7 @@ returns-clause-fresh c done =
         steady = ap (λ (s : IrigSetup). clock_fault (reader_rules_in s) q.wires.drift_us) new.setup
             ∙ (ap (λ (w : IrigWires). clock_fault (reader_rules_in c.args.setup.now) w.drift_us) new.wires ∙ steady);
         bound = omega (arith, new.bound);
-        known = inl new.interval;
+        known = record { interval = inl new.interval; pace = inl new.pace };
         is_state = inl (ap (λ (s : IrigState). s.kind) new.is_state);
         last = none_announced q.last new.last;
         before = none_announced q.before new.before;

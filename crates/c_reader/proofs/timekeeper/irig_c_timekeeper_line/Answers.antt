@@ -13,6 +13,7 @@ use Rattle.irig_timekeeper.specs.Lived.{made_with}
 use Rattle.irig_timekeeper.specs.States.{state_of}
 use Rattle.irig_lines.specs.Steps.{line_at}
 use Rattle.irig_lines.proofs.LineLaws.{true_by_any}
+use Rattle.irig_timekeeper.proofs.LearnLaws.{steps_truly}
 use Rattle.irig_timekeeper.proofs.LivedLaws.{as_made}
 use Rattle.irig_timekeeper.proofs.StateLaws.{true_line}
 use Rattle.c_numbers.specs.Setups.{redundancy_in}
@@ -55,5 +56,5 @@ returns-clause-truth c t edges made start now past done h well order line =
     ap (λ (x : IrigLineSaid). is_untrue_number x.state) value
     ∙ (ap is_untrue_number (said_number k.state c.args.line (number_of (state_of made.clock k.state c.args.line)) (line_at k.state.lines c.args.line).seen)
     ∙ (same_untrue (state_of made.clock k.state c.args.line)
-    ∙ true_line (IsTrueLately made.clock.within.us) t edges (made_with made h.lines h.fresh) start now (calls_of past) (record { is = well.is; order = well.order; truth = well.truth })
-    (λ now half end pulses claim is frame soon. true_by_any made.clock made.rules t made.clock.drift_us edges half now end pulses claim well.is.steady is frame soon) order c.args.line low line))
+    ∙ true_line (IsTrueLately made.clock.within.us) t edges (made_with made h.lines h.fresh) start now (calls_of past) (record { is = well.is; learns = well.learns; order = well.order; truth = well.truth })
+    (λ now half end pulses claim is frame soon. true_by_any made.clock made.rules t made.clock.drift_us edges half now end pulses claim well.is.steady is frame soon) (steps_truly t edges (made_with made h.lines h.fresh) start (calls_of past) (record { is = well.is; learns = well.learns; order = well.order; truth = well.truth })) order c.args.line low line))

@@ -12,5 +12,5 @@ pub returns-in-Some-clause-truth : goal.returns-in-Some-clause-truth
 returns-in-Some-clause-truth c t edges made start past found h well e =
     let measured = sym c.in-Some.ensures ∙ (sym c.rate_for_c.ensures ∙ e) in
     subst (λ (s : ClockState). IsMeasured edges (last_tick start (calls_of past)) s.edge_us found) (sym h.is.state)
-    (measures_truly t edges (made_with made h.lines h.fresh) start (calls_of past) found (record { is = well.is; order = well.order; truth = well.truth })
+    (measures_truly t edges (made_with made h.lines h.fresh) start (calls_of past) found (record { is = well.is; learns = well.learns; order = well.order; truth = well.truth })
     (ap (λ (s : ClockState). rate_of s.interval (serving s.anchors)) (sym h.is.state) ∙ measured))

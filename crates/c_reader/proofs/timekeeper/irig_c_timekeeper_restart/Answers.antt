@@ -33,7 +33,7 @@ returns-clause-restarted c k h =
         wires = subst AreWires (sym new.wires) h.accepted.wires;
         steady = steady_as t q new.setup new.wires h.accepted.steady;
         bound = omega (arith, new.bound);
-        known = inl new.interval;
+        known = record { interval = inl new.interval; pace = inl new.pace };
         is_state = inl (ap (λ (s : IrigState). s.kind) new.is_state);
         last = none_announced q.last new.last;
         before = none_announced q.before new.before;

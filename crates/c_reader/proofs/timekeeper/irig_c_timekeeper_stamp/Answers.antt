@@ -24,18 +24,18 @@ returns-in-Some-clause-healed c t edges made start edge time now past found h cl
     (record { sound = inr (record { healed = mended; edge = edge; at = edge_at; when = when }); order = order; behind = behind; young = young })
 
 pub returns-in-Some-clause-faulty : goal.returns-in-Some-clause-faulty
-returns-in-Some-clause-faulty c t edges made start time now past found h clock lives e =
+returns-in-Some-clause-faulty c t edges made start time now past found h clock plain lives e =
     let q = c.args.timekeeper.now in
     let k : Keeping = life_of (made_with made h.lines h.fresh) (calls_of past) in
     let at = sym (stamped_as q k c.args.time_us h.is) ∙ (sym c.in-Some.ensures.value ∙ (sym c.stamp_for_c.ensures ∙ e)) in
-    stamped_faulty q t edges made start time now past found h (ap (stamp_at k) (sym clock) ∙ at) lives
+    stamped_faulty q t edges made start time now past found h (ap (stamp_at k) (sym clock) ∙ at) plain lives
 
 pub returns-in-Some-clause-clocks_off : goal.returns-in-Some-clause-clocks_off
-returns-in-Some-clause-clocks_off c t edges made off start time now past found few h clock lives e =
+returns-in-Some-clause-clocks_off c t edges made off start time now past found few h clock plain lives e =
     let q = c.args.timekeeper.now in
     let k : Keeping = life_of (made_with made h.lines h.fresh) (calls_of past) in
     let at = sym (stamped_as q k c.args.time_us h.is) ∙ (sym c.in-Some.ensures.value ∙ (sym c.stamp_for_c.ensures ∙ e)) in
-    stamped_off q t edges made start time now past found h (ap (stamp_at k) (sym clock) ∙ at) off few lives
+    stamped_off q t edges made start time now past found h (ap (stamp_at k) (sym clock) ∙ at) off plain few lives
 
 pub returns-in-Some-clause-quality : goal.returns-in-Some-clause-quality
 returns-in-Some-clause-quality c t edges made start time now past found h clock lives e =
@@ -72,12 +72,12 @@ returns-in-None-clause-none_lost c t edges made start time edge next past one ot
     absurd cc
 
 pub returns-in-Some-clause-none_lost_faulty : goal.returns-in-Some-clause-none_lost_faulty
-returns-in-Some-clause-none_lost_faulty c t edges made start time edge next past one other u v h clock row lives says says_other none from upto = (_, refl)
+returns-in-Some-clause-none_lost_faulty c t edges made start time edge next past one other u v h clock row plain lives says says_other none from upto = (_, refl)
 
 pub returns-in-None-clause-none_lost_faulty : goal.returns-in-None-clause-none_lost_faulty
-returns-in-None-clause-none_lost_faulty c t edges made start time edge next past one other u v h clock row lives says says_other none from upto =
+returns-in-None-clause-none_lost_faulty c t edges made start time edge next past one other u v h clock row plain lives says says_other none from upto =
     let q = c.args.timekeeper.now in
     let k : Keeping = life_of (made_with made h.lines h.fresh) (calls_of past) in
-    let found = none_lost_faulty q made past h one other edge next row u v says says_other t edges start time lives none from upto in
+    let found = none_lost_faulty q made past h one other edge next row u v says says_other plain t edges start time lives none from upto in
     let both : None ≡ Some found.0 = c.in-None.ensures.value ∙ (stamped_as q k c.args.time_us h.is ∙ (ap (stamp_at k) clock ∙ found.1)) in
     absurd cc

@@ -18,6 +18,8 @@ use Rattle.irig_timekeeper.specs.Truth.{KnowsEnd}
 use Rattle.irig_timekeeper.specs.Life.Call.{Tick}
 use Rattle.irig_lines.specs.declared.setup.ClockRules.{ClockRules}
 use Rattle.irig_timekeeper.specs.Lived.{made_with}
+use Rattle.irig_timekeeper.specs.Learning.{IsLearned}
+use Rattle.irig_timekeeper.proofs.LearnLaws.{learned_is, steps_truly}
 use Rattle.irig_timekeeper.proofs.DoubtLaws.{says_nothing}
 use Rattle.irig_timekeeper.proofs.GuardedTicks.{tick_guards_vote}
 use Rattle.irig_lines.proofs.LineLaws.{true_by_any}
@@ -248,18 +250,19 @@ returns-clause-none_apart c t edges made start now line past done h clock well l
     let rules_are = h.is.clock ∙ (as_made (device_of (made_with made h.lines h.fresh)) (calls_of past)).clock in
     in_no_mask c.tick_accepted.result (answer_in numbers c.args.now_us) made.clock after line low c.tick_accepted.ensures.given.said
     (λ beat is. c.tick_accepted.ensures.given.lines beat is ∙ (ap (λ (r : ClockRules). masks_of r (clock_state_in c.tick_accepted.new.timekeeper)) rules_are ∙ ap (λ (s : ClockState). masks_of made.clock s) lived.is.state))
-    (true_at_tick (IsTrueLately made.clock.within.us) t edges (made_with made lived.lines lived.fresh) start now (calls_of past) (record { is = well.is; order = well.order; truth = well.truth })
-    (λ now half end pulses claim is frame soon. true_by_any made.clock made.rules t made.clock.drift_us edges half now end pulses claim well.is.steady is frame soon) line low truly)
+    (true_at_tick (IsTrueLately made.clock.within.us) t edges (made_with made lived.lines lived.fresh) start now (calls_of past) (record { is = well.is; learns = well.learns; order = well.order; truth = well.truth })
+    (λ now half end pulses claim is frame soon. true_by_any made.clock made.rules t made.clock.drift_us edges half now end pulses claim well.is.steady is frame soon)
+    (steps_truly t edges (made_with made lived.lines lived.fresh) start (Tick now ∷ calls_of past) (record { is = well.is; learns = well.learns; order = well.order; truth = well.truth })) line low truly)
 
 pub returns-clause-life : goal.returns-clause-life
-returns-clause-life c t edges made start now past u h clock = tells_truly (IsTrueLately made.clock.within.us) 0 0 _ t edges made (whole_lines made.clock) start now past c.tick_accepted.result u (returns-clause-lived c made past now h clock)
+returns-clause-life c t edges made start now past u h clock = tells_truly (IsTrueLately made.clock.within.us) 0 0 _ t edges made (whole_lines made) start now past c.tick_accepted.result u (returns-clause-lived c made past now h clock)
 
 pub returns-clause-order : goal.returns-clause-order
 returns-clause-order c t edges made start before now earlier later first u v h clock =
-    tells_in_order (IsTrueLately made.clock.within.us) 0 0 _ t edges made (whole_lines made.clock) start before now earlier later first c.tick_accepted.result u v (returns-clause-lived c made (later ++ (Ticked before first ∷ earlier)) now h clock)
+    tells_in_order (IsTrueLately made.clock.within.us) 0 0 _ t edges made (whole_lines made) start before now earlier later first c.tick_accepted.result u v (returns-clause-lived c made (later ++ (Ticked before first ∷ earlier)) now h clock)
 
 pub returns-clause-calm : goal.returns-clause-calm
-returns-clause-calm c t edges made start now past h clock = tells_calmly (IsTrueLately made.clock.within.us) 0 0 _ t edges made (whole_lines made.clock) start now past c.tick_accepted.result (returns-clause-lived c made past now h clock)
+returns-clause-calm c t edges made start now past h clock = tells_calmly (IsTrueLately made.clock.within.us) 0 0 _ t edges made (whole_lines made) start now past c.tick_accepted.result (returns-clause-lived c made past now h clock)
 
 pub returns-clause-apart : goal.returns-clause-apart
 returns-clause-apart c made start before now earlier later first h clock =
@@ -291,16 +294,16 @@ pub returns-then-not-is_accepted-clause-announces_by_wait : goal.returns-then-no
 returns-then-not-is_accepted-clause-announces_by_wait c t edges made start m late now moments before u h clock = absurd (never (sym c.if-not-is_accepted.true ∙ c.is_accepted.ensures.1 h.is.accepted))
 
 pub returns-clause-faulty : goal.returns-clause-faulty
-returns-clause-faulty c t edges made start now past u h clock =
-    tells_truly (IsTrueOrFaulty made.clock.within.us) (fault_early_us made.clock.within.us made.clock.drift_us) (fault_late_us made.clock.within.us made.clock.drift_us) _ t edges made (faulty_lines made.clock) start now past c.tick_accepted.result u (returns-clause-lived c made past now h clock)
+returns-clause-faulty c t edges made start now past u h clock plain =
+    tells_truly (IsTrueOrFaulty made.clock.within.us) (fault_early_us made.clock.within.us made.clock.drift_us) (fault_late_us made.clock.within.us made.clock.drift_us) _ t edges made (faulty_lines made plain) start now past c.tick_accepted.result u (returns-clause-lived c made past now h clock)
 
 pub returns-clause-faulty_order : goal.returns-clause-faulty_order
-returns-clause-faulty_order c t edges made start before now earlier later first u v h clock =
-    tells_in_order (IsTrueOrFaulty made.clock.within.us) (fault_early_us made.clock.within.us made.clock.drift_us) (fault_late_us made.clock.within.us made.clock.drift_us) _ t edges made (faulty_lines made.clock) start before now earlier later first c.tick_accepted.result u v (returns-clause-lived c made (later ++ (Ticked before first ∷ earlier)) now h clock)
+returns-clause-faulty_order c t edges made start before now earlier later first u v h clock plain =
+    tells_in_order (IsTrueOrFaulty made.clock.within.us) (fault_early_us made.clock.within.us made.clock.drift_us) (fault_late_us made.clock.within.us made.clock.drift_us) _ t edges made (faulty_lines made plain) start before now earlier later first c.tick_accepted.result u v (returns-clause-lived c made (later ++ (Ticked before first ∷ earlier)) now h clock)
 
 pub returns-clause-faulty_calm : goal.returns-clause-faulty_calm
-returns-clause-faulty_calm c t edges made start now past h clock =
-    tells_calmly (IsTrueOrFaulty made.clock.within.us) (fault_early_us made.clock.within.us made.clock.drift_us) (fault_late_us made.clock.within.us made.clock.drift_us) _ t edges made (faulty_lines made.clock) start now past c.tick_accepted.result (returns-clause-lived c made past now h clock)
+returns-clause-faulty_calm c t edges made start now past h clock plain =
+    tells_calmly (IsTrueOrFaulty made.clock.within.us) (fault_early_us made.clock.within.us made.clock.drift_us) (fault_late_us made.clock.within.us made.clock.drift_us) _ t edges made (faulty_lines made plain) start now past c.tick_accepted.result (returns-clause-lived c made past now h clock)
 
 pub returns-clause-announces_by_wait : goal.returns-clause-announces_by_wait
 returns-clause-announces_by_wait c t edges made start m late now moments before u h clock =
@@ -314,7 +317,7 @@ returns-clause-strays c t edges made start now past h clock well =
     let lived = returns-clause-lived c made past now h clock in
     c.tick_accepted.ensures.given.strays ∙ of (c.tick_accepted.result.is_told == 0)
     (ap (λ (s : ClockState). s.strays) lived.is.state
-    ∙ never_strays t edges (made_with made lived.lines lived.fresh) start (Tick now ∷ calls_of past) (record { is = well.is; order = well.order; truth = well.truth }))
+    ∙ never_strays t edges (made_with made lived.lines lived.fresh) start (Tick now ∷ calls_of past) (record { is = well.is; learns = well.learns; order = well.order; truth = well.truth }))
   where
     of : {n : ℕ} (b : Bool) → n ≡ 0 → cond b 0 n ≡ 0
     of true same = refl
@@ -329,7 +332,7 @@ returns-clause-quality_strays c t edges made start now past h clock well =
     c.tick_accepted.ensures.given.strays ∙ of (c.tick_accepted.result.is_told == 0)
     (ap (λ (s : ClockState). s.strays) lived.is.state
     ∙ no_strays (IsTrueByItsQuality made.clock) t edges (made_with made lived.lines lived.fresh) start (Tick now ∷ calls_of past) (qualities_tell_truly made.clock made.rules t edges) (qualities_are_even made.clock made.rules t edges)
-    (record { is = well.is; order = well.order; truth = well.truth }))
+    (record { is = well.is; learns = well.learns; order = well.order; truth = well.truth }))
   where
     of : {n : ℕ} (b : Bool) → n ≡ 0 → cond b 0 n ≡ 0
     of true same = refl
@@ -345,16 +348,16 @@ pub returns-then-not-is_accepted-clause-clocks_off_calm : goal.returns-then-not-
 returns-then-not-is_accepted-clause-clocks_off_calm c t edges made off start now past few h clock = absurd (never (sym c.if-not-is_accepted.true ∙ c.is_accepted.ensures.1 h.is.accepted))
 
 pub returns-clause-clocks_off : goal.returns-clause-clocks_off
-returns-clause-clocks_off c t edges made off start now past u few h clock =
-    tells_truly (IsTrueByItsClock off made.clock.within.us made.clock.drift_us) off off _ t edges made (clock_lines off made.clock few) start now past c.tick_accepted.result u (returns-clause-lived c made past now h clock)
+returns-clause-clocks_off c t edges made off start now past u few h clock plain =
+    tells_truly (IsTrueByItsClock off made.clock.within.us made.clock.drift_us) off off _ t edges made (clock_lines off made plain few) start now past c.tick_accepted.result u (returns-clause-lived c made past now h clock)
 
 pub returns-clause-clocks_off_order : goal.returns-clause-clocks_off_order
-returns-clause-clocks_off_order c t edges made off start before now earlier later first u v few h clock =
-    tells_in_order (IsTrueByItsClock off made.clock.within.us made.clock.drift_us) off off _ t edges made (clock_lines off made.clock few) start before now earlier later first c.tick_accepted.result u v (returns-clause-lived c made (later ++ (Ticked before first ∷ earlier)) now h clock)
+returns-clause-clocks_off_order c t edges made off start before now earlier later first u v few h clock plain =
+    tells_in_order (IsTrueByItsClock off made.clock.within.us made.clock.drift_us) off off _ t edges made (clock_lines off made plain few) start before now earlier later first c.tick_accepted.result u v (returns-clause-lived c made (later ++ (Ticked before first ∷ earlier)) now h clock)
 
 pub returns-clause-clocks_off_calm : goal.returns-clause-clocks_off_calm
-returns-clause-clocks_off_calm c t edges made off start now past few h clock =
-    tells_calmly (IsTrueByItsClock off made.clock.within.us made.clock.drift_us) off off _ t edges made (clock_lines off made.clock few) start now past c.tick_accepted.result (returns-clause-lived c made past now h clock)
+returns-clause-clocks_off_calm c t edges made off start now past few h clock plain =
+    tells_calmly (IsTrueByItsClock off made.clock.within.us made.clock.drift_us) off off _ t edges made (clock_lines off made plain few) start now past c.tick_accepted.result (returns-clause-lived c made past now h clock)
 
 pub returns-then-not-is_accepted-clause-quality : goal.returns-then-not-is_accepted-clause-quality
 returns-then-not-is_accepted-clause-quality c t edges made start now past u h clock = absurd (never (sym c.if-not-is_accepted.true ∙ c.is_accepted.ensures.1 h.is.accepted))
@@ -367,12 +370,23 @@ returns-then-not-is_accepted-clause-quality_calm c t edges made start now past h
 
 pub returns-clause-quality : goal.returns-clause-quality
 returns-clause-quality c t edges made start now past u h clock =
-    tells_truly (IsTrueByItsQuality made.clock) 0 0 _ t edges made (quality_lines made.clock) start now past c.tick_accepted.result u (returns-clause-lived c made past now h clock)
+    tells_truly (IsTrueByItsQuality made.clock) 0 0 _ t edges made (quality_lines made) start now past c.tick_accepted.result u (returns-clause-lived c made past now h clock)
 
 pub returns-clause-quality_order : goal.returns-clause-quality_order
 returns-clause-quality_order c t edges made start before now earlier later first u v h clock =
-    tells_in_order (IsTrueByItsQuality made.clock) 0 0 _ t edges made (quality_lines made.clock) start before now earlier later first c.tick_accepted.result u v (returns-clause-lived c made (later ++ (Ticked before first ∷ earlier)) now h clock)
+    tells_in_order (IsTrueByItsQuality made.clock) 0 0 _ t edges made (quality_lines made) start before now earlier later first c.tick_accepted.result u v (returns-clause-lived c made (later ++ (Ticked before first ∷ earlier)) now h clock)
 
 pub returns-clause-quality_calm : goal.returns-clause-quality_calm
 returns-clause-quality_calm c t edges made start now past h clock =
-    tells_calmly (IsTrueByItsQuality made.clock) 0 0 _ t edges made (quality_lines made.clock) start now past c.tick_accepted.result (returns-clause-lived c made past now h clock)
+    tells_calmly (IsTrueByItsQuality made.clock) 0 0 _ t edges made (quality_lines made) start now past c.tick_accepted.result (returns-clause-lived c made past now h clock)
+
+pub returns-then-not-is_accepted-clause-learned : goal.returns-then-not-is_accepted-clause-learned
+returns-then-not-is_accepted-clause-learned c t edges made start now past pace h clock = absurd (never (sym c.if-not-is_accepted.true ∙ c.is_accepted.ensures.1 h.is.accepted))
+
+pub returns-clause-learned : goal.returns-clause-learned
+returns-clause-learned c t edges made start now past pace h clock well is =
+    let lived = returns-clause-lived c made past now h clock in
+    let device = made_with made lived.lines lived.fresh in
+    subst (λ (s : ClockState). IsLearned edges now s.edge_us pace) (sym lived.is.state)
+    (learned_is t edges device start (Tick now ∷ calls_of past) pace (record { is = well.is; learns = well.learns; order = well.order; truth = well.truth })
+    (ap (λ (s : ClockState). s.pace) (sym lived.is.state) ∙ is))

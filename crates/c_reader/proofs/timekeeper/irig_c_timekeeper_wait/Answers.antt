@@ -2,6 +2,7 @@ use Rattle.std.proofs.Common.{◌≡◌, ◌∙◌, ◌+◌, ◌≤◌, ℕ, Boo
 use Rattle.irig_lines.specs.declared.setup.ClockRules.{ClockRules}
 use Rattle.irig_timekeeper.specs.declared.clock.ClockState.{ClockState}
 use Rattle.irig_timekeeper.specs.Clock.{clock_wait}
+use Rattle.c_keeper.specs.Paces.{pace_in}
 use Rattle.c_keeper.specs.Timekeepers.{clock_in}
 use Rattle.c_keeper.proofs.LivedLaws.{lived_wait}
 use Rattle.c_keeper.proofs.ValueLaws.{waits_value}
@@ -55,7 +56,7 @@ returns-clause-above c made start now past h clock order alone none =
     let said = c.wait_of.ensures
     ∙ (ap (λ (r : ClockRules). clock_wait r c.unread_state_of-state.result c.args.now_us) c.clock_rules_of.ensures
     ∙ ap (λ (s : ClockState). clock_wait (clock_in t) s c.args.now_us) c.unread_state_of-state.ensures.is) in
-    subst (λ (n : ℕ). 1 ≤ n) (sym said) (waited_above t made start c.args.now_us now past h clock order alone none)
+    subst (λ (n : ℕ). 1 ≤ n) (sym said) (waited_above t made start c.args.now_us now past h clock order alone (pace_in t.pace) none)
 
 pub returns-clause-votes : goal.returns-clause-votes
 returns-clause-votes c made start now then edge past vote h clock order again agree at ahead behind waited soon =
@@ -71,4 +72,4 @@ returns-clause-counts c made start now then e past h clock order again alone is 
     let said = c.wait_of.ensures
     ∙ (ap (λ (r : ClockRules). clock_wait r c.unread_state_of-state.result c.args.now_us) c.clock_rules_of.ensures
     ∙ ap (λ (s : ClockState). clock_wait (clock_in t) s c.args.now_us) c.unread_state_of-state.ensures.is) in
-    waited_counts t made start c.args.now_us now past h clock order alone then e again is (subst (λ (n : ℕ). now + n ≤ then) said waited)
+    waited_counts t made start c.args.now_us now past h clock order alone (pace_in t.pace) then e again is (subst (λ (n : ℕ). now + n ≤ then) said waited)

@@ -6,11 +6,11 @@ use Rattle.c_reader.proofs.timekeeper.tick_accepted.Goals as goal
 
 pub returns-then-is_quiet-clause-given : goal.returns-then-is_quiet-clause-given
 returns-then-is_quiet-clause-given c =
-    given_at_rest c.args.timekeeper.now c.args.now_us c.nothing_told.result (c.is_quiet.ensures.rest c.requires.accepted.known c.if-is_quiet.true) c.nothing_told.ensures
+    given_at_rest c.args.timekeeper.now c.args.now_us c.nothing_told.result (c.is_quiet.ensures.rest c.requires.accepted.known.interval c.if-is_quiet.true) c.nothing_told.ensures
 
 pub returns-then-is_quiet-clause-left : goal.returns-then-is_quiet-clause-left
 returns-then-is_quiet-clause-left c =
-    left_at_rest c.args.timekeeper.now c.args.now_us (c.is_quiet.ensures.rest c.requires.accepted.known c.if-is_quiet.true) c.requires.accepted
+    left_at_rest c.args.timekeeper.now c.args.now_us (c.is_quiet.ensures.rest c.requires.accepted.known.interval c.if-is_quiet.true) c.requires.accepted
 
 pub returns-then-is_quiet-clause-sealed : goal.returns-then-is_quiet-clause-sealed
 returns-then-is_quiet-clause-sealed c = c.requires.accepted.sealed

@@ -101,7 +101,7 @@ returns-clause-left c =
           (kept.lines (state_behind t c.args.now_us).lines (kept_by_tick (clock_in t) (table_in t.table) (clock_state_in t) c.args.now_us) (sym (ap (λ (s : ClockState). s.lines) is)));
       heard = kept.heard;
       bound = bound_kept q state kept.rest left.small;
-      known = known_kept q state kept.rest left.known;
+      known = record { interval = known_kept q state kept.rest left.known; pace = kept.counts };
       is_state = kept.is_state;
       last = last_kept q state kept.rest announced;
       before = before_kept q state kept.rest announced;

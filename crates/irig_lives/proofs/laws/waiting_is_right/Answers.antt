@@ -8,10 +8,10 @@ use Rattle.irig_timekeeper.proofs.AgreedLaws.{vote_when_come, waits_for}
 use Rattle.irig_lives.proofs.laws.waiting_is_right.Goals as goal
 
 pub returns-clause-counts : goal.returns-clause-counts
-returns-clause-counts _ e edge tick now more at order soon = counts_then e edge tick now more at order soon
+returns-clause-counts _ pace e edge tick now more at order soon = counts_then pace e edge tick now more at order soon
 
 pub returns-clause-waits : goal.returns-clause-waits
-returns-clause-waits _ e edge tick now at order soon none = waits e edge tick now at order soon none
+returns-clause-waits _ pace e edge tick now at order soon none = waits e edge tick now at order soon pace none
 
 pub returns-clause-votes : goal.returns-clause-votes
 returns-clause-votes _ made start now then edge calls vote order order' agree at ahead behind waited soon =

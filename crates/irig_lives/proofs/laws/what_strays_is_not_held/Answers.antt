@@ -15,5 +15,5 @@ returns-clause-voted _ made now calls vote beat voted answer = says_voted (life_
 
 pub returns-clause-none : goal.returns-clause-none
 returns-clause-none _ t edges made start now calls beat lives answer =
-    let certain = never_doubts t edges made start calls (record { is = lives.is; order = lives.order.3; truth = lives.truth.1 }) in
+    let certain = never_doubts t edges made start calls (record { is = lives.is; learns = lives.learns; order = lives.order.3; truth = lives.truth.1 }) in
     says_rule (life_of made calls) (now % 2 ^ 32) beat certain (never_unsteady t edges made start calls now lives) answer

@@ -10,5 +10,5 @@ use Rattle.irig_timekeeper.proofs.keeper.Timekeeper.rate.Goals as goal
 pub returns-clause-truth : goal.returns-clause-truth
 returns-clause-truth g c t edges made start calls rate h well is =
     subst (λ (s : ClockState). IsMeasured edges (last_tick start calls) s.edge_us rate) (sym h.is.state)
-    (measures_truly t edges (made_with made h.lines h.fresh) start calls rate (record { is = well.is; order = well.order; truth = well.truth })
+    (measures_truly t edges (made_with made h.lines h.fresh) start calls rate (record { is = well.is; learns = well.learns; order = well.order; truth = well.truth })
     (ap (λ (s : ClockState). rate_of s.interval (serving s.anchors)) (sym h.is.state) ∙ (sym c.rate_of.ensures ∙ is)))

@@ -7,6 +7,7 @@ use Rattle.irig_timekeeper.specs.Lived.{made_with}
 use Rattle.irig_timekeeper.specs.Stamps.{stamp_of}
 use Rattle.irig_lines.proofs.LineLaws.{true_by_any}
 use Rattle.irig_timekeeper.proofs.RowLaws.{in_a_row, none_lost}
+use Rattle.irig_timekeeper.proofs.LearnLaws.{steps_truly}
 use Rattle.irig_timekeeper.proofs.StampLaws.{stamped}
 use Rattle.irig_timekeeper.proofs.keeper.Timekeeper.stamp.Goals as goal
 
@@ -16,7 +17,7 @@ returns-clause-truth g c t edges made start time now calls stamp h clock well or
     let value = c.stamp_of.ensures.value ∙ (ap (λ (s : ClockState). stamp_of s.last s.before c.args.time_us) h.is.state ∙ ap (stamp_at k) clock) in
     stamped made.rules made.clock made.table h.lines start h.fresh t edges 0 0 0 well.is (omega arith) (omega arith) (IsTrueLately made.clock.within.us made.rules t edges) (omega arith)
     (λ now half end pulses claim is frame soon. true_by_any made.clock made.rules t made.clock.drift_us edges half now end pulses claim well.is.steady is frame soon)
-    calls time now order well.truth past young stamp (sym value ∙ told)
+    calls time now order well.truth (steps_truly t edges (made_with made h.lines h.fresh) start calls (record { is = well.is; learns = well.learns; order = well.order; truth = well.truth })) past young stamp (sym value ∙ told)
 
 pub returns-clause-none_lost : goal.returns-clause-none_lost
 returns-clause-none_lost g c t edges made start time edge next calls beat then u v h clock well row says says_then none from upto =
@@ -24,6 +25,6 @@ returns-clause-none_lost g c t edges made start time edge next calls beat then u
     let value = c.stamp_of.ensures.value ∙ (ap (λ (s : ClockState). stamp_of s.last s.before c.args.time_us) h.is.state ∙ ap (stamp_at k) clock) in
     let near = in_a_row made.rules made.clock made.table h.lines start h.fresh (IsTrueLately made.clock.within.us made.rules t edges) t edges 0 0 well.is (omega arith)
     (λ now half end pulses claim is frame soon. true_by_any made.clock made.rules t made.clock.drift_us edges half now end pulses claim well.is.steady is frame soon)
-    calls beat then edge next u well.order well.truth row says none in
+    calls beat then edge next u well.order well.truth (steps_truly t edges (made_with made h.lines h.fresh) start calls (record { is = well.is; learns = well.learns; order = well.order; truth = well.truth })) row says none in
     let found = none_lost _ calls beat then edge next u v row says says_then time near from upto in
     (found.0, value ∙ found.1)

@@ -1,0 +1,180 @@
+-- What votes teach of a counter holds on, and edges that are counted by it lie near their true ones.
+use Rattle.std.specs.Prelude.{min}
+use Rattle.std.proofs.Common.{◌≡◌, ℕ, zero, suc, ◌+◌, ◌*◌, ◌/◌, ◌<◌, ◌≤◌, Option, Some, None, sym, arith, subst, inl, inr}
+use Rattle.std.proofs.Math.Nat.{lt_of_mul-lt-mul_right, mul-le-mul_left, mul-le-mul_right, div-add-mod'}
+use Rattle.std.proofs.lemmas.Bool.{cases_lt}
+use Rattle.irig_lines.specs.declared.pace.Pace.{Pace}
+use Rattle.irig_lines.specs.declared.rate.Rate.{Rate}
+use Rattle.irig_lines.specs.Edges.{IsQuartz, IsNear}
+use Rattle.irig_lines.specs.Paces.{IsOscillator, middle_of, spread_of, ahead_us, rest_on, grown_us}
+use Rattle.irig_lines.specs.Rates.{IsMeanFrom}
+use Rattle.irig_lines.proofs.CountingLaws.{rises}
+
+-- ---- the rate of a second, by the mean of those before it
+
+-- from its beginning to its end the counter's oscillator comes so far
+pub record IsSecondOf (ns : ℕ → ℕ) (second within i : ℕ) : Type 0 where
+  pub least : ns i + second ≤ ns (i + 1) + within
+  pub most : ns (i + 1) ≤ ns i + second + within
+
+module _ (wander span : ℕ) (edges ns : ℕ → ℕ) (is : IsOscillator wander span edges ns) where
+  -- n times that of a second is that of n others, but for the wander of each
+  record AreAlike (i j n : ℕ) : Type 0 where
+    pub most : n * ns (i + 1) + ns j ≤ n * ns i + ns (j + n) + n * wander
+    pub least : n * ns i + ns (j + n) ≤ n * ns (i + 1) + ns j + n * wander
+
+  alike : (i j n : ℕ) → i ≤ j + span → j + n ≤ i + span + 1 → AreAlike i j n
+  alike i j zero near far =
+      let same : j + 0 ≡ j = omega arith in
+      record { most = rw same (omega arith); least = rw same (omega arith) }
+  alike i j (suc n) near far =
+      let before = alike i j n near (omega (arith, far)) in
+      let next : j + suc n ≡ j + n + 1 = omega arith in
+      let here = is.steady i (j + n) (omega (arith, near)) (omega (arith, far)) in
+      let there = is.steady (j + n) i (omega (arith, far)) (omega (arith, near)) in
+      record {
+        most = rw next (omega (arith, before.most, here));
+        least = rw next (omega (arith, before.least, there));
+      }
+
+  -- a second by the mean of those that began with another one, 1,000 or more
+  pub by_mean : (d : ℕ) → IsQuartz d edges → (rate : Rate) (from i : ℕ) → IsMeanFrom edges from rate → 1000 ≤ rate.seconds → i ≤ from + span → from + rate.seconds ≤ i + span + 1 → IsSecondOf ns (middle_of rate) (spread_of wander rate) i
+  by_mean d quartz rate from i mean long near far =
+      let n = rate.seconds in
+      let all = alike i from n near far in
+      let up = rises d edges quartz from n in
+      let most = lower n (ns i) (ns (i + 1)) (rate.most_ns + wander + 1) (omega (arith, all.most, mean.most, is.clock from, is.clock (from + rate.seconds), up, long)) in
+      let least = lower n (ns (i + 1) + wander + 1) (ns i + rate.least_ns) 0 (omega (arith, all.least, mean.least, is.clock from, is.clock (from + rate.seconds), up, long)) in
+      let between : rate.least_ns ≤ rate.most_ns = order n rate.least_ns rate.most_ns (omega (arith, long)) (omega (arith, mean.least, mean.most)) in
+      record {
+        least = omega (arith, least, between);
+        most = omega (arith, most, between);
+      }
+    where
+      lower : (n x y k : ℕ) → n * y < n * x + n * k → y < x + k
+      lower n x y k less = lt_of_mul-lt-mul_right n (let product : y * n < (x + k) * n = omega (arith, less) in product)
+
+      order : (n p q : ℕ) → 1 ≤ n → p * n ≤ q * n → p ≤ q
+      order n p q some less = elim (cases_lt q p) [
+        | inr low ↦ low
+        | inl high ↦ (let more = mul-le-mul_right n (let h : q + 1 ≤ p = omega (arith, high) in h) in absurd (omega (arith, more, less, some)))
+      ]
+
+-- ---- an edge that is counted
+
+-- the n-th edge after so many more, by seconds of such a length
+record ArePassed (ns : ℕ → ℕ) (second within w n : ℕ) : Type 0 where
+  pub least : ns w + n * second ≤ ns (w + n) + n * within
+  pub most : ns (w + n) ≤ ns w + n * second + n * within
+
+passed : (ns : ℕ → ℕ) (second within w n : ℕ) → ((i : ℕ) → w ≤ i → i < w + n → IsSecondOf ns second within i) → ArePassed ns second within w n
+passed ns second within w zero each =
+    let same : w + 0 ≡ w = omega arith in
+    record { least = rw same (omega arith); most = rw same (omega arith) }
+passed ns second within w (suc n) each =
+    let before = passed ns second within w n (λ i low high. each i low (omega (arith, high))) in
+    let next : w + suc n ≡ w + n + 1 = omega arith in
+    let here = each (w + n) (omega arith) (omega arith) in
+    record {
+      least = rw next (omega (arith, before.least, here.least));
+      most = rw next (omega (arith, before.most, here.most));
+    }
+
+-- a device's edge stands for T(w), a seconds behind a vote that lay at most so far off: by what it has
+-- learned, in nanoseconds, and each second up to `reach` behind the vote is of that length
+pub record IsPaced (edges : ℕ → ℕ) (reach d voted w a edge : ℕ) (p : Pace) : Type 0 where
+  pub ns : ℕ → ℕ
+  pub clock : (n : ℕ) → edges n ≡ ns n / 1000
+  pub each : (i : ℕ) → w ≤ i → i + a < w + reach → IsSecondOf ns p.second_ns p.within_ns i
+  pub least : ns w ≤ 1000 * edge + 1000 * voted + p.rest_ns + 999 + a * p.within_ns
+  pub most : 1000 * edge + p.rest_ns ≤ ns w + 1000 * voted + a * p.within_ns
+  pub fit : p.within_ns + 1000 ≤ 1000 * d
+  pub rest : p.rest_ns ≤ 999
+
+module _ (edges : ℕ → ℕ) (reach d voted w a edge : ℕ) (p : Pace) (is : IsPaced edges reach d voted w a edge p) where
+  -- so many seconds later
+  pub goes_on : (n : ℕ) → a + n ≤ reach → IsPaced edges reach d voted (w + n) (a + n) (edge + ahead_us (Some p) n) (rest_on n p)
+  goes_on n far =
+      let pass = passed is.ns p.second_ns p.within_ns w n (λ i low high. is.each i low (omega (arith, high, far))) in
+      let split = div-add-mod' (p.rest_ns + n * p.second_ns) 1000 in
+      record {
+        ns = is.ns;
+        clock = is.clock;
+        each = λ i low high. is.each i (omega (arith, low)) (omega (arith, high));
+        least = omega (arith, split, pass.most, is.least);
+        most = omega (arith, split, pass.least, is.most);
+        fit = is.fit;
+        rest = omega arith;
+      }
+
+  -- more behind the vote
+  pub later : (b : ℕ) → a ≤ b → IsPaced edges reach d voted w b edge p
+  later b more =
+      let grows = mul-le-mul_right p.within_ns more in
+      record {
+        ns = is.ns;
+        clock = is.clock;
+        each = λ i low high. is.each i low (omega (arith, high, more));
+        least = omega (arith, is.least, grows);
+        most = omega (arith, is.most, grows);
+        fit = is.fit;
+        rest = is.rest;
+      }
+
+  -- one or more behind it the edge lies no further off than what was learned allows
+  pub near_learned : IsNear edges (voted + (a * p.within_ns + 1999) / 1000) (voted + (a * p.within_ns + 1999) / 1000) w edge
+  near_learned = record {
+    least = omega (arith, is.clock w, is.least, is.rest);
+    most = omega (arith, is.clock w, is.most);
+  }
+
+  -- nor than the drift
+  less : 1 ≤ a → (a * p.within_ns + 1999) / 1000 ≤ a * d
+  less some =
+      let product = mul-le-mul_left a is.fit in
+      omega (arith, product, some)
+
+  pub near_drift : 1 ≤ a → IsNear edges (voted + a * d) (voted + a * d) w edge
+  near_drift some =
+      let l = less some in
+      let near = near_learned in
+      record { least = omega (arith, near.least, l); most = omega (arith, near.most, l) }
+
+  pub near_grown : 1 ≤ a → (k : ℕ) → a ≤ k → IsNear edges (voted + grown_us d (Some p) k) (voted + grown_us d (Some p) k) w edge
+  near_grown some k more = by (k * d) ((k * p.within_ns + 1999) / 1000) (omega (arith, less some, mul-le-mul_right d more)) (omega (arith, mul-le-mul_right p.within_ns more))
+    where
+      by : (x y : ℕ) → (a * p.within_ns + 1999) / 1000 ≤ x → (a * p.within_ns + 1999) / 1000 ≤ y → IsNear edges (voted + min x y) (voted + min x y) w edge
+      by x y one other =
+          let near = near_learned in
+          elim (cases_lt x y) [
+            | inl low ↦ let is : min x y ≡ x = grind (arith, low) in rw is (record { least = omega (arith, near.least, one); most = omega (arith, near.most, one) })
+            | inr high ↦ let is : min x y ≡ y = grind (arith, high) in rw is (record { least = omega (arith, near.least, other); most = omega (arith, near.most, other) })
+          ]
+
+-- what comes of so many seconds is no more than the drift, and nothing of none
+pub grown_most : (d : ℕ) (pace : Option Pace) (k : ℕ) → grown_us d pace k ≤ k * d
+grown_most d None k = omega arith
+grown_most d (Some p) k = least (k * d) ((k * p.within_ns + 1999) / 1000)
+  where
+    least : (x y : ℕ) → min x y ≤ x
+    least x y = elim (cases_lt x y) [ inl low ↦ let is : min x y ≡ x = grind (arith, low) in omega (arith, is) | inr high ↦ let is : min x y ≡ y = grind (arith, high) in omega (arith, is, high) ]
+
+pub none_grown : (d : ℕ) (pace : Option Pace) → grown_us d pace 0 ≡ 0
+none_grown d pace = let most = grown_most d pace 0 in omega (arith, most)
+
+-- ---- behind a vote
+
+-- by what was measured from an anchor up to it
+pub begins_paced : (wander span : ℕ) (edges ns : ℕ → ℕ) → IsOscillator wander span edges ns → (d : ℕ) → IsQuartz d edges → (rate : Rate) (from reach voted w edge : ℕ) → IsMeanFrom edges from rate → from + rate.seconds ≡ w → 1000 ≤ rate.seconds → reach + rate.seconds ≤ span → IsNear edges voted voted w edge
+    → (p : Pace) → p ≡ (record { second_ns = middle_of rate; within_ns = spread_of wander rate; rest_ns = 0 }) → p.within_ns + 1000 ≤ 1000 * d → IsPaced edges reach d voted w 0 edge p
+begins_paced wander span edges ns is d quartz rate from reach voted w edge mean since long far near p same fit =
+    let whole : IsPaced edges reach d voted w 0 edge (record { second_ns = middle_of rate; within_ns = spread_of wander rate; rest_ns = 0 }) = record {
+      ns = ns;
+      clock = is.clock;
+      each = λ i low high. by_mean wander span edges ns is d quartz rate from i mean long (omega (arith, low, high, since, far)) (omega (arith, low, since));
+      least = omega (arith, is.clock w, near.least);
+      most = omega (arith, is.clock w, near.most);
+      fit = subst (λ (q : Pace). q.within_ns + 1000 ≤ 1000 * d) same fit;
+      rest = omega arith;
+    } in
+    subst (IsPaced edges reach d voted w 0 edge) (sym same) whole

@@ -1,0 +1,89 @@
+-- A device whose counter is 37 ppm fast and whose rate changes by 1 ppm from second to second learns it
+-- from votes 1,000 s apart, by lines exact to 450 us and to 10 us, and holds over by it.
+use Rattle.std.proofs.Common.{◌≡◌, ℕ, ◌+◌, ◌-◌, ◌*◌, ◌/◌, ◌%◌, Some, false, refl, arith, inr}
+use Rattle.irig_vote.specs.declared.redundancy.Redundancy.TheVariants as of
+use Rattle.irig_lines.specs.declared.interval.Interval.{Interval}
+use Rattle.irig_lines.specs.declared.pace.Pace.{Pace}
+use Rattle.irig_lines.specs.declared.rate.Anchor.{Anchor}
+use Rattle.irig_lines.specs.declared.rate.Rate.{Rate}
+use Rattle.irig_lines.specs.declared.setup.ClockRules.{ClockRules}
+use Rattle.irig_lines.specs.Edges.{IsQuartz, IsNear}
+use Rattle.irig_lines.specs.Paces.{IsOscillator, WandersAsSet, grown_us, learned, rest_on}
+use Rattle.irig_lines.specs.Rates.{IsMeanFrom, mean_since}
+use Rattle.irig_lines.specs.Refusals.{within_of}
+use Rattle.irig_lines.proofs.PaceLaws.{IsPaced, begins_paced, goes_on, near_grown}
+use Rattle.irig_lives.proofs.LifeFacts.{no_delays, usual}
+
+-- ---- the counter
+
+abbrev ns : ℕ → ℕ
+ns n = 1000037000 * n + 500 * (n % 2)
+
+abbrev edges : ℕ → ℕ
+edges n = ns n / 1000
+
+pub oscillates : (span : ℕ) → IsOscillator 1000 span edges ns
+oscillates span = record { clock = λ n. refl; steady = λ i j near far. omega arith }
+
+pub steady : IsQuartz 100 edges
+steady = record { steady = record { least = λ n. omega arith; most = λ n. omega arith }; few = omega arith }
+
+-- ---- the setups
+
+abbrev clock_of : ℕ → ClockRules
+clock_of within = record { reader_rules = record { lock_after = 4; holdover = 4898 }; redundancy = of.Three; within = within_of within; limits = usual; drift_us = 100; wander_ppb = 1000; delays = no_delays; prefers_frames = false }
+
+pub wanders_so : (within : ℕ) → WandersAsSet (clock_of within) edges
+wanders_so within = inr (ns, oscillates 8898)
+
+-- ---- what is learned at T(1005) from an anchor at T(5), where three lines agreed each time
+
+abbrev anchor : ℕ → Anchor
+anchor bound = record { begin_us = 5000185 - bound; long_us = 2 * bound; seconds = 1000 }
+
+abbrev known : ℕ → Interval
+known bound = record { begin_us = 1005037185 - bound; long_us = 2 * bound }
+
+abbrev rate_450 : Rate
+rate_450 = record { seconds = 1000; least_ns = 1000036100; most_ns = 1000037900 }
+
+abbrev rate_10 : Rate
+rate_10 = record { seconds = 1000; least_ns = 1000036980; most_ns = 1000037020 }
+
+pub measured : (mean_since (anchor 450) (known 450) ≡ rate_450) × (mean_since (anchor 10) (known 10) ≡ rate_10)
+measured = (refl, refl)
+
+pub means : IsMeanFrom edges 5 rate_450 × IsMeanFrom edges 5 rate_10
+means = (record { least = omega arith; most = omega arith }, record { least = omega arith; most = omega arith })
+
+abbrev pace_450 : Pace
+pace_450 = record { second_ns = 1000037000; within_ns = 1901; rest_ns = 0 }
+
+abbrev pace_10 : Pace
+pace_10 = record { second_ns = 1000037000; within_ns = 1021; rest_ns = 0 }
+
+pub learns : (learned (clock_of 450) (Some rate_450) ≡ Some pace_450) × (learned (clock_of 10) (Some rate_10) ≡ Some pace_10)
+learns = (refl, refl)
+
+-- by lines exact to 450 us a second lies within 471 us after 10 s and within 1 ms after 288 s, where 1,450 us
+-- and 29,250 us are told by the drift
+pub holds_450 : (450 + grown_us 100 (Some pace_450) 10 ≡ 471) × (450 + grown_us 100 (Some pace_450) 288 ≡ 999) × (450 + grown_us 100 (Some pace_450) 289 ≡ 1001)
+holds_450 = (refl, refl, refl)
+
+-- by such to 10 us within 22 us after 10 s, and within 1 ms after 968 s
+pub holds_10 : (10 + grown_us 100 (Some pace_10) 10 ≡ 22) × (10 + grown_us 100 (Some pace_10) 968 ≡ 1000) × (10 + grown_us 100 (Some pace_10) 969 ≡ 1001)
+holds_10 = (refl, refl, refl)
+
+-- ---- so it is: the vote's edge lies 450 us behind T(1005), or 10 us before it
+
+pub paced_450 : IsPaced edges 6898 100 450 1005 0 1005037635 pace_450
+paced_450 = begins_paced 1000 8898 edges ns (oscillates 8898) 100 steady rate_450 5 6898 450 1005 1005037635 means.0 refl (omega arith) (omega arith) (record { least = omega arith; most = omega arith }) pace_450 refl (omega arith)
+
+pub paced_10 : IsPaced edges 6898 100 10 1005 0 1005037175 pace_10
+paced_10 = begins_paced 1000 8898 edges ns (oscillates 8898) 100 steady rate_10 5 6898 10 1005 1005037175 means.1 refl (omega arith) (omega arith) (record { least = omega arith; most = omega arith }) pace_10 refl (omega arith)
+
+pub held_450 : IsNear edges 999 999 1293 1293048291
+held_450 = near_grown edges 6898 100 450 1293 288 1293048291 (rest_on 288 pace_450) (goes_on edges 6898 100 450 1005 0 1005037635 pace_450 paced_450 288 (omega arith)) (omega arith) 288 (omega arith)
+
+pub held_10 : IsNear edges 1000 1000 1973 1973072991
+held_10 = near_grown edges 6898 100 10 1973 968 1973072991 (rest_on 968 pace_10) (goes_on edges 6898 100 10 1005 0 1005037175 pace_10 paced_10 968 (omega arith)) (omega arith) 968 (omega arith)
