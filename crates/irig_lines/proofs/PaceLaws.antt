@@ -6,7 +6,7 @@ use Rattle.std.proofs.lemmas.Bool.{cases_lt}
 use Rattle.irig_lines.specs.declared.pace.Pace.{Pace}
 use Rattle.irig_lines.specs.declared.rate.Rate.{Rate}
 use Rattle.irig_lines.specs.Edges.{IsQuartz, IsNear}
-use Rattle.irig_lines.specs.Paces.{IsOscillator, middle_of, spread_of, ahead_us, rest_on, grown_us}
+use Rattle.irig_lines.specs.Paces.{IsFit, longest_us, shortest_us, IsOscillator, middle_of, spread_of, ahead_us, rest_on, grown_us}
 use Rattle.irig_lines.specs.Rates.{IsMeanFrom}
 use Rattle.irig_lines.proofs.CountingLaws.{rises}
 
@@ -161,6 +161,19 @@ grown_most d (Some p) k = least (k * d) ((k * p.within_ns + 1999) / 1000)
 
 pub none_grown : (d : ℕ) (pace : Option Pace) → grown_us d pace 0 ≡ 0
 none_grown d pace = let most = grown_most d pace 0 in omega (arith, most)
+
+-- of one second the time passes by it that lies between the least and the most
+pub record IsSpan (p : Pace) (before after : ℕ) : Type 0 where
+  pub least : before + shortest_us p ≤ after
+  pub most : after ≤ before + longest_us p
+
+pub spans : (edges : ℕ → ℕ) (reach d voted w a edge : ℕ) (p : Pace) → IsPaced edges reach d voted w a edge p → IsFit p → d ≤ 100 → a < reach → IsSpan p (edges w) (edges (w + 1))
+spans edges reach d voted w a edge p is fit slow far =
+    let second = is.each w (omega arith) (omega (arith, far)) in
+    record {
+      least = omega (arith, is.clock w, is.clock (w + 1), second.least, fit.least, is.fit, slow);
+      most = omega (arith, is.clock w, is.clock (w + 1), second.most);
+    }
 
 -- ---- behind a vote
 

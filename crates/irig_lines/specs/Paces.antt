@@ -3,9 +3,12 @@
 -- Source: this project's profile.
 use Rattle.std.specs.Prelude.{◌≡◌, ℕ, ◌≤◌, ◌+◌, ◌-◌, ◌*◌, ◌/◌, ◌%◌, ◌^◌, ◌==◌, ◌⊎◌, ◌&&◌, ◌||◌, min, nat_lt, nat_le, Bool, if◌then◌else◌, Option, Some, None}
 use Rattle.std.specs.Option.{ForSome}
+use Rattle.irig_lines.specs.declared.interval.Interval.{Interval}
 use Rattle.irig_lines.specs.declared.pace.Pace.{Pace}
 use Rattle.irig_lines.specs.declared.rate.Rate.{Rate}
 use Rattle.irig_lines.specs.declared.setup.ClockRules.{ClockRules}
+use Rattle.irig_lines.specs.Exactness.{most_held_us}
+use Rattle.irig_lines.specs.Intervals.{carried}
 
 -- ---- an oscillator
 
@@ -85,6 +88,29 @@ pace_on goes_on seconds (Some p) = if goes_on then Some (rest_on seconds p) else
 abbrev pub grown_us : (d : ℕ) → Option Pace → ℕ → ℕ
 grown_us d None seconds = seconds * d
 grown_us d (Some p) seconds = min (seconds * d) ((seconds * p.within_ns + 1999) / 1000)
+
+-- at least so many microseconds the next second lasts by it, and at most so many
+abbrev pub shortest_us : Pace → ℕ
+shortest_us p = (p.second_ns - p.within_ns) / 1000
+
+abbrev pub longest_us : Pace → ℕ
+longest_us p = (p.second_ns + p.within_ns + 999) / 1000
+
+-- in which the edge one second later lies; what is too long is forgotten
+abbrev pub paced : Pace → Interval → Option Interval
+paced p x =
+    if nat_lt (2 * most_held_us) (x.long_us + (longest_us p - shortest_us p)) then None
+    else Some (record {
+      begin_us = (x.begin_us + shortest_us p) % 2 ^ 32;
+      long_us = x.long_us + (longest_us p - shortest_us p);
+    })
+
+-- in which the edge so many seconds later lies: of one second by what was learned, if anything was, and of
+-- more by a counter that runs d us a second wrong
+abbrev pub carried_by : (d : ℕ) → Option Pace → (seconds : ℕ) → Option Interval → Option Interval
+carried_by d pace seconds None = None
+carried_by d None seconds (Some x) = carried d seconds x
+carried_by d (Some p) seconds (Some x) = if seconds == 1 then paced p x else carried d seconds x
 
 -- a second by it is such that edges can be counted
 pub record IsFit (p : Pace) : Type 0 where

@@ -7,7 +7,7 @@ ghost use Rattle.irig_lines.specs.Intervals.{IsShort, by_vote, carried, carried_
 use crate::lines::Vote;
 
 /// What is longer than this is forgotten.
-const LONGEST_US: u32 = 980_000;
+pub(crate) const LONGEST_US: u32 = 980_000;
 
 /// An interval of the device's counter, in microseconds.
 #[derive(Clone, Copy, PartialEq, Eq)]

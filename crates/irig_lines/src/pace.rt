@@ -1,9 +1,11 @@
 //! How long the next seconds are by the device's own counter, as votes have taught it.
 
-ghost use Rattle.std.specs.Prelude.{◌≡◌, ◌≤◌, ◌+◌, ◌*◌};
+ghost use Rattle.std.specs.Prelude.{◌≡◌, ◌≤◌, ◌+◌, ◌-◌, ◌*◌};
 ghost use Rattle.irig_lines.specs.Exactness.{most_drift_us, most_held_us};
-ghost use Rattle.irig_lines.specs.Paces.{IsFit, IsSound, ahead_us, edge_on, grown_us, is_fit, learned, learned_by, middle_of, pace_on, rest_on, spread_of};
+ghost use Rattle.irig_lines.specs.Intervals.{IsShort};
+ghost use Rattle.irig_lines.specs.Paces.{IsFit, IsSound, ahead_us, edge_on, carried_by, grown_us, is_fit, learned, learned_by, longest_us, middle_of, pace_on, paced, rest_on, shortest_us, spread_of};
 
+use crate::interval::{Interval, LONGEST_US, carried_on};
 use crate::rate::Rate;
 use crate::setup::ClockRules;
 
@@ -131,6 +133,57 @@ fn rest_on(seconds: u32, pace: Pace) -> Pace
     Pace {
         rest_ns: (behind_ns % 1_000) as u32,
         ..pace
+    }
+}
+
+// How long the next second is at least, and how much longer it may be, in microseconds.
+fn span_us(pace: Pace) -> (u32, u32)
+    requires { IsFit pace }
+    ensures least { result.0 ≡ shortest_us pace }
+    ensures more { result.1 ≡ longest_us pace - shortest_us pace }
+    ensures few { result.1 ≤ 5295068 }
+{
+    let least = pace.second_ns.saturating_sub(pace.within_ns) / 1_000;
+    let most = (u64::from(pace.second_ns) + u64::from(pace.within_ns) + 999) / 1_000;
+    (least, (most as u32).saturating_sub(least))
+}
+
+// The interval one second later, unless it is too long to count by.
+fn paced(pace: Pace, interval: Interval) -> Option<Interval>
+    requires fit { IsFit pace }
+    requires short { interval.long_us ≤ 2 * most_held_us }
+    ensures value { result ≡ paced pace interval }
+    ensures short { IsShort result }
+{
+    let (least, more) = span_us(pace);
+    let long_us = interval.long_us + more;
+    if long_us > LONGEST_US {
+        return None;
+    }
+    Some(Interval {
+        begin_us: interval.begin_us.wrapping_add(least),
+        long_us,
+    })
+}
+
+/// The interval so many seconds later, at a vote, unless it is too long to count by: one second later by
+/// what was learned, if anything was.
+pub fn carried_by(
+    drift_us: u32,
+    pace: Option<Pace>,
+    seconds: u32,
+    known: Option<Interval>,
+) -> Option<Interval>
+    requires steady { drift_us ≤ most_drift_us }
+    requires sound { IsSound pace }
+    requires few { seconds ≤ 4294 }
+    requires short { IsShort known }
+    ensures value { result ≡ carried_by drift_us pace seconds known }
+    ensures short { IsShort result }
+{
+    match (pace, known) {
+        (Some(pace), Some(interval)) if seconds == 1 => paced(pace, interval),
+        _ => carried_on(drift_us, seconds, known),
     }
 }
 

@@ -1,14 +1,15 @@
 -- A device whose counter is 37 ppm fast and whose rate changes by 1 ppm from second to second learns it
 -- from votes 1,000 s apart, by lines exact to 450 us and to 10 us, and holds over by it.
-use Rattle.std.proofs.Common.{◌≡◌, ℕ, ◌+◌, ◌-◌, ◌*◌, ◌/◌, ◌%◌, Some, false, refl, arith, inr}
+use Rattle.std.proofs.Common.{◌≡◌, ℕ, ◌+◌, ◌-◌, ◌*◌, ◌/◌, ◌%◌, Some, true, false, refl, arith, inr}
 use Rattle.irig_vote.specs.declared.redundancy.Redundancy.TheVariants as of
 use Rattle.irig_lines.specs.declared.interval.Interval.{Interval}
 use Rattle.irig_lines.specs.declared.pace.Pace.{Pace}
 use Rattle.irig_lines.specs.declared.rate.Anchor.{Anchor}
 use Rattle.irig_lines.specs.declared.rate.Rate.{Rate}
 use Rattle.irig_lines.specs.declared.setup.ClockRules.{ClockRules}
+use Rattle.irig_lines.specs.Intervals.{carried, contradicts}
 use Rattle.irig_lines.specs.Edges.{IsQuartz, IsNear}
-use Rattle.irig_lines.specs.Paces.{IsOscillator, WandersAsSet, grown_us, learned, rest_on}
+use Rattle.irig_lines.specs.Paces.{IsOscillator, WandersAsSet, grown_us, learned, paced, rest_on}
 use Rattle.irig_lines.specs.Rates.{IsMeanFrom, mean_since}
 use Rattle.irig_lines.specs.Refusals.{within_of}
 use Rattle.irig_lines.proofs.PaceLaws.{IsPaced, begins_paced, goes_on, near_grown}
@@ -87,3 +88,26 @@ held_450 = near_grown edges 6898 100 450 1293 288 1293048291 (rest_on 288 pace_4
 
 pub held_10 : IsNear edges 1000 1000 1973 1973072991
 held_10 = near_grown edges 6898 100 10 1973 968 1973072991 (rest_on 968 pace_10) (goes_on edges 6898 100 10 1005 0 1005037175 pace_10 paced_10 968 (omega arith)) (omega arith) 968 (omega arith)
+
+-- ---- a vote one second later whose edge lies 50 us behind the true one, with a bound of 10 us
+
+-- by what was learned the interval of 20 us becomes 24 us long
+abbrev next_10 : Interval
+next_10 = record { begin_us = 1006037210; long_us = 24 }
+
+pub paces_10 : paced pace_10 (known 10) ≡ Some next_10
+paces_10 = refl
+
+-- by a drift of 100 us it becomes 220 us long
+abbrev drifted_10 : Interval
+drifted_10 = record { begin_us = 1006037075; long_us = 220 }
+
+pub drifts_10 : carried 100 1 (known 10) ≡ Some drifted_10
+drifts_10 = refl
+
+abbrev far : Interval
+far = record { begin_us = 1006037262; long_us = 20 }
+
+-- so the vote contradicts what was learned, and not the drift
+pub strays_10 : (contradicts (Some next_10) far ≡ true) × (contradicts (Some drifted_10) far ≡ false)
+strays_10 = (refl, refl)

@@ -12,7 +12,7 @@ ghost use Rattle.irig_reader.specs.declared.rule.State.{State};
 ghost use Rattle.irig_reader.specs.Held.{then_none};
 ghost use Rattle.irig_reader.specs.Locking.{IsSilentAfter, then_true, voted_report};
 ghost use Rattle.irig_reader.specs.Rule.{state_of, step_of};
-ghost use Rattle.irig_lines.specs.Paces.{WandersAsSet, grown_us, learned};
+ghost use Rattle.irig_lines.specs.Paces.{WandersAsSet, grown_us, learned, longest_us, paced, shortest_us};
 ghost use Rattle.irig_timekeeper.specs.Learning.{IsLearned};
 ghost use Rattle.irig_timekeeper.specs.Rule.{against_table, step_behind};
 ghost use Rattle.irig_time.specs.TimelineFaults.{IsTimeline};
@@ -241,8 +241,9 @@ pub fn what_is_learned_is_so()
 {}
 
 /// What strays is seen, whatever lines carry: as long as no vote contradicted those before it and none
-/// is forgotten, the interval lies in that of each vote since, carried on by the drift, so that a
-/// vote contradicts it that differs from any of them by more than their bounds and the drift between.
+/// is forgotten, the interval lies in that of each vote since, carried on by the drift, or to a vote one
+/// second later by what was learned, so that a vote contradicts it that differs from any of them by more
+/// than their bounds and what may have come between.
 pub fn what_strays_is_seen()
     // The edge of a vote lies no further off than its bound.
     ensures vote { (vote : Vote) (edge : ℕ) → vote.edge_us ≡ edge % 2 ^ 32 → vote.bound_us ≤ edge
@@ -253,6 +254,10 @@ pub fn what_strays_is_seen()
         → LiesBetween from to x → carried d seconds x ≡ Some y
         → LiesBetween (from + (seconds * 1000000 - seconds * d))
         (to + seconds * 1000000 + seconds * d) y }
+    // One second later, by what was learned, it lies no earlier and no later than that second lasts.
+    ensures learned { (pace : Pace) (from to : ℕ) (x y : Interval) → LiesBetween from to x
+        → paced pace x ≡ Some y
+        → LiesBetween (from + shortest_us pace) (to + longest_us pace) y }
     // What a vote leaves lies where both lie.
     ensures cut { (x y : Interval) (from to others others_to : ℕ) → LiesBetween from to x
         → LiesBetween others others_to y → AreNear from to others others_to

@@ -15,7 +15,7 @@ use Rattle.irig_lines.specs.Counting.{edges_to_vote, edges_own}
 use Rattle.irig_lines.specs.Intervals.{by_vote, contradicts}
 use Rattle.irig_timekeeper.specs.Rule.{step_behind, against_table}
 use Rattle.irig_lines.specs.Steps.{is_pulse}
-use Rattle.irig_timekeeper.specs.Clock.{announce_unless, unless_doubted, beat_by, step_to, own_edge, after_own, answer_alone, answer_to_vote, known_then, doubted_s, clock_by, answer_by, settled_at, is_unsteady, claim_voted}
+use Rattle.irig_timekeeper.specs.Clock.{announce_unless, unless_doubted, beat_by, step_to, own_edge, after_own, answer_alone, answer_to_vote, known_at, doubted_s, clock_by, answer_by, settled_at, is_unsteady, claim_voted}
 use Rattle.irig_timekeeper.specs.Keeping.{Keeping, vote_at, after_tick, answer_at}
 use Rattle.irig_timekeeper.specs.Life.{Call, after_calls}
 use Rattle.irig_timekeeper.specs.Life.Call.{Hear, Tick}
@@ -98,7 +98,7 @@ module _ (k : Keeping) (clock : ℕ) where
 -- a vote contradicts those before it, or frames tell that the counter is unsteady
 strayed : Keeping → (clock : ℕ) → Option Vote → Bool
 strayed k clock None = is_unsteady k.clock k.state clock
-strayed k clock (Some v) = contradicts (known_then k.clock k.state (edges_to_vote k.state.edge_us v.edge_us)) (by_vote v)
+strayed k clock (Some v) = contradicts (known_at k.clock (settled_at k.clock k.state clock) (edges_to_vote k.state.edge_us v.edge_us)) (by_vote v)
 
 record LeavesDoubt (k : Keeping) (clock : ℕ) (vote : Option Vote) (new : ClockState) : Type 0 where
   strays : new.strays ≡ cond (strayed k clock vote) ((k.state.strays + 1) % 2 ^ 32) k.state.strays

@@ -20,7 +20,7 @@ use Rattle.irig_timekeeper.specs.Truth.{IsEdgeAt, age_of}
 use Rattle.irig_lines.specs.declared.setup.ClockRules.{ClockRules}
 use Rattle.irig_timekeeper.specs.Measures.{IsMeasured}
 use Rattle.irig_timekeeper.specs.declared.clock.ClockState.{ClockState}
-use Rattle.irig_timekeeper.specs.Clock.{after_own, clock_by, is_unsteady, known_then, settled_at}
+use Rattle.irig_timekeeper.specs.Clock.{after_own, clock_by, is_unsteady, known_at, settled_at}
 use Rattle.irig_timekeeper.specs.Keeping.{Keeping, vote_at, after_tick, rate_at}
 use Rattle.irig_timekeeper.specs.Life.{Call, Made, life_of, last_tick, LivesTruly}
 use Rattle.irig_timekeeper.proofs.AnchorLaws.{IfAnchored, is_served}
@@ -110,7 +110,7 @@ begins_anew k clock = of (vote_at k clock) refl
         ]
     of (Some v) at other =
         let even = steady (Some v) at refl in
-        elim (cases_Bool (contradicts (known_then k.clock k.state (edges_to_vote k.state.edge_us v.edge_us)) (by_vote v))) [
+        elim (cases_Bool (contradicts (known_at k.clock s (edges_to_vote k.state.edge_us v.edge_us)) (by_vote v))) [
           | inl strays ↦ rw strays refl
           | inr agrees ↦ absurd (other (rw (agrees, even) refl))
         ]

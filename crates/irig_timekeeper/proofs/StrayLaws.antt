@@ -5,7 +5,7 @@ use Rattle.irig_lines.specs.declared.within.Within.{Within}
 use Rattle.std.specs.Prelude.{◌==◌, ◌&&◌, ◌||◌, nat_le, nat_lt, min}
 use Rattle.std.proofs.Common.{◌≡◌, ◌∙◌, ◌⊎◌, ℕ, ◌+◌, ◌-◌, ◌*◌, ◌%◌, ◌^◌, ◌<◌, ◌≤◌, Bool, true, false, cond, List, [], ◌∷◌, Option, Some, None, refl, sym, ap, subst, arith, inl, inr}
 use Rattle.std.specs.Option.{ForSome}
-use Rattle.std.proofs.Math.Nat.{mul-le-mul_left}
+use Rattle.std.proofs.Math.Nat.{mul-le-mul_left, mul-le-mul_right}
 use Rattle.std.proofs.lemmas.Bool.{cases_Bool, cases_lt, eqb-true, eqb-false, leb-true, ltb-false}
 use Rattle.irig_sync.specs.Sync.{clock_gap}
 use Rattle.irig_lines.specs.declared.interval.Interval.{Interval}
@@ -33,8 +33,8 @@ use Rattle.irig_lines.specs.declared.rate.Anchor.{Anchor}
 use Rattle.irig_lines.specs.declared.rate.Rate.{Rate}
 use Rattle.irig_lines.specs.declared.pace.Pace.{Pace}
 use Rattle.irig_lines.specs.Rates.{anchors_on, anchors_cut, mean_since, rate_of, serving, IsMeanFrom}
-use Rattle.irig_lines.specs.Paces.{IsFit, IsSound, WandersAsSet, ahead_us, learned, middle_of, pace_on, rest_on, spread_of}
-use Rattle.irig_lines.proofs.PaceLaws.{IsPaced, begins_paced, goes_on, near_drift}
+use Rattle.irig_lines.specs.Paces.{IsFit, IsSound, WandersAsSet, ahead_us, carried_by, learned, longest_us, middle_of, pace_on, paced, rest_on, shortest_us, spread_of}
+use Rattle.irig_lines.proofs.PaceLaws.{IsPaced, begins_paced, goes_on, near_drift, near_learned, spans}
 use Rattle.irig_lines.proofs.RateLaws.{AreRound, mean_is}
 use Rattle.irig_reader.specs.declared.rule.State.{State}
 use Rattle.irig_time.specs.Tables.{TableValue}
@@ -324,17 +324,14 @@ module _ (d : ℕ) (edges : ℕ → ℕ) (quartz : IsQuartz d edges) where
       short = omega (arith, vote.small);
     }
 
-    -- the seconds from an edge whose time is known are counted right, if it still is known then
-    module _ (tick : ℕ) (order : tick ≤ now) (soon : now ≤ tick + 1800000000) (edge w : ℕ) (come : edge ≤ tick) (near : tick < edge + 1006000) (x : Interval) (h : KnowsEdge edges edge w x) (n : ℕ) (same : n ≡ edges_between edge vote.edge)
-        (short : x.long_us + 2 * (n * d) ≤ 980000) where
-      low : edges w ≤ edge + (2899 + h.drift)
-      low = omega (arith, h.near.least)
+    -- the seconds from an edge that lies so near T(w) are counted right
+    module _ (tick : ℕ) (order : tick ≤ now) (soon : now ≤ tick + 1800000000) (edge w : ℕ) (come : edge ≤ tick) (near : tick < edge + 1006000) (drift : ℕ) (is_near : IsNear edges (2899 + drift) (2899 + drift) w edge) (n : ℕ) (same : n ≡ edges_between edge vote.edge)
+        (few : 2 * drift + 2 * (n * d) ≤ 980000) where
+      low : edges w ≤ edge + (2899 + drift)
+      low = omega (arith, is_near.least)
 
-      high : edge ≤ edges w + (2899 + h.drift)
-      high = omega (arith, h.near.most)
-
-      few : 2 * h.drift + 2 * (n * d) ≤ 980000
-      few = omega (arith, h.grown, short)
+      high : edge ≤ edges w + (2899 + drift)
+      high = omega (arith, is_near.most)
 
       not_before : w ≤ vote.truth.second + 1
       not_before = elim (cases_lt (vote.truth.second + 1) w) [
@@ -366,7 +363,7 @@ module _ (d : ℕ) (edges : ℕ → ℕ) (quartz : IsQuartz d edges) where
       right =
           let drifts = mul-le-mul_left d one_more in
           let here = subst (λ (i : ℕ). IsNear edges v.bound_us v.bound_us i vote.edge) (sym there) (record { least = omega (arith, vote.truth.near.least); most = omega (arith, vote.truth.near.most) }) in
-          let count = counts d (2899 + h.drift) (2899 + h.drift) v.bound_us v.bound_us w k edge vote.edge edges quartz (record { least = low; most = high }) here
+          let count = counts d (2899 + drift) (2899 + drift) v.bound_us v.bound_us w k edge vote.edge edges quartz (record { least = low; most = high }) here
           (omega (arith, drifts, few, quartz.few, vote.small)) (omega (arith, drifts, few, quartz.few, vote.small)) in
           omega (arith, same, count, there)
 
@@ -608,34 +605,97 @@ module _ (c : ClockRules) (edges : ℕ → ℕ) (quartz : IsQuartz c.drift_us ed
     edge_now : IsEdgeAt v.edge_us vote.edge now
     edge_now = record { clock = vote.clock; come = vote.come; soon = omega (arith, vote.soon) }
 
-    -- the anchors serve on
-    anchored : (o : Option ℕ) (known : Option Interval) (anchors : Anchors) (age before : ℕ) (pace : Option Pace) → IfEdge edges c tick o known anchors age before pace → (n : ℕ) → n ≡ edges_to_vote o v.edge_us → AreAnchored edges (vote.truth.second + 1) (anchors_on n (carried_on d n known) anchors)
-    anchored None known anchors age before pace none n same = rw none.0 (record { old = tt; young = tt })
-    anchored (Some e) None anchors age before pace h n same = record { old = tt; young = tt }
-    anchored (Some e) (Some x) anchors age before pace h n same =
-        let edge = h.0 in
-        let at = h.2 in
-        let count : n ≡ edges_between edge vote.edge = same ∙ voted_count tick now order soon e edge at v.edge_us vote.edge edge_now vote.soon in
-        elim (cases_lt (2 * 490000) (x.long_us + 2 * (n * d))) [
-          | inl long ↦ rw (less_is (2 * 490000) (x.long_us + 2 * (n * d)) long) (record { old = tt; young = tt })
-          | inr short ↦
-              let right_count = right d edges quartz t now v vote tick order soon edge h.1 at.come at.soon x h.3 n count (omega (arith, short)) in
-              subst (λ (w : ℕ). AreAnchored edges w (anchors_on n (carried d n x) anchors)) right_count (ages_on edges h.1 n (carried d n x) anchors h.4)
-        ]
+    -- one second later by what was learned
+    module _ (e : ℕ) (p : Pace) (x : Interval) (age before edge w : ℕ) (at : IsEdgeAt e edge tick) (h : KnowsEdge edges edge w x) (l : LearnedTruly edges c w age before edge (Some x) p) (small : before ≤ 2899) (limit : (c.reader_rules.holdover + 2) * d ≤ 490000) (one : 1 ≡ edges_between edge vote.edge) where
+      slow : d ≤ 100
+      slow = omega (arith, quartz.few)
 
-    voted : (o : Option ℕ) (known : Option Interval) (anchors : Anchors) (age before : ℕ) (pace : Option Pace) → IfEdge edges c tick o known anchors age before pace → (n : ℕ) → n ≡ edges_to_vote o v.edge_us → KnowsOn d edges quartz t now v vote (carried_on d n known)
-    voted None known anchors age before pace none n same = rw none.0 (record { knows = knows_alone d edges quartz t now v vote; agrees = refl })
-    voted (Some e) None anchors age before pace h n same = record { knows = knows_alone d edges quartz t now v vote; agrees = refl }
-    voted (Some e) (Some x) anchors age before pace h n same =
-        let edge = h.0 in
-        let at = h.2 in
-        let count : n ≡ edges_between edge vote.edge = same ∙ voted_count tick now order soon e edge at v.edge_us vote.edge edge_now vote.soon in
-        elim (cases_lt (2 * 490000) (x.long_us + 2 * (n * d))) [
-          | inl long ↦ rw (less_is (2 * 490000) (x.long_us + 2 * (n * d)) long) (record { knows = knows_alone d edges quartz t now v vote; agrees = refl })
-          | inr short ↦
-              let right_count = right d edges quartz t now v vote tick order soon edge h.1 at.come at.soon x h.3 n count (omega (arith, short)) in
-              cuts d edges quartz t now v vote (edge + n * 1000000) (h.1 + n) (carried d n x) (carries d edges quartz edge h.1 n (edge + n * 1000000) x h.3 (lies_near d edges quartz edge h.1 n x h.3)) (λ y e. right_count)
-        ]
+      -- it lies near its true one
+      is_near : IsNear edges (2899 + (l.a * d + 1)) (2899 + (l.a * d + 1)) w edge
+      is_near =
+          let near = near_learned edges (c.reader_rules.holdover + 2000) d before w l.a edge p l.paced in
+          let product = mul-le-mul_left l.a l.paced.fit in
+          record { least = omega (arith, near.least, product, small); most = omega (arith, near.most, product, small) }
+
+      few : 2 * (l.a * d + 1) + 2 * (1 * d) ≤ 980000
+      few =
+          let most = mul-le-mul_right d (let held : l.a + 2 ≤ c.reader_rules.holdover + 2 = omega (arith, l.few) in held) in
+          omega (arith, most, limit, l.paced.fit)
+
+      is_next : w + 1 ≡ vote.truth.second + 1
+      is_next = right d edges quartz t now v vote tick order soon edge w at.come at.soon (l.a * d + 1) is_near 1 one few
+
+      paced_cuts : KnowsOn d edges quartz t now v vote (paced p x)
+      paced_cuts = elim (cases_lt (2 * 490000) (x.long_us + (longest_us p - shortest_us p))) [
+        | inl long ↦ rw (less_is (2 * 490000) (x.long_us + (longest_us p - shortest_us p)) long) (record { knows = knows_alone d edges quartz t now v vote; agrees = refl })
+        | inr fits ↦
+            let span = spans edges (c.reader_rules.holdover + 2000) d before w l.a edge p l.paced l.fit slow (omega (arith, l.few)) in
+            let y : Interval = record { begin_us = (x.begin_us + shortest_us p) % 2 ^ 32; long_us = x.long_us + (longest_us p - shortest_us p) } in
+            let known : KnowsEdge edges vote.edge (w + 1) y = record {
+              begin = h.begin + shortest_us p;
+              around = record {
+                clock = wraps x.begin_us h.begin (shortest_us p) h.around.clock;
+                least = omega (arith, h.around.least, span.least);
+                most = omega (arith, h.around.most, span.most);
+              };
+              drift = 0;
+              grown = omega arith;
+              near = subst (λ (i : ℕ). IsNear edges (2899 + 0) (2899 + 0) i vote.edge) (sym is_next) (record { least = omega (arith, vote.truth.near.least, vote.small); most = omega (arith, vote.truth.near.most, vote.small) });
+              short = omega (arith, fits);
+            } in
+            rw (not_less (2 * 490000) (x.long_us + (longest_us p - shortest_us p)) fits) (cuts d edges quartz t now v vote vote.edge (w + 1) (Some y) known (λ z e. is_next))
+      ]
+
+      paced_anchored : (anchors : Anchors) → AreAnchored edges w anchors → AreAnchored edges (vote.truth.second + 1) (anchors_on 1 (paced p x) anchors)
+      paced_anchored anchors are = subst (λ (i : ℕ). AreAnchored edges i (anchors_on 1 (paced p x) anchors)) is_next (ages_on edges w 1 (paced p x) anchors are)
+
+    -- by the drift
+    module _ (e edge w : ℕ) (at : IsEdgeAt e edge tick) (x : Interval) (h : KnowsEdge edges edge w x) (n : ℕ) (count : n ≡ edges_between edge vote.edge) where
+      is_right : x.long_us + 2 * (n * d) ≤ 980000 → w + n ≡ vote.truth.second + 1
+      is_right short = right d edges quartz t now v vote tick order soon edge w at.come at.soon h.drift h.near n count (omega (arith, h.grown, short))
+
+      drift_anchored : (anchors : Anchors) → AreAnchored edges w anchors → AreAnchored edges (vote.truth.second + 1) (anchors_on n (carried d n x) anchors)
+      drift_anchored anchors are = elim (cases_lt (2 * 490000) (x.long_us + 2 * (n * d))) [
+        | inl long ↦ rw (less_is (2 * 490000) (x.long_us + 2 * (n * d)) long) (record { old = tt; young = tt })
+        | inr short ↦ subst (λ (w : ℕ). AreAnchored edges w (anchors_on n (carried d n x) anchors)) (is_right (omega (arith, short))) (ages_on edges w n (carried d n x) anchors are)
+      ]
+
+      drift_cuts : KnowsOn d edges quartz t now v vote (carried d n x)
+      drift_cuts = elim (cases_lt (2 * 490000) (x.long_us + 2 * (n * d))) [
+        | inl long ↦ rw (less_is (2 * 490000) (x.long_us + 2 * (n * d)) long) (record { knows = knows_alone d edges quartz t now v vote; agrees = refl })
+        | inr short ↦ cuts d edges quartz t now v vote (edge + n * 1000000) (w + n) (carried d n x) (carries d edges quartz edge w n (edge + n * 1000000) x h (lies_near d edges quartz edge w n x h)) (λ y e. is_right (omega (arith, short)))
+      ]
+
+    module _ (limit : (c.reader_rules.holdover + 2) * d ≤ 490000) where
+      -- the anchors serve on
+      anchored : (o : Option ℕ) (known : Option Interval) (anchors : Anchors) (age before : ℕ) (pace : Option Pace) → before ≤ 2899 → IfEdge edges c tick o known anchors age before pace → (n : ℕ) → n ≡ edges_to_vote o v.edge_us → AreAnchored edges (vote.truth.second + 1) (anchors_on n (carried_by d pace n known) anchors)
+      anchored None known anchors age before pace small none n same = rw none.0 (record { old = tt; young = tt })
+      anchored (Some e) None anchors age before pace small h n same = record { old = tt; young = tt }
+      anchored (Some e) (Some x) anchors age before None small h n same =
+          let count : n ≡ edges_between h.0 vote.edge = same ∙ voted_count tick now order soon e h.0 h.2 v.edge_us vote.edge edge_now vote.soon in
+          drift_anchored e h.0 h.1 h.2 x h.3 n count anchors h.4
+      anchored (Some e) (Some x) anchors age before (Some p) small h n same =
+          let count : n ≡ edges_between h.0 vote.edge = same ∙ voted_count tick now order soon e h.0 h.2 v.edge_us vote.edge edge_now vote.soon in
+          elim (cases_Bool (n == 1)) [
+            | inl is ↦
+                let one : n ≡ 1 = eqb-true n 1 is in
+                let on = paced_anchored e p x age before h.0 h.1 h.2 h.3 h.5 small limit (sym one ∙ count) anchors h.4 in
+                rw is (subst (λ (m : ℕ). AreAnchored edges (vote.truth.second + 1) (anchors_on m (paced p x) anchors)) (sym one) on)
+            | inr more ↦ rw more (drift_anchored e h.0 h.1 h.2 x h.3 n count anchors h.4)
+          ]
+
+      voted : (o : Option ℕ) (known : Option Interval) (anchors : Anchors) (age before : ℕ) (pace : Option Pace) → before ≤ 2899 → IfEdge edges c tick o known anchors age before pace → (n : ℕ) → n ≡ edges_to_vote o v.edge_us → KnowsOn d edges quartz t now v vote (carried_by d pace n known)
+      voted None known anchors age before pace small none n same = rw none.0 (record { knows = knows_alone d edges quartz t now v vote; agrees = refl })
+      voted (Some e) None anchors age before pace small h n same = record { knows = knows_alone d edges quartz t now v vote; agrees = refl }
+      voted (Some e) (Some x) anchors age before None small h n same =
+          let count : n ≡ edges_between h.0 vote.edge = same ∙ voted_count tick now order soon e h.0 h.2 v.edge_us vote.edge edge_now vote.soon in
+          drift_cuts e h.0 h.1 h.2 x h.3 n count
+      voted (Some e) (Some x) anchors age before (Some p) small h n same =
+          let count : n ≡ edges_between h.0 vote.edge = same ∙ voted_count tick now order soon e h.0 h.2 v.edge_us vote.edge edge_now vote.soon in
+          elim (cases_Bool (n == 1)) [
+            | inl is ↦ let one : n ≡ 1 = eqb-true n 1 is in rw is (paced_cuts e p x age before h.0 h.1 h.2 h.3 h.5 small limit (sym one ∙ count))
+            | inr more ↦ rw more (drift_cuts e h.0 h.1 h.2 x h.3 n count)
+          ]
 
 -- ---- a life
 
@@ -699,16 +759,17 @@ module _ (t : TimelineValue) (edges : ℕ → ℕ) (new : Keeping) (start : ℕ)
 
       by_true : (v : Vote) (vote : IsTrueVote t edges 0 0 now v) (n : ℕ) → n ≡ edges_to_vote k.state.edge_us v.edge_us → KnowsTruly edges now k.clock (learning k.clock (knowing_vote k.clock s v n (after_vote k.clock k.table s v n)))
       by_true v vote n count =
-          let then = carried_on k.clock.drift_us n k.state.interval in
-          let on = voted k.clock edges quartz (last_tick start calls) now order.0 soon t v vote k.state.edge_us k.state.interval s.anchors (age_of k.state.reader) k.state.bound_us s.pace known_then n count in
-          let serve = anchored k.clock edges quartz (last_tick start calls) now order.0 soon t v vote k.state.edge_us k.state.interval s.anchors (age_of k.state.reader) k.state.bound_us s.pace known_then n count in
+          let then = carried_by k.clock.drift_us s.pace n k.state.interval in
+          let limit = subst (λ (c : ClockRules). (c.reader_rules.holdover + 2) * c.drift_us ≤ 490000) (sym same) is.short in
+          let on = voted k.clock edges quartz (last_tick start calls) now order.0 soon t v vote limit k.state.edge_us k.state.interval s.anchors (age_of k.state.reader) k.state.bound_us s.pace h.small known_then n count in
+          let serve = anchored k.clock edges quartz (last_tick start calls) now order.0 soon t v vote limit k.state.edge_us k.state.interval s.anchors (age_of k.state.reader) k.state.bound_us s.pace h.small known_then n count in
           let both = cuts_on edges (vote.truth.second + 1) (cut then (by_vote v)) on.knows.begin on.knows.around.clock on.knows.around.least on.knows.around.most on.knows.short (anchors_on n then s.anchors) serve in
           let anchors : AreAnchored edges (vote.truth.second + 1) (anchors_cut (cut then (by_vote v)) (anchors_unless (contradicts then (by_vote v)) (anchors_on n then s.anchors))) = rw on.agrees both in
           let near : IsNear edges v.bound_us v.bound_us (vote.truth.second + 1) vote.edge = record { least = omega (arith, vote.truth.near.least); most = omega (arith, vote.truth.near.most) } in
           let known : (age : ℕ) → IfEdge edges k.clock now (Some v.edge_us) (Some (cut then (by_vote v))) (anchors_cut (cut then (by_vote v)) (anchors_unless (contradicts then (by_vote v)) (anchors_on n then s.anchors))) age v.bound_us
           (learned k.clock (rate_of (Some (cut then (by_vote v))) (serving (anchors_cut (cut then (by_vote v)) (anchors_unless (contradicts then (by_vote v)) (anchors_on n then s.anchors)))))) =
           λ age. (vote.edge, vote.truth.second + 1, record { clock = vote.clock; come = vote.come; soon = omega (arith, vote.soon) }, on.knows, anchors, learns k.clock edges quartz wandering (cut then (by_vote v)) (vote.truth.second + 1) age v.bound_us vote.edge on.knows.begin on.knows.around on.knows.short near _ anchors) in
-          let none = no_more s (contradicts (carried_on k.clock.drift_us n k.state.interval) (by_vote v)) n on.agrees strays doubt in
+          let none = no_more s (contradicts then (by_vote v)) n on.agrees strays doubt in
           elim (cases_Bool (n == 0)) [
             | inl waits ↦ rw waits (record { strays = none.0; doubt = none.1; small = vote.small; known = known _ })
             | inr more ↦ rw more (record { strays = none.0; doubt = none.1; small = vote.small; known = known _ })

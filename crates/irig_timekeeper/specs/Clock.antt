@@ -20,7 +20,7 @@ use Rattle.irig_lines.specs.declared.setup.ClockRules.{ClockRules}
 use Rattle.irig_timekeeper.specs.declared.clock.ClockState.{ClockState}
 use Rattle.irig_lines.specs.Counting.{edges_to_vote, edges_own}
 use Rattle.irig_lines.specs.declared.pace.Pace.{Pace}
-use Rattle.irig_lines.specs.Paces.{edge_on, grown_us, learned, pace_on}
+use Rattle.irig_lines.specs.Paces.{carried_by, edge_on, grown_us, learned, pace_on}
 use Rattle.irig_lines.specs.Steps.{settled, taken, tells_of, are_uneven, agreed, if_come, wait_by}
 use Rattle.irig_lines.specs.declared.interval.Interval.{Interval}
 use Rattle.irig_lines.specs.Intervals.{by_vote, carried_on, cut, contradicts}
@@ -194,6 +194,13 @@ known_then c s seconds = carried_on c.drift_us seconds s.interval
 abbrev pub anchors_then : ClockRules → ClockState → ℕ → Anchors
 anchors_then c s seconds = anchors_on seconds (known_then c s seconds) s.anchors
 
+-- the same at a vote, but that one second later what was learned says it, if anything was
+abbrev pub known_at : ClockRules → ClockState → ℕ → Option Interval
+known_at c s seconds = carried_by c.drift_us s.pace seconds s.interval
+
+abbrev pub anchors_at : ClockRules → ClockState → ℕ → Anchors
+anchors_at c s seconds = anchors_on seconds (known_at c s seconds) s.anchors
+
 -- a clock that then knows it by its own counter
 abbrev pub knowing : ClockRules → ClockState → ℕ → ClockState → ClockState
 knowing c s seconds next = record next {
@@ -213,12 +220,12 @@ anchors_unless strays anchors = if strays then no_anchors else anchors
 -- a clock that then knows it by a vote too, and counts the votes that contradict what it knew
 abbrev pub knowing_vote : ClockRules → ClockState → Vote → ℕ → ClockState → ClockState
 knowing_vote c s vote seconds next = record next {
-  interval = Some (cut (known_then c s seconds) (by_vote vote));
-  anchors = anchors_cut (cut (known_then c s seconds) (by_vote vote))
-      (anchors_unless (contradicts (known_then c s seconds) (by_vote vote)) (anchors_then c s seconds));
-  strays = if contradicts (known_then c s seconds) (by_vote vote) then (s.strays + 1) % 2 ^ 32
+  interval = Some (cut (known_at c s seconds) (by_vote vote));
+  anchors = anchors_cut (cut (known_at c s seconds) (by_vote vote))
+      (anchors_unless (contradicts (known_at c s seconds) (by_vote vote)) (anchors_at c s seconds));
+  strays = if contradicts (known_at c s seconds) (by_vote vote) then (s.strays + 1) % 2 ^ 32
       else s.strays;
-  doubt = if contradicts (known_then c s seconds) (by_vote vote) then doubted_s c
+  doubt = if contradicts (known_at c s seconds) (by_vote vote) then doubted_s c
       else s.doubt - seconds;
 }
 

@@ -17,8 +17,9 @@ use crate::check::{against_table, step_checked};
 use crate::stamp::Announced;
 use irig_lines::{
     Anchors, ClockRules, Interval, Lines, NO_ANCHORS, Pace, Vote, agreed, anchors_cut, anchors_on,
-    are_uneven, by_vote, carried_on, contradicts, cut, edge_on, edges_own, edges_to_vote, grown_us,
-    if_come, learned, lines_of_nothing, pace_on, rate_of, settle, take, tells_of, wait_by,
+    are_uneven, by_vote, carried_by, carried_on, contradicts, cut, edge_on, edges_own,
+    edges_to_vote, grown_us, if_come, learned, lines_of_nothing, pace_on, rate_of, settle, take,
+    tells_of, wait_by,
 };
 use irig_reader::{Lock, Report, State, Step};
 use irig_time::{Claim, Leaps, UtcSecond};
@@ -275,10 +276,11 @@ fn know_vote(rules: &ClockRules, state: &mut ClockState, vote: Vote, edges: u32)
     requires few { edges ≤ 4294 }
     requires small { vote.bound_us ≤ most_vote_us }
     requires short { IsShort state.old.interval }
+    requires paced { IsSound state.old.pace }
     ensures after { state.new ≡ knowing_vote rules.now state.old vote edges state.old }
     ensures short { IsShort state.new.interval }
 {
-    let known = carried_on(rules.drift_us, edges, state.interval);
+    let known = carried_by(rules.drift_us, state.pace, edges, state.interval);
     let voted = by_vote(vote);
     let interval = cut(known, voted);
     state.interval = Some(interval);
