@@ -758,17 +758,18 @@ uint8_t irig_timekeeper_hear(irig_timekeeper *timekeeper, uint8_t line, uint32_t
  * (three of five; not the one line) were untrue in the last 1.2 s, the counter is as steady as
  * `drift_us` says, calls were in order, and the table is right, which it need not be at a
  * `holdover` of up to 57. Its `bound_us` is that of the last vote, and `drift_us` more for each of
- * `lock_count` seconds. Its true edge lies no further than that from `edge_us`. On these conditions
+ * `lock_count` seconds, or less as the counter was learned, if its rate changes by no more than
+ * `wander_ppb` says. Its true edge lies no further than that from `edge_us`. On these conditions
  * each second that is announced is later than the one before, and no cause is IRIG_CAUSE_JUMP.
  *
- * If lines were untrue before, all this holds again once a tick has told a second with
+ * If lines were untrue before, and `wander_ppb` is 0, all this holds again once a tick has told a second with
  * `report.agreed` above 0, provided that no two of three lines were untrue at that tick and at each
  * later one. That tick itself may have the cause IRIG_CAUSE_JUMP, or tell a second that is not
  * later than a false one before it.
  *
  * The last two paragraphs hold, too, if a line counts as true whose clock is off UTC, but by no
- * more than the time quality of its frames says. So they do if one counts as true that had one
- * fault of any kind in each hundred pulses (docs/WIRES.md): edges may then lie
+ * more than the time quality of its frames says. If `wander_ppb` is 0, they do if one counts as
+ * true that had one fault of any kind in each hundred pulses (docs/WIRES.md): edges may then lie
  * 2 * (within_us - 1) + 2 * drift_us further off than `bound_us`, which is less than 1.1 ms.
  * Whatever lines carry, told edges lie at least half a second apart if calls were in order.
  * docs/WIRES.md also says when it announces.
@@ -778,7 +779,8 @@ uint8_t irig_timekeeper_hear(irig_timekeeper *timekeeper, uint8_t line, uint32_t
  * at each vote that contradicts the table on how the month ends (docs/LINES.md).
  *
  * `strays` counts the votes that contradict those before them: their edges differ from whole
- * seconds by more than the sum of both bounds and the drift of the seconds between. A step of whole
+ * seconds by more than the sum of both bounds and the drift of the seconds between, or one second
+ * apart by more than what was learned of the counter allows. A step of whole
  * seconds is none. Frames whose first and last pulses are not 990 ms apart may count, too
  * (docs/EXACTNESS.md has the rule). As long as at each tick no two of three lines (three of five;
  * not the one line) were untrue in the last 1.2 s, the counter is as steady as `drift_us` says, and

@@ -89,10 +89,11 @@ abbrev pub grown_us : (d : ℕ) → Option Pace → ℕ → ℕ
 grown_us d None seconds = seconds * d
 grown_us d (Some p) seconds = min (seconds * d) ((seconds * p.within_ns + 1999) / 1000)
 
--- at least so many microseconds the next second lasts by it, and at most so many
+-- at least so many microseconds the next second lasts by it
 abbrev pub shortest_us : Pace → ℕ
 shortest_us p = (p.second_ns - p.within_ns) / 1000
 
+-- and at most so many
 abbrev pub longest_us : Pace → ℕ
 longest_us p = (p.second_ns + p.within_ns + 999) / 1000
 

@@ -198,6 +198,7 @@ anchors_then c s seconds = anchors_on seconds (known_then c s seconds) s.anchors
 abbrev pub known_at : ClockRules → ClockState → ℕ → Option Interval
 known_at c s seconds = carried_by c.drift_us s.pace seconds s.interval
 
+-- the anchors that still serve at such a vote
 abbrev pub anchors_at : ClockRules → ClockState → ℕ → Anchors
 anchors_at c s seconds = anchors_on seconds (known_at c s seconds) s.anchors
 
