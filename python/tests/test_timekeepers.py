@@ -288,6 +288,28 @@ class Ticks(unittest.TestCase):
         keeper.restart()
         self.assertIsNone(keeper.rate())
 
+    def test_a_counter_is_learned(self) -> None:
+        """The counter is 37 us a second fast, and one second of ten is voted. Nine seconds behind a vote that
+        is good to 20 us, a drift of 50 us a second leaves 470 us. A mean that is known to 1,040 ns leaves
+        30."""
+        for wander_ppb, most_us in ((0, 470), (1_000, 30)):
+            keeper, second = Timekeeper(1, 100, drift_us=50, within_us=10, wander_ppb=wander_ppb), Second.read("2017-01-01T00:00:00Z")
+            bounds = []
+            for number in range(1_201):
+                begin_us = number * 1_000_037
+                if number % 10 == 0:
+                    for element, width in enumerate(irig.widths(irig.frame(second))):
+                        for line in (0, 1):
+                            keeper.hear(line, begin_us + element * 1_000_037 // 100, width)
+                second += 1
+                beat = told(keeper, begin_us + 1_020_037)
+                self.assertEqual(beat.report.second, second)
+                self.assertLessEqual(abs(beat.edge_us - begin_us - 1_000_037), beat.bound_us)
+                bounds.append(beat.bound_us)
+            with self.subTest(wander_ppb=wander_ppb):
+                self.assertGreater(max(bounds[:1_000]), 450)
+                self.assertTrue(most_us - 20 <= max(bounds[1_001:]) <= most_us, max(bounds[1_001:]))
+
     def test_delays(self) -> None:
         """A line that is late by a constant time is as exact as others."""
         late_us = (4_000, -4_000, 37)
@@ -358,7 +380,7 @@ class Refusals(unittest.TestCase):
             self.assertEqual(
                 repr(Timekeeper(60, 1_000_000, drift_us=0, ports=ports)),
                 "Timekeeper(lock_after=60, holdover=1000000, drift_us=0, within_us=450, "
-                f"prefers_frames=False, ports={ports})",
+                f"wander_ppb=0, prefers_frames=False, ports={ports})",
             )
         for words, says in (
             ({"drift_us": -1}, "drift_us is -1; 0 to 100 may stand here"),
@@ -367,15 +389,19 @@ class Refusals(unittest.TestCase):
             ({"within_us": 0}, "within_us is 0; 1 to 450 may stand here"),
             ({"within_us": 451}, "within_us is 451; 1 to 450 may stand here"),
             ({"within_us": 65_537}, "within_us is 65537; 1 to 450 may stand here"),
+            ({"wander_ppb": -1}, "wander_ppb is -1; 0 to 100000 may stand here"),
+            ({"wander_ppb": 100_001}, "wander_ppb is 100001; 0 to 100000 may stand here"),
+            ({"wander_ppb": WRAP}, "wander_ppb is 4294967296; 0 to 100000 may stand here"),
             ({"poor_from": 0}, "poor_from is 0; 1 to 8 may stand here"),
             ({"poor_from": 9}, "poor_from is 9; 1 to 8 may stand here"),
         ):
             self.says(f"26 Value: {says}", **{"drift_us": 10, **words})
         self.assertRaisesRegex(TypeError, "drift_us", Timekeeper)
         self.assertRaisesRegex(TypeError, "drift_us is 2.5; a whole", Timekeeper, drift_us=2.5)
-        keeper = Timekeeper(drift_us=7, within_us=10)
-        self.assertEqual((keeper.drift_us, keeper.within_us), (7, 10))
-        self.assertNotEqual(keeper, Timekeeper(drift_us=7))
+        keeper = Timekeeper(drift_us=7, within_us=10, wander_ppb=100_000)
+        self.assertEqual((keeper.drift_us, keeper.within_us, keeper.wander_ppb), (7, 10, 100_000))
+        self.assertNotEqual(keeper, Timekeeper(drift_us=7, within_us=10))
+        self.assertNotEqual(keeper, Timekeeper(drift_us=7, wander_ppb=100_000))
 
     def test_a_holdover_that_is_too_long(self) -> None:
         says = (
