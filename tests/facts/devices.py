@@ -3,6 +3,8 @@ there, and what is refused of a setup."""
 
 from collections.abc import Iterator
 from dataclasses import dataclass, replace
+from fractions import Fraction
+from math import ceil, floor
 from random import Random
 
 from model.device import OFF, SECOND, WRAP, Beat, Device, Frame, Rate, Stamp
@@ -355,6 +357,65 @@ def anchors(random: Random) -> Iterator[Fact]:
         on = [one if one and is_known and one[2] <= 2_000 else None for one in later]
         known = some(record(begin_us=now, long_us=40) if is_known else None)
         yield equal(f"anchors_on {seconds} {known} {both}", record(old=anchor(on[0]), young=anchor(on[1])))
+
+
+@question("model", "irig_lines.learned")
+def learned_paces(random: Random) -> Iterator[Fact]:
+    """By docs/COUNTER.md: the middle of a mean of 1,000 s, off by half of what lies between, the wander and 1 ns; not
+    one that is no sharper by 1 us than the drift, nor one that is more than 100 us off."""
+    for _ in range(60):
+        drift, wander = random.choice((0, 1, 2, 50, 100)), random.choice((0, 1, 26, 1_000, 100_000))
+        seconds, middle = random.choice((1, 999, 1_000, 1_500, 2_000)), 10**9 + random.choice((0, 37_000, -60_000))
+        middle += random.choice((0, 0, 0, 63_000, 63_001, -40_000, -40_001))
+        half = max(0, 1_000 * drift - 1_000 - wander - 1 + random.choice((0, 0, 1, -random.randrange(10_000))))
+        least, most = middle - half + random.randrange(2), middle + half
+        middle, spread = (least + most) // 2, -((least - most) // 2) + wander + 1
+        is_fit = spread <= 1_000 * (drift - 1) and abs(middle - 10**9) <= 100_000
+        said = (middle, spread, 0) if wander and seconds >= 1_000 and is_fit else None
+        device = Device(Rules(), ReaderRules(1, 100), None, 3, 10, drift, (0,) * 5)
+        setup = clock(device).replace("wander_ppb = 0", f"wander_ppb = {wander}")
+        asked = f"learned {setup} {antt(rate(Rate(seconds, least, most)))}"
+        yield equal(asked, pace(said), above=(EXACT,))
+
+
+def pace(value: tuple[int, int, int] | None) -> Antt:
+    """How long a second is, how far that may be off, and what an edge lies behind its microsecond, in nanoseconds."""
+    return some(value and record(**dict(zip(("second_ns", "within_ns", "rest_ns"), value))))
+
+
+def random_pace(random: Random) -> tuple[int, int, int]:
+    second = 10**9 + random.choice((0, 999, -999, 100_000, -100_000, random.randint(-100_000, 100_000)))
+    return second, random.choice((2, 999, 1_000, random.randrange(99_000))), random.choice((0, 999, random.randrange(1_000)))
+
+
+@question("model", "irig_lines.edge_on irig_lines.pace_on irig_lines.grown_us irig_lines.edges_own")
+def paced_edges(random: Random) -> Iterator[Fact]:
+    """By docs/COUNTER.md: where an edge is some seconds later, to the nanosecond, and its microsecond; how much further
+    off it may lie; and how many edges are counted alone, each 6 ms behind its place from the first one's on."""
+    for _ in range(60):
+        held, edge = random_pace(random), random.choice((0, WRAP - 1, random.randrange(WRAP)))
+        seconds, drift = random.choice((0, 1, 2, 1_000, random.randrange(5_000))), random.choice((0, 1, 100))
+        second, within, rest = held
+        at = Fraction(1_000 * edge + rest + seconds * second, 1_000)
+        behind = (second, within, int(at * 1_000) % 1_000)
+        grown = min(seconds * drift, 1 + ceil(Fraction(seconds * within, 1_000)))
+        yield equal(f"edge_on {antt(pace(held))} {edge} {seconds}", floor(at) % WRAP)
+        yield equal(f"pace_on true {seconds} {antt(pace(held))}", pace(behind))
+        yield equal(f"grown_us {drift} {antt(pace(held))} {seconds}", grown)
+        gap = 1_006_000 + seconds % 1_700 * second // 1_000 + random.choice((0, -1, random.randrange(10**6)))
+        counted = sum(1 for k in range(1_701) if gap >= 1_006_000 + k * second // 1_000)
+        yield equal(f"edges_own {antt(pace(held))} (Some {edge}) {(edge + gap) % WRAP}", counted)
+
+
+@question("model", "irig_lines.carried_by")
+def paced_intervals(random: Random) -> Iterator[tuple]:
+    """By docs/COUNTER.md: one second later an interval begins by the shortest second and ends by the longest one."""
+    for _ in range(60):
+        held, begin, long = random_pace(random), random.randrange(WRAP), random.choice((0, 1_700, 979_900, 980_000))
+        shortest, longest = floor(Fraction(held[0] - held[1], 1_000)), ceil(Fraction(held[0] + held[1], 1_000))
+        more = long + longest - shortest
+        said = record(begin_us=(begin + shortest) % WRAP, long_us=more) if more <= 980_000 else None
+        yield (0, pace(held), 1, some(record(begin_us=begin, long_us=long))), some(said)
 
 
 @question("model", "irig_lines.corrected")
