@@ -127,7 +127,7 @@ impl Draft {
         } else if value.is_object() {
             self.push("an object");
         } else {
-            self.shown(value.to_string(self.alloc));
+            self.shown(json_text(self.alloc, value));
         }
         self.parts.value = self.since(start);
     }
@@ -149,4 +149,31 @@ impl Draft {
             None => self.push(text),
         }
     }
+}
+
+// A value as JSON has it, in which a terminal has nothing to obey: what is not printable is escaped.
+fn json_text(alloc: Global, value: &Value) -> Result<String, AllocError> {
+    let mut shown = String::new(alloc);
+    for letter in value.to_string(alloc)?.chars() {
+        if is_printable(letter) {
+            shown.push(letter)?;
+        } else {
+            push_escaped(alloc, &mut shown, letter)?;
+        }
+    }
+    Ok(shown)
+}
+
+fn is_printable(letter: char) -> bool {
+    letter == ' '
+        || letter.is_ascii_graphic()
+        || !letter.is_ascii() && letter.escape_debug().nth(1).is_none()
+}
+
+// As JSON escapes it: each unit of UTF-16 by four hexadecimal digits.
+fn push_escaped(alloc: Global, text: &mut String, letter: char) -> Result<(), AllocError> {
+    for unit in letter.encode_utf16(&mut [0; 2]) {
+        text.push_str(format!(in alloc; "\\u{unit:04x}")?.as_str())?;
+    }
+    Ok(())
 }
