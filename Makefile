@@ -1,7 +1,8 @@
 # Proves and builds the program, installs it, and makes a Debian package and a release of it.
 #
 #     make                        proves and builds the program by ./build, if a source is newer
-#     make install PREFIX=/usr    the program, its manual and completion, the pages and the examples
+#     make install PREFIX=/usr    the program, its manual and completion, the pages and the examples, and
+#                                 the licences of what is linked in
 #     make uninstall PREFIX=/usr  takes them away again
 #     make deb                    out/irig_VERSION_ARCHITECTURE.deb, by Debian's package dpkg-dev
 #     make release                out/release, with libraries for all processors; proves what is missing
@@ -24,8 +25,13 @@ of_page = $(wildcard web/*.* tools/*.py tools/parts/*.* python/irig/*.py docs/*.
 
 .PHONY: all install uninstall deb release reproduce
 
-all: $(program)
+all: $(program) out/THIRD_PARTY
 	@$(program) --version
+
+out/THIRD_PARTY: packaging/notices packaging/THIRD_PARTY packaging/third_party crates.txt
+	@mkdir -p out
+	@packaging/notices texts > $@.new
+	@mv $@.new $@
 
 $(program): $(sources)
 	./build > /dev/null
@@ -36,6 +42,7 @@ install: all
 	install -D -m 644 docs/irig.bash "$(to)/$(completion)"
 	find README.md CHANGELOG.md LICENSE-* docs examples -type f ! -name 'irig.*' \
 		-exec install -D -m 644 {} "$(to)/$(doc)/{}" \;
+	install -m 644 out/THIRD_PARTY "$(to)/$(doc)"
 
 uninstall:
 	rm -f "$(to)/bin/irig" "$(to)/$(manual)" "$(to)/$(completion)"

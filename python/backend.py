@@ -15,6 +15,7 @@ from typing import Dict, List
 HERE = Path(__file__).resolve().parent
 ROOT = HERE.parent
 LIBRARIES = ("irig", "irig_scene")
+NOTICES = ROOT / "c/out/THIRD_PARTY"  # licences of what is linked in
 LISTS = ROOT / "c/layout.txt", ROOT / "docs/FAULTS.md"  # which the package reads
 
 
@@ -40,7 +41,7 @@ def shared_libraries() -> List[Path]:
     layout = stated(ROOT / "c/layout.txt", r"^layout (\d+)")
     made = [ROOT / f"c/out/lib{name}.so.{layout}" for name in LIBRARIES]
     # No proof is begun here: it would take longer than anyone expects of an installation.
-    words = ["make", "-s", "-C", str(ROOT / "c"), "build=false", *(f"out/{file.name}" for file in made)]
+    words = ["make", "-s", "-C", str(ROOT / "c"), "build=false", *(f"out/{file.name}" for file in [*made, NOTICES])]
     try:
         subprocess.run(words, check=True, stdout=sys.stderr)
     except (OSError, subprocess.CalledProcessError) as error:
@@ -65,7 +66,7 @@ def metadata() -> Dict[str, bytes]:
         "METADATA": (fields + (ROOT / "docs/PYTHON.md").read_text()).encode(),
         "WHEEL": wheel.encode(),
     }
-    for licence in sorted(ROOT.glob("LICENSE-*")):
+    for licence in (*sorted(ROOT.glob("LICENSE-*")), NOTICES):
         files[licence.name] = licence.read_bytes()
     return {f"irig-{version()}.dist-info/{name}": data for name, data in files.items()}
 

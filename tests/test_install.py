@@ -72,11 +72,12 @@ class Installed(unittest.TestCase):
             "usr/my irig/share/man/man1/irig.1",
             "usr/my irig/share/bash-completion/completions/irig",
         })
-        wanted = {"README.md", "CHANGELOG.md", "LICENSE-APACHE", "LICENSE-MIT", "docs/SCENARIOS.md"}
+        wanted = {"README.md", "CHANGELOG.md", "LICENSE-APACHE", "LICENSE-MIT", "THIRD_PARTY", "docs/SCENARIOS.md"}
         self.assertLessEqual(wanted, files_below(doc))
         self.assertEqual(
             files_below(doc / "examples"), {path.name for path in (ROOT / "examples").iterdir()}
         )
+        self.assertIn("\nclap ", (doc / "THIRD_PARTY").read_text())
         for name in found:
             self.assertEqual(os.access(self.folder / name, os.X_OK), "/bin/" in name, name)
 

@@ -5,7 +5,9 @@ from __future__ import annotations
 
 import base64
 import re
+import subprocess
 import sys
+from html import escape
 from pathlib import Path
 
 WEB = Path(__file__).resolve().parent
@@ -160,6 +162,7 @@ def page_of(data: dict[str, object]) -> str:
         f" style-src {hashed(style)}; connect-src 'none'; base-uri 'none'; form-action 'none'",
         "style": style,
         "timeline": (PARTS / "timeline.html").read_text(),
+        "notices": escape(subprocess.check_output([ROOT / "packaging/notices", "texts"], text=True)),
         "data": embedded(data),
         "worker": script_of(WORKER, of_c()),
         "script": script,

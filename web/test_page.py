@@ -481,6 +481,7 @@ class InBrowser(browser.Driven):
         self.assertEqual(self.page.ask("document.activeElement.id"), "tab-frame")
         self.page.press("End")
         self.assertRegex(self.text("panel-about"), r"an extra, and outside the\s+theorem")
+        self.assertRegex(self.text("notices"), r"(?s)serde_json \d.*Permission is hereby granted")
 
     def test_each_control_has_a_name(self) -> None:
         roles = {"button", "textbox", "searchbox", "combobox", "checkbox", "tab", "listbox", "application"}

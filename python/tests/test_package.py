@@ -65,6 +65,8 @@ class Package(unittest.TestCase):
             licences = {path.name for path in ROOT.glob("LICENSE-*")}
             self.assertLessEqual({f"{about}/{name}" for name in licences}, names)
             self.assertEqual(len(licences), 2)
+            self.assertEqual(opened.read(f"{about}/THIRD_PARTY"), (ROOT / "c/out/THIRD_PARTY").read_bytes())
+            self.assertIn(b"\nserde_json ", opened.read(f"{about}/THIRD_PARTY"))
             listed = opened.read(f"{about}/RECORD").decode().splitlines()
             self.assertEqual({line.split(",")[0] for line in listed}, names)
             for line in listed[:-1]:
