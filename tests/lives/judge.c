@@ -9,7 +9,8 @@ enum {
     WAIT_MOST_US = 1006000,
     IN_TIME_US = 98000,
     TRUE_US = 2700000,
-    OWN_LATE_US = 6000, /* so long behind its own edge it counts a second */
+    OWN_LATE_US = 6000, /* so long behind its own edge it counts a second, */
+    LEARNED_US = 100,   /* and so much earlier if it has learned that seconds are longer */
     ENDS_AHEAD_US = 500 /* a frame's last pulse ends at least so long before the frame */
 };
 
@@ -44,7 +45,7 @@ static void forget(judge *j) {
         j->sent[i].whole = -1;
     }
     j->has_told = j->is_row = false;
-    j->bound_us = j->strays = 0;
+    j->bound_us = j->strays = j->voted_us = 0;
     j->announced = j->voted = j->asked = j->moved = -1;
     j->row = j->moves = 0;
 }
@@ -156,6 +157,7 @@ static void judge_vote(judge *j, const irig_second *s, uint64_t edge_us) {
     bool is_next = j->has_told && j->voted + 1 == (int64_t)m && s->missed == 0 && j->row > 0;
     j->row = is_next ? j->row + 1 : 1;
     j->voted = m;
+    j->voted_us = s->bound_us;
     if (j->row >= j->setup.lock_after && !s->report.announces &&
         second_at(j->world, m).day <= LAST_DAY)
         fail(j, "%u votes in a row, and it is silent", j->row);
@@ -173,7 +175,8 @@ static void judge_announced(judge *j, const irig_second *s, uint64_t edge_us) {
     }
     int64_t off_us = off(j, edge_us, (uint32_t)m);
     int64_t drift_us = age * j->world->drift_us;
-    if (s->bound_us > vote_us(j) + drift_us || llabs(off_us) > s->bound_us)
+    int64_t voted_us = j->voted_us > 0 ? j->voted_us : vote_us(j);
+    if (s->bound_us > voted_us + drift_us || llabs(off_us) > s->bound_us)
         fail(j, "it announces T(%lld) %lld us off its edge, within %u us, %lld s behind a vote",
              (long long)m, (long long)off_us, s->bound_us, (long long)age);
     if (age > j->setup.holdover) fail(j, "it holds for %lld s", (long long)age);
@@ -188,6 +191,7 @@ static void judge_announced(judge *j, const irig_second *s, uint64_t edge_us) {
     j->announced = m;
     j->counts[LEAPS] += r->sod == DAY_S;
     j->counts[r->cause == IRIG_CAUSE_VOTED ? VOTED : HELD]++;
+    j->counts[LEARNED] += j->voted_us > 0 && s->bound_us < voted_us + drift_us;
 }
 
 /* It goes silent behind an announcement only if its holdover is over, or what follows is not
@@ -227,7 +231,9 @@ static void judge_lines(judge *j, const irig_masks *m) {
 /* What is measured of the counter holds the true mean of these seconds. */
 static void judge_rate(judge *j, uint64_t edge_us) {
     irig_rate rate = {0};
-    if (!j->subject->rate || j->subject->rate(&rate) != IRIG_DONE) return;
+    uint32_t answer = j->subject->rate ? j->subject->rate(&rate) : IRIG_FAULT_VALUE;
+    if (answer == IRIG_FAULT_VALUE) return;
+    if (answer != IRIG_DONE) fail(j, "a rate answers %u", answer);
     uint32_t m = nearest(j, edge_us), n = rate.seconds;
     if (n < 1 || n > 2000 || n > m) {
         fail(j, "it measures %u s", (unsigned)n);
@@ -252,6 +258,7 @@ static void judge_report(judge *j, const irig_second *s, uint64_t edge_us) {
     if (s->strays > 0) fail(j, "it counts %u strays", s->strays);
     if (s->doubt > 0) fail(j, "it doubts for %u s", s->doubt);
     if (s->against_table) fail(j, "a true table is against the vote");
+    if (s->moved > 0) j->voted_us = 0; /* by a vote that told no second */
     judge_rate(j, edge_us);
     judge_lines(j, &s->lines);
     if (r->agreed != 0) judge_vote(j, s, edge_us);
@@ -297,7 +304,8 @@ static void judge_moved(judge *j, uint32_t m) {
     uint32_t wait_us = j->subject->wait((uint32_t)j->now_us);
     int64_t off_us = off(j, j->now_us + wait_us - WAIT_MOST_US, m);
     int64_t told_us = widest_us(j->world) - ENDS_AHEAD_US + MOST_DELAY_US; /* behind the edge */
-    bool was_early = j->has_told && off(j, j->edge_us, m) + OWN_LATE_US < told_us;
+    int64_t late_us = OWN_LATE_US - (j->world->wander_ppb > 0 ? LEARNED_US : 0);
+    bool was_early = j->has_told && off(j, j->edge_us, m) + late_us < told_us;
     if (!was_early || llabs(off_us) > vote_us(j))
         fail(j, "%d lines sent frame %u whole, and edge %u has no vote", whole_lines(j, m - 1),
              m - 1, m);

@@ -32,7 +32,8 @@ typedef struct sent {
     X(ENDED, "ends of the range")                                                                  \
     X(AGREED, "of lines, agreed")                                                                  \
     X(APART, "apart")                                                                              \
-    X(MEASURED, "rates of the counter")
+    X(MEASURED, "rates of the counter")                                                            \
+    X(LEARNED, "held by what was learned of it")
 
 #define COUNTER_OF(name, said) name,
 enum { EACH_COUNTED(COUNTER_OF) COUNTED };
@@ -59,7 +60,8 @@ typedef struct judge {
     uint32_t strays;   /* how many votes contradicted others, as it is told, */
     irig_report report;
     int64_t announced; /* the last second announced, or -1 */
-    int64_t voted;     /* the edge of the last second with a vote, or -1 */
+    int64_t voted;     /* the edge of the last second with a vote, or -1, */
+    uint32_t voted_us; /* and its bound, or 0 if it is not told any more */
     uint32_t row;      /* seconds with a vote that followed one another */
     int64_t asked;     /* the last edge whose vote was asked for */
     int64_t moved;     /* the last such edge to which its own was moved instead, */

@@ -86,10 +86,17 @@ static uint32_t stamp_both(uint32_t time_us, irig_stamp *s) {
     return wanted != IRIG_DONE || memcmp(&other, s, sizeof other) == 0 ? wanted : DIFFERS;
 }
 
+static uint32_t rate_both(irig_rate *r) {
+    irig_rate other = {0};
+    uint32_t wanted = model_subject.rate(&other);
+    if (rate(r) != wanted) return DIFFERS;
+    return wanted != IRIG_DONE || memcmp(&other, r, sizeof other) == 0 ? wanted : DIFFERS;
+}
+
 static void restart_both(void) {
     model_subject.restart();
     restart();
 }
 
 const subject both_subject = {"both", begin_both, hear_both, tick_both, wait_both, restart_both,
-                              stamp_both, rate, NULL, false};
+                              stamp_both, rate_both, NULL, false};

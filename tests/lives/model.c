@@ -15,6 +15,7 @@ static const uint32_t SERVED_US = 103000; /* and so long a tick has their edge *
 static const int32_t LONGEST_US = 980000; /* what is longer is not known */
 static const uint32_t HALF_TURN = UINT32_C(1) << 31;
 enum { NO_VOTE = MOST_LINES + 1 }; /* more than there are */
+enum { LEARN_S = 1000, SECOND_NS = 1000000000 };
 
 typedef struct heard_line {
     irig_sync sync;
@@ -35,6 +36,18 @@ typedef struct ended_second {
     uint32_t day, sod, edge_us, bound_us;
 } ended_second;
 
+/* The interval of the counter in which a voted edge lay, and how many seconds were counted since. */
+typedef struct anchor {
+    bool is_there;
+    uint32_t first_us, last_us, seconds;
+} anchor;
+
+/* How long seconds are by the counter, how much longer or shorter one may be, and how far behind its
+ * microsecond the own edge lies. All 0 if nothing is learned. */
+typedef struct learned {
+    uint32_t second_ns, within_ns, rest_ns;
+} learned;
+
 static struct {
     plain_reader reader;
     uint8_t lines;
@@ -45,6 +58,8 @@ static struct {
     bool is_known;
     int32_t least_us, most_us;
     uint32_t strays, doubt;
+    anchor old, young; /* the first one serves, or the second one if there is no first */
+    learned learned;
     ended_second ended, ended_before;
     irig_wires wires;
     irig_second last, before; /* what was told last, as far as it announces */
@@ -218,6 +233,14 @@ static void forget_ends(void) {
     for (int i = 0; i < k.lines; i++) k.line[i].has_end = false;
 }
 
+static void drop_anchors(void) { k.old.is_there = k.young.is_there = false; }
+
+/* One that is old is dropped. */
+static void count_on(anchor *a, uint32_t seconds) {
+    a->seconds += seconds;
+    if (a->seconds > 2 * LEARN_S) a->is_there = false;
+}
+
 /* What is known of the edge by all votes, so many seconds later, if the own edge goes on by as many
  * and so much more. */
 static void carry(uint32_t seconds, int32_t more_us) {
@@ -225,17 +248,29 @@ static void carry(uint32_t seconds, int32_t more_us) {
     int32_t drift_us = is(KNOWS_STEADILY) ? 0 : (int32_t)(seconds * k.wires.drift_us);
     k.least_us -= drift_us + more_us;
     k.most_us += drift_us - more_us;
-    if (k.most_us - k.least_us > LONGEST_US) k.is_known = false;
+    count_on(&k.old, seconds);
+    count_on(&k.young, seconds);
+    if (k.most_us - k.least_us <= LONGEST_US) return;
+    k.is_known = false;
+    drop_anchors();
 }
 
 static void doubt(void) {
     uint32_t wanted_s = k.reader.setup.holdover < 1000 ? k.reader.setup.holdover : 1000;
     k.doubt = wanted_s > 0 ? wanted_s : 1;
     k.strays++;
+    drop_anchors();
 }
 
-/* A vote on the own edge, to which so much is known and so many seconds were counted. */
-static void know_vote(uint32_t seconds) {
+/* A vote leaves an anchor if there is none, or the one before is old. */
+static void leave_anchor(uint32_t edge_us) {
+    if (k.young.is_there && k.young.seconds < LEARN_S) return;
+    k.old = k.young;
+    k.young = (anchor){true, edge_us + (uint32_t)k.least_us, edge_us + (uint32_t)k.most_us, 0};
+}
+
+/* A vote on this edge, to which so many seconds were counted. What is known is known beside it. */
+static void know_vote(uint32_t seconds, uint32_t edge_us) {
     int32_t bound_us = (int32_t)k.bound_us;
     bool strays = k.is_known && (k.least_us > bound_us || k.most_us < -bound_us);
     if (strays) doubt();
@@ -245,6 +280,46 @@ static void know_vote(uint32_t seconds) {
     k.least_us = is_new || k.least_us < -bound_us ? -bound_us : k.least_us;
     k.most_us = is_new || k.most_us > bound_us ? bound_us : k.most_us;
     k.is_known = true;
+    leave_anchor(edge_us);
+}
+
+/* ---- what is learned of the counter */
+
+/* Of all seconds since the anchor that serves. */
+static uint32_t rate(irig_rate *r) {
+    const anchor *since = k.old.is_there ? &k.old : &k.young;
+    uint32_t seconds = since->seconds;
+    if (!k.is_known || !since->is_there || seconds == 0) return IRIG_FAULT_VALUE;
+    uint64_t least_us = k.edge_us + (uint32_t)k.least_us - since->last_us;
+    uint64_t most_us = k.edge_us + (uint32_t)k.most_us - since->first_us;
+    *r = (irig_rate){seconds, (uint32_t)(1000 * least_us / seconds),
+                     (uint32_t)((1000 * most_us + seconds - 1) / seconds)};
+    return IRIG_DONE;
+}
+
+/* By the mean of many seconds each one is known as far as the mean is, and as they wander. That is of use
+ * if the drift is more, by a microsecond at least. */
+static void learn(void) {
+    irig_rate r;
+    if (is(LEARNS_ON) && k.doubt > 0) return;
+    k.learned = (learned){0};
+    if (k.wires.wander_ppb == 0 || rate(&r) != IRIG_DONE) return;
+    if (r.seconds < LEARN_S - (is(LEARNS_SOON) ? 1 : 0)) return;
+    uint32_t second_ns = r.least_ns + (r.most_ns - r.least_ns) / 2;
+    uint32_t within_ns = (r.most_ns - r.least_ns + 1) / 2 + 1;
+    if (!is(LEARNS_STEADILY)) within_ns += k.wires.wander_ppb;
+    if (within_ns + (is(LEARNS_LITTLE) ? 0 : 1000) > 1000u * k.wires.drift_us) return;
+    if (second_ns < SECOND_NS - 100000 || second_ns > SECOND_NS + 100000) return;
+    if (is(LEARNS_BACKWARDS)) second_ns = 2 * SECOND_NS - second_ns;
+    k.learned = (learned){second_ns, within_ns, 0};
+}
+
+/* How much further off than the last vote an edge may be, so many seconds behind it. */
+static uint32_t grown_us(uint32_t seconds) {
+    uint64_t drift_us = is(BOUNDS_FOREVER) ? 0 : seconds * k.wires.drift_us;
+    uint64_t by_ns = seconds * (uint64_t)k.learned.within_ns + (is(HOLDS_SHARPLY) ? 999 : 1999);
+    bool is_sharper = k.learned.second_ns > 0 && by_ns / 1000 < drift_us;
+    return (uint32_t)(is_sharper ? by_ns / 1000 : drift_us);
 }
 
 /* ---- what lines are */
@@ -317,7 +392,7 @@ static void tell(irig_second *s, uint32_t now_us, uint32_t edge_us, uint32_t mis
     s->is_told = 1;
     s->edge_us = k.edge_us = edge_us;
     uint32_t age = s->report.lock == IRIG_LOCK_HOLDOVER ? s->report.lock_count : 0;
-    s->bound_us = k.bound_us + (is(BOUNDS_FOREVER) ? 0 : age * k.wires.drift_us);
+    s->bound_us = k.bound_us + grown_us(age);
     s->missed = missed;
     s->moved = k.moved;
     s->strays = k.strays;
@@ -344,7 +419,7 @@ static void tell_by_lines(irig_second *s, uint32_t now_us, const agreed_edge *by
     uint32_t count = k.has_edge ? (to_us + half_us - k.edge_us) / SECOND_US : 1;
     uint32_t edge_us = is(CALL_IS_EDGE) ? now_us : end_us;
     carry(count, (int32_t)(edge_us - k.edge_us - count * SECOND_US));
-    know_vote(count);
+    know_vote(count, edge_us);
     if (count == 0 && is(MOVES_NEVER)) count = 1;
     if (count == 0) {
         k.edge_us = edge_us;
@@ -352,6 +427,7 @@ static void tell_by_lines(irig_second *s, uint32_t now_us, const agreed_edge *by
     } else {
         tell(s, now_us, edge_us, count - 1, majority());
     }
+    learn();
     if (!is(KEEPS_ENDS)) forget_ends();
 }
 
@@ -367,15 +443,30 @@ static uint32_t patience_us(void) {
     return is(HAS_NO_PATIENCE) ? 0 : is(HAS_LESS_PATIENCE) ? 5000 : 6000;
 }
 
+/* How many seconds have come by its own counter so long behind its edge. */
+static uint32_t count_of(uint32_t gap_us) {
+    if (k.learned.second_ns == 0 || is(COUNTS_MILLIONS)) return (gap_us - patience_us()) / SECOND_US;
+    uint64_t past_ns = 1000 * (uint64_t)(gap_us - SECOND_US - patience_us()) + 999;
+    return 1 + (uint32_t)(past_ns / k.learned.second_ns);
+}
+
 static void tell_alone(irig_second *s, uint32_t now_us) {
     uint32_t gap_us = now_us - k.edge_us;
     if (is(COUNTS_EARLY) && k.has_edge && gap_us < HALF_TURN) gap_us += SECOND_US / 2;
     if (!k.has_edge || gap_us < SECOND_US + patience_us()) return;
     if (gap_us >= HALF_TURN && !is(GUARDS_NOT)) return;
-    uint32_t count = (gap_us - patience_us()) / SECOND_US;
-    if (is_unsteady(now_us)) doubt();
-    carry(count, 0);
-    tell(s, now_us, k.edge_us + count * SECOND_US, count - 1, NO_VOTE);
+    if (is_unsteady(now_us)) {
+        doubt();
+        if (!is(LEARNS_ON)) k.learned = (learned){0};
+    }
+    uint32_t count = count_of(gap_us), second_ns = k.learned.second_ns;
+    uint64_t ahead_ns = k.learned.rest_ns + count * (uint64_t)(second_ns > 0 ? second_ns : SECOND_NS);
+    uint32_t ahead_us = (uint32_t)(ahead_ns / 1000);
+    carry(count, (int32_t)(ahead_us - count * SECOND_US));
+    tell(s, now_us, k.edge_us + ahead_us, count - 1, NO_VOTE);
+    k.learned.rest_ns = is(FORGETS_REST) ? 0 : (uint32_t)(ahead_ns % 1000);
+    bool goes_on = k.reader.state.kind == IRIG_STATE_LOCKED;
+    if (!goes_on && !is(LEARNS_LONG)) k.learned = (learned){0};
 }
 
 static uint32_t tick(uint32_t now_us, irig_second *s) {
@@ -439,6 +530,8 @@ static void restart(void) {
     k.moved = k.bound_us = k.strays = k.doubt = 0;
     k.ended = k.ended_before = (ended_second){0};
     k.is_known = false;
+    drop_anchors();
+    k.learned = (learned){0};
     memset(&k.last, 0, sizeof k.last);
     memset(&k.before, 0, sizeof k.before);
 }
@@ -463,4 +556,4 @@ static uint32_t begin(const irig_setup *setup, const irig_table *table, const ir
     return IRIG_DONE;
 }
 
-const subject model_subject = {"model", begin, hear, tick, wait, restart, stamp, NULL, NULL, false};
+const subject model_subject = {"model", begin, hear, tick, wait, restart, stamp, rate, NULL, false};

@@ -24,6 +24,7 @@ static void begin_drifting(life *l, uint32_t seconds, uint32_t drift_us) {
     l->sky.lines = 3;
     l->world.seconds = seconds;
     l->world.drift_us = drift_us;
+    l->world.wander_ppb = 0;
     l->world.within_us = (uint32_t)jitter + 1;
     l->world.is_odd = l->world.is_subtracted = false;
     l->world.first = (utc){9826, 45290};
@@ -141,11 +142,16 @@ static bool all_voted(life *l, const subject *s) {
     return goes_right(l, s) && have_votes(l, 1, end) && l->tolds == (int)end;
 }
 
-/* Whether an edge is told so much late, and within so much. */
-static bool is_told_as(const life *l, uint32_t edge, int32_t late_us, int32_t bound_us) {
+/* Whether an edge is told so much late, */
+static bool is_told_late(const life *l, uint32_t edge, int32_t late_us) {
     const entry *e = entry_at(l, edge);
-    return e && e->edge_us == l->world.edge_us[edge] + (uint64_t)(int64_t)late_us &&
-           e->second.bound_us == (uint32_t)bound_us;
+    return e && e->edge_us == l->world.edge_us[edge] + (uint64_t)(int64_t)late_us;
+}
+
+/* and within so much. */
+static bool is_told_as(const life *l, uint32_t edge, int32_t late_us, int32_t bound_us) {
+    return is_told_late(l, edge, late_us) &&
+           entry_at(l, edge)->second.bound_us == (uint32_t)bound_us;
 }
 
 /* ---- the rows */
@@ -1024,6 +1030,104 @@ static bool stuck_high(life *l, const subject *s) {
            s->wait(now_us) == wait_us;
 }
 
+/* ---- what is learned of the counter */
+
+enum { LEARNED_AT = 1001 }; /* the edge at which it is: the first vote came at edge 1 */
+
+/* A device of one line holds over behind an edge. Its counter gains 40.25 us a second. The last element is
+ * taken for 10,000 us, so that each vote is told 1 us early. */
+static void begin_learning(life *l, uint32_t drift_us, uint32_t wander_ppb, uint32_t last,
+                           uint32_t seconds) {
+    begin_alone(l, last + seconds);
+    l->setup.lock_after = 1;
+    l->setup.holdover = 8000;
+    l->world.drift_us = drift_us;
+    l->world.wander_ppb = wander_ppb;
+    for (uint32_t n = 0; n <= last + seconds + 2; n++) set_edge(&l->world, n, 161 * (int64_t)n / 4);
+    darken(l, last, last + seconds, ALL);
+}
+
+/* A darkness, and what is told of it by hand. Votes lie within 450 or 10 us. So by the 1,000 s from edge 1 on
+ * a second is 1,000,040,250 ns long, within 2 * 450 or 2 * 10, and 1,000 by which it wanders, and 1. The
+ * bound grows by that in each second, and by 1,999 once, of which whole microseconds count. */
+static const struct by_pace {
+    int32_t jitter;
+    uint32_t drift_us, holdover;
+    int32_t after_10, at_last;
+} BY_PACES[] = {
+    {449, 100, 4000, 450 + 21, 450 + 7605}, /* 10 and 4,000 times 1,901 */
+    {9, 50, 8000, 10 + 12, 10 + 8169},      /* 10 and 8,000 times 1,021 */
+};
+
+/* The true edges begin 0.5, 0.75, and at last 0 us behind whole microseconds, and 0.25 us behind that of the
+ * last vote: what the device counts is cut by 0.25, 0.5 and 0.75 us. Behind the holdover it counts by
+ * seconds of a million. */
+static bool is_held_by(const life *l, const struct by_pace *by) {
+    uint32_t last = LEARNED_AT + by->holdover;
+    return is_told_as(l, LEARNED_AT, -1, by->jitter + 1) && is_told_late(l, LEARNED_AT + 1, -1) &&
+           is_told_late(l, LEARNED_AT + 2, -1) && is_told_late(l, LEARNED_AT + 3, -2) &&
+           is_told_as(l, LEARNED_AT + 10, -1, by->after_10) &&
+           is_told_as(l, last, -1, by->at_last) && announces(l, last, IRIG_CAUSE_HELD) &&
+           !announces(l, last + 1, IRIG_CAUSE_HELD) && is_told_late(l, last + 1, -1) &&
+           is_told_late(l, last + 2, -1 - 40);
+}
+
+static bool counter_is_learned(life *l, const subject *s) {
+    const struct by_pace *by = &BY_PACES[given];
+    if (jitter != by->jitter) return true;
+    begin_learning(l, by->drift_us, 1000, LEARNED_AT, by->holdover + 5);
+    l->setup.holdover = by->holdover;
+    return goes_right(l, s) && is_held_by(l, by);
+}
+
+/* A second too early, or if a second is known within 49,001 ns and not 49,000, nothing is learned: in 10 s the
+ * counter gains 402 us, and the bound grows by the drift of 50. */
+static bool counter_is_just_learned(life *l, const subject *s) {
+    static const struct {
+        uint32_t wander_ppb, last;
+        int32_t late_us, bound_us;
+    } TRIED[] = {{1000, LEARNED_AT - 1, -1 - 402, 10 + 500},
+                 {48980, LEARNED_AT, -1 - 402, 10 + 500},
+                 {48979, LEARNED_AT, -1, 10 + 491}}; /* 10 times 49,000, and 1,999 */
+    for (size_t i = 0; i < sizeof TRIED / sizeof *TRIED && jitter == 9; i++) {
+        begin_learning(l, 50, TRIED[i].wander_ppb, TRIED[i].last, 15);
+        if (!goes_right(l, s)) return false;
+        if (!is_told_as(l, TRIED[i].last, -1, 10)) return false;
+        if (!is_told_as(l, TRIED[i].last + 10, TRIED[i].late_us, TRIED[i].bound_us)) return false;
+    }
+    return true;
+}
+
+/* The line steps by 3 ms, or its frames are 2 ms too short: seconds are counted by a million. */
+static bool what_is_learned_is_dropped(life *l, const subject *s) {
+    for (uint32_t steps = 0; steps <= 1 && jitter == 9; steps++) {
+        begin_learning(l, 50, 1000, LEARNED_AT + 6, 30);
+        l->judge.is_beyond = true;
+        lie *told = add_lie(l, 0, LEARNED_AT + 2, LEARNED_AT + 6, 0);
+        told->from_us += 33000;
+        told->to_us += 40000;
+        told->aim = SHIFTED;
+        told->shift_us = steps ? 3000 : 0;
+        told->spacing_us = steps ? ELEMENT_US : ELEMENT_US - 20;
+        if (!goes_right(l, s) || l->judge.strays == 0) return false;
+        const entry *last = &l->told[l->tolds - 1];
+        if (last->edge_us - last[-20].edge_us != 20 * (uint64_t)SECOND_US) return false;
+    }
+    return true;
+}
+
+/* No tick comes for 1,500 s in the dark, and then one 20 ms before an edge: by seconds of a million that would
+ * have come. */
+static bool sleep_by_what_is_learned(life *l, const subject *s) {
+    if (jitter != 9) return true;
+    begin_learning(l, 50, 1000, LEARNED_AT, 1510);
+    l->device.sleep_us = l->world.edge_us[LEARNED_AT] + 500000;
+    l->device.wake_us = l->world.edge_us[LEARNED_AT + 1501] - 20000;
+    if (!goes_right(l, s)) return false;
+    const entry *woken = entry_at(l, LEARNED_AT + 1500);
+    return woken && woken->second.missed == 1499 && is_told_late(l, LEARNED_AT + 1500, -1);
+}
+
 /* ---- numbers that something else changes */
 
 /* A device that begins afresh misses the frame in which a bit flipped, and no other. */
@@ -1209,6 +1313,11 @@ static const struct {
     {"halves a turn apart", halves_a_turn_apart, 0, OF_ALL},
     {"stuck high", stuck_high, 0, OF_ALL},
     {"a life by hand", life_by_hand, 0, OF_ALL},
+    {"a counter is learned by lines within 450 us", counter_is_learned, 0, OF_ALL},
+    {"a counter is learned by lines within 10 us", counter_is_learned, 1, OF_ALL},
+    {"a counter is just learned, or not", counter_is_just_learned, 0, OF_ALL},
+    {"what is learned is dropped", what_is_learned_is_dropped, 0, OF_ALL},
+    {"sleep by what is learned", sleep_by_what_is_learned, 0, OF_ANY_TICKS},
     {"a flipped bit", flipped_bit, 0, OF_FLIPS},
 };
 

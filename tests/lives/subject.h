@@ -71,7 +71,16 @@ enum { DIFFERS = 200 }; /* what a subject answers where two have to answer alike
     X(JUDGES_CLOSELY)  /* a line is apart from an edge by what the edge alone may be off, */       \
     X(JUDGES_ALIKE)    /* or by how exact lines are, whatever they say of their clocks, */         \
     X(JUDGES_BY_THE_LAST) /* or differs if its frame is of the edge before, */                     \
-    X(JUDGES_UNKNOWN)  /* or of one that was not told */
+    X(JUDGES_UNKNOWN)  /* or of one that was not told */                                           \
+    X(LEARNS_STEADILY) /* what it learns of its counter leaves out that this wanders, */           \
+    X(LEARNS_BACKWARDS) /* or takes a fast counter for a slow one, */                              \
+    X(LEARNS_SOON)     /* or is learned a second too soon, */                                      \
+    X(LEARNS_LITTLE)   /* or if the drift says almost as much, */                                  \
+    X(LEARNS_ON)       /* or is kept when votes contradict one another, or frames the counter, */  \
+    X(LEARNS_LONG)     /* or when a holdover ends */                                               \
+    X(HOLDS_SHARPLY)   /* a second that is held by it has a bound 1 us less, */                    \
+    X(FORGETS_REST)    /* or its edge is cut to whole microseconds, and counted on from there, */  \
+    X(COUNTS_MILLIONS) /* or it is one of all seconds of a million that were missed */
 
 #define NUMBER_OF(wrong) wrong,
 typedef enum wrong { EACH_WRONG(NUMBER_OF) WRONGS } wrong;

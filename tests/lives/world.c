@@ -70,10 +70,11 @@ frame encode(const content *what, bool is_odd, bool is_subtracted) {
     return f;
 }
 
-/* The rate of the next second. */
+/* The rate of a second behind another one. */
 static int32_t rate_behind(int32_t rate, walk kind, uint32_t n, int32_t most, chance *luck) {
+    int32_t step = 2 + most / 250;
     switch (kind) {
-    case WALK: rate += between(luck, -2, 2); break;
+    case WALK: rate += between(luck, -step, step); break;
     case FAST: rate = most; break;
     case SLOW: rate = -most; break;
     case STEPS: rate = is_once_in(luck, 20) ? between(luck, -most, most) : rate; break;
@@ -83,13 +84,34 @@ static int32_t rate_behind(int32_t rate, walk kind, uint32_t n, int32_t most, ch
     return rate > most ? most : rate < -most ? -most : rate;
 }
 
-void make_edges(world *w, uint64_t start_us, walk kind, chance *luck) {
+/* Seconds of whole microseconds, as far off as they may be. */
+static void make_drifting(world *w, walk kind, chance *luck) {
     int32_t most = (int32_t)w->drift_us, rate = between(luck, -most, most);
-    w->edge_us[0] = start_us;
     for (uint32_t n = 0; n < w->seconds + 2; n++) {
         rate = rate_behind(rate, kind, n, most, luck);
         w->edge_us[n + 1] = w->edge_us[n] + (uint64_t)(SECOND_US + rate);
     }
+}
+
+/* Seconds of an oscillator, in nanoseconds: as far as they wander they lie on both sides of one that is
+ * often as far off as it may be. The counter shows whole microseconds. */
+static void make_wandering(world *w, walk kind, chance *luck) {
+    int32_t drift = 1000 * (int32_t)w->drift_us, half = (int32_t)w->wander_ppb / 2;
+    int32_t most = half < drift ? half : drift, room = drift - most;
+    int32_t way = is_once_in(luck, 2) ? 1 : -1, rate = between(luck, -most, most);
+    int32_t middle = is_once_in(luck, 3) ? between(luck, -room, room) : is_once_in(luck, 2) ? room : -room;
+    uint64_t time_ns = 1000 * w->edge_us[0] + below(luck, 1000);
+    for (uint32_t n = 0; n < w->seconds + 2; n++) {
+        rate = rate_behind(rate, kind, n, most, luck);
+        time_ns += (uint64_t)(1000 * SECOND_US + middle + way * rate);
+        w->edge_us[n + 1] = time_ns / 1000;
+    }
+}
+
+void make_edges(world *w, uint64_t start_us, walk kind, chance *luck) {
+    w->edge_us[0] = start_us;
+    if (w->wander_ppb == 0) make_drifting(w, kind, luck);
+    else make_wandering(w, kind, luck);
     for (int i = 0; i < MOST_LINES; i++)
         memset(w->clock_us[i], 0, (w->seconds + 3) * sizeof *w->clock_us[i]);
 }

@@ -79,7 +79,8 @@ typedef struct world {
         edge_us[MOST_SECONDS + 3]; /* edge n, where T(n) begins, by a counter that does not wrap */
     uint32_t seconds;              /* the edges 0 to `seconds` + 2 are there */
     uint32_t drift_us;
-    uint32_t within_us; /* true pulses rise less than so many us from their time, */
+    uint32_t wander_ppb; /* by so many ns any two seconds differ at most; 0 if by any number */
+    uint32_t within_us;  /* true pulses rise less than so many us from their time, */
     int32_t delay_us[MOST_LINES]; /* and reach the device so much later, on each line */
     /* The seconds of each line's clock begin so many us behind those of UTC. */
     int16_t clock_us[MOST_LINES][MOST_SECONDS + 3];
@@ -147,7 +148,7 @@ content true_content(const world *w, utc at, int32_t zone);
 /* What a device is told of it. */
 static inline irig_wires wires_of(const world *w) {
     irig_wires wires = {.within_us = (uint16_t)w->within_us, .drift_us = (uint16_t)w->drift_us,
-                        .prefers_frames = w->prefers_frames};
+                        .prefers_frames = w->prefers_frames, .wander_ppb = w->wander_ppb};
     for (int i = 0; i < MOST_LINES; i++) wires.delay_us[i] = (int16_t)w->delay_us[i];
     return wires;
 }
