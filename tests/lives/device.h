@@ -50,7 +50,7 @@ typedef struct life {
     device device;
     judge judge;
     uint64_t kinds;           /* what kinds of settings, lines, lies and ticks it has, a bit for each, */
-    uint32_t clocks;          /* and of clocks, by how far off they may be */
+    uint32_t clocks;          /* and of lines and clocks, by how far off they may be */
     bool is_told_aloud;       /* each second is printed */
     uint32_t only_within_us;  /* how exact lines are in each that is planned; 0 any */
     entry told[MOST_ENTRIES]; /* the first of them */
@@ -68,7 +68,7 @@ void play(life *l, const subject *s);
 /* Makes the life of this number; the seed is that of a whole run. */
 void plan(life *l, uint64_t seed, uint64_t number);
 
-enum { KINDS = 64, CLOCKS = 5 };
+enum { KINDS = 64, CLOCKS = 8 };
 
 /* Makes edges, and lines that send nominal frames at their time, of a life that has its settings,
  * first second, leap and length. */

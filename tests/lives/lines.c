@@ -14,18 +14,23 @@ uint32_t width_of(width kind, const frame *symbols, unsigned element, chance *lu
 
 /* ---- true frames */
 
+/* That of its pulses at the end of a frame, but by chance. */
+static int32_t offset_in(const line *l, uint32_t frame) {
+    return l->turns_at > 0 && frame >= l->turns_at ? -l->offset_us : l->offset_us;
+}
+
 static int32_t offset_of(line *l, const sky *s) {
-    int32_t most_us = jitter_us(s->world);
+    int32_t most_us = jitter_us(s->world), offset_us = offset_in(l, l->frame);
     switch (l->spread) {
-    case EQUAL: return l->offset_us;
+    case EQUAL: return offset_us;
     case BY_CHANCE: return between(&l->luck, -most_us, most_us);
-    default: return l->element % 2 ? l->offset_us : -l->offset_us;
+    default: return l->element % 2 ? offset_us : -offset_us;
     }
 }
 
 int32_t last_offset(const line *l, const sky *s, uint32_t frame) {
     int32_t most_us = jitter_us(s->world);
-    if (l->spread != BY_CHANCE) return l->offset_us;
+    if (l->spread != BY_CHANCE) return offset_in(l, frame);
     chance luck = {l->seed + frame};
     return between(&luck, -most_us, most_us);
 }

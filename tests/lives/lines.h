@@ -81,6 +81,7 @@ typedef struct line {
     /* how it sends */
     spread spread;
     int32_t offset_us;
+    uint32_t turns_at; /* from this frame on it is as far off the other way; 0 never */
     width width;
     int32_t zone;
     bool dst;

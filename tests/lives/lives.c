@@ -22,7 +22,7 @@
 #include <stdlib.h>
 #include <string.h>
 
-enum { FAILURES_SAID = 10, ENOUGH_S = 300000, MOST_PLANNED = 1000 };
+enum { FAILURES_SAID = 10, ENOUGH_S = 200000, MOST_PLANNED = 1000, LEARNING_S = 50000 };
 
 static life one;
 static uint64_t *const counts = one.judge.counts;
@@ -49,10 +49,11 @@ static void say_failed(uint64_t number) {
     const life *l = &one;
     printf("failed: --seed %lu --life %lu: %s\n", (unsigned long)options.seed,
            (unsigned long)number, l->judge.text);
-    printf("  %u lines, lock_after %u, holdover %u, within %u us, drift %u us, %u s, ticks %s\n",
+    printf("  %u lines, lock_after %u, holdover %u, within %u us, drift %u us, wander %u ppb, %u s, ",
            l->sky.lines, (unsigned)l->setup.lock_after, (unsigned)l->setup.holdover,
-           (unsigned)l->world.within_us, (unsigned)l->world.drift_us, (unsigned)l->world.seconds,
-           PACES_SAID[l->device.pace]);
+           (unsigned)l->world.within_us, (unsigned)l->world.drift_us, (unsigned)l->world.wander_ppb,
+           (unsigned)l->world.seconds);
+    printf("ticks %s\n", PACES_SAID[l->device.pace]);
 }
 
 /* Whether a life goes as it has to. */
@@ -68,11 +69,14 @@ static void add_life(uint64_t number) {
     if (!is_passed) say_failed(number);
 }
 
-/* Plays lives up to so many seconds in which a line sends. */
+/* Plays lives up to so many seconds in which a line sends. In many some are held by what is learned. */
 static void play_up_to_seconds(void) {
     uint64_t number = options.has_life ? options.life : 0;
     do add_life(number++);
     while (counts[LIT] < options.seconds && failed < FAILURES_SAID && !options.has_life);
+    if (counts[LIT] < LEARNING_S || counts[LEARNED] > 0) return;
+    printf("failed: no second is held by what was learned\n");
+    add(false);
 }
 
 /* All kinds have to be among them. */

@@ -2,7 +2,10 @@
 
 #include <string.h>
 
-enum { TURN_S = 4295 };
+enum { TURN_S = 4295, AGAIN_S = 120 };
+
+/* What a life is long for. */
+typedef enum length { SHORT, LONG, TURN, LEARNING, LENGTHS } length;
 
 /* One of some numbers. */
 #define ONE_OF(luck, ...)                                                                          \
@@ -27,6 +30,7 @@ static void plan_setup(life *l, chance *luck) {
     if (is_once_in(luck, 8)) l->world.within_us = 1 + below(luck, 450);
     if (l->only_within_us > 0) l->world.within_us = l->only_within_us;
     l->world.drift_us = (uint32_t)ONE_OF(luck, 0, 1, 10, 100, 100);
+    l->world.wander_ppb = 0;
     uint32_t most = l->world.drift_us ? 490000 / l->world.drift_us - 2 : 1000000;
     uint32_t holdover = (uint32_t)ONE_OF(luck, 0, 1, 5, 20, 60, 300, 1000000);
     if (holdover == 1000000) holdover = most;
@@ -44,6 +48,22 @@ static void plan_setup(life *l, chance *luck) {
     l->world.poor_from = l->setup.poor_from > 0 ? l->setup.poor_from : 7;
     l->world.is_odd = l->setup.parity == IRIG_PARITY_ODD;
     l->world.is_subtracted = l->setup.sense == IRIG_SENSE_SUBTRACT;
+}
+
+/* Often so little that seconds are learned well, or just so much that nothing is learned. */
+static void plan_wander(world *w, chance *luck) {
+    int32_t most = 1000 * ((int32_t)w->drift_us - 1) - between(luck, 0, 2 * (int32_t)w->within_us);
+    int32_t wander = ONE_OF(luck, 1, 2, 10, 100, 1000, 1000, 5000, 20000, most);
+    if (wander > most) wander = is_once_in(luck, 4) ? 100000 : most / 2;
+    w->wander_ppb = wander > 0 ? (uint32_t)wander : 1;
+}
+
+/* A counter of which there is something to learn. */
+static void plan_counter(life *l, chance *luck) {
+    l->world.drift_us = (uint32_t)ONE_OF(luck, 100, 100, 50, 10, 3);
+    uint32_t most = 490000 / l->world.drift_us - 2;
+    if (l->setup.holdover > most) l->setup.holdover = most;
+    plan_wander(&l->world, luck);
 }
 
 /* Half of the lives have no delays, else each line may be as late or as early as may be. */
@@ -245,7 +265,7 @@ static void plan_lies(life *l, uint32_t from, chance *luck) {
 
 /* ---- a device */
 
-static void plan_device(life *l, chance *luck, bool is_long) {
+static void plan_device(life *l, chance *luck, bool is_long, bool is_learning) {
     device *d = &l->device;
     memset(d, 0, sizeof *d);
     d->luck.state = draw(luck);
@@ -258,6 +278,9 @@ static void plan_device(life *l, chance *luck, bool is_long) {
     d->late_us = (uint32_t)ONE_OF(luck, 0, 100, 5000, 90000);
     d->gap_one_in = (uint32_t)ONE_OF(luck, 5, 20, 60);
     d->restart_one_in = (uint32_t)ONE_OF(luck, 0, 0, 0, 0, 0, 0, 30, 300);
+    if (!is_learning) return;
+    d->gap_one_in = 500;
+    d->restart_one_in = is_once_in(luck, 8) ? 5000 : 0;
 }
 
 /* ---- lives */
@@ -274,6 +297,33 @@ static void plan_long(life *l, chance *luck) {
     uint32_t back = l->world.seconds - 40;
     l->sky.dark[l->sky.darks++] = (dark){8 + below(luck, 10), back, 31};
     plan_lies(l, back - 10, luck);
+}
+
+/* Lines whose clocks are right, and that are all as far off as they may be to one side: all votes are as far
+ * off as their bound. */
+static void plan_alike(sky *s, world *w, chance *luck) {
+    int32_t late_us = is_once_in(luck, 2) ? jitter_us(w) : -jitter_us(w);
+    for (uint8_t i = 0; i < s->lines; i++) {
+        line *l = &s->line[i];
+        l->spread = EQUAL;
+        l->offset_us = late_us;
+        l->quality = 0;
+        l->says_any = l->walks = false;
+        make_clock(w, i, 0, false, luck);
+    }
+}
+
+/* For long enough the device learns. All is dark then for about as long as the holdover, and soon behind
+ * that again. Lines may be as far off to one side when it begins to learn as to the other when it ends. */
+static void plan_learning(life *l, chance *luck) {
+    uint32_t from = l->world.parts_at, back = l->world.seconds - AGAIN_S;
+    uint32_t again = back + 10 + below(luck, AGAIN_S / 2);
+    uint32_t turns_at = is_once_in(luck, 2) ? from - below(luck, from / 2) : 0;
+    if (is_once_in(luck, 2)) plan_alike(&l->sky, &l->world, luck);
+    for (int i = 0; i < l->sky.lines; i++) l->sky.line[i].turns_at = turns_at;
+    l->sky.dark[l->sky.darks++] = (dark){from, back, 31};
+    l->sky.dark[l->sky.darks++] = (dark){again, again + below(luck, AGAIN_S), 31};
+    plan_lies(l, is_once_in(luck, 2) ? 0 : from - 20, luck);
 }
 
 /* A frame is heard of too few lines, and all are dark. A turn of the counter later a liar sends it
@@ -304,7 +354,7 @@ static void plan_turn(life *l, chance *luck) {
 
 /* How long all is dark in a long life: most of the longest holdover by this oscillator, or more. */
 static uint32_t plan_dark_time(life *l, chance *luck) {
-    uint32_t drift = l->world.drift_us, most = is_once_in(luck, 20) ? MOST_SECONDS - 100 : 6000;
+    uint32_t drift = l->world.drift_us, most = is_once_in(luck, 20) ? MOST_SECONDS - 3000 : 6000;
     if (drift > 0 && !is_once_in(luck, 4)) l->setup.holdover = 490000 / drift - 2;
     uint32_t holdover = l->setup.holdover < 20 ? 20 : l->setup.holdover;
     uint32_t time = is_once_in(luck, 3) ? below(luck, holdover + holdover / 3)
@@ -312,10 +362,15 @@ static uint32_t plan_dark_time(life *l, chance *luck) {
     return time < most ? time : below(luck, most);
 }
 
-static uint32_t plan_length(life *l, chance *luck, bool is_turn, bool is_long) {
-    if (is_turn) return TURN_S + 60;
-    if (is_long) return 70 + plan_dark_time(l, luck);
-    return 15 + of_any_size(luck, is_once_in(luck, 300) ? 3000 : 200);
+static uint32_t plan_length(life *l, chance *luck, length kind) {
+    switch (kind) {
+    case TURN: return TURN_S + 60;
+    case LONG: return 70 + plan_dark_time(l, luck);
+    case LEARNING:
+        l->world.parts_at = 1000 + of_any_size(luck, 1100);
+        return l->world.parts_at + plan_dark_time(l, luck) + AGAIN_S;
+    default: return 15 + of_any_size(luck, is_once_in(luck, 300) ? 3000 : 200);
+    }
 }
 
 /* ---- what kinds of things a life has */
@@ -339,7 +394,7 @@ static uint64_t kinds_of_lie(const lie *told, uint32_t before) {
            bit_of(told->harm, 6, &before);
 }
 
-static uint64_t kinds_of(const life *l, walk kind_of_walk, uint32_t length) {
+static uint64_t kinds_of(const life *l, walk kind_of_walk, length kind) {
     const irig_setup *setup = &l->setup;
     const world *w = &l->world;
     uint32_t before = 0;
@@ -348,8 +403,7 @@ static uint64_t kinds_of(const life *l, walk kind_of_walk, uint32_t length) {
                      bit_of(l->table.until > 0 ? 1 + (l->table.len > 0) : 0, 3, &before) |
                      bit_of((uint32_t)(w->leap + 1), 3, &before) |
                      bit_of(w->first.day == LAST_DAY, 2, &before) |
-                     bit_of(w->within_us == 450 ? 0 : w->within_us > 1 ? 1 : 2, 3, &before) |
-                     bit_of(kind_of_walk, WALKS, &before) | bit_of(length, 3, &before) |
+                     bit_of(kind_of_walk, WALKS, &before) | bit_of(kind, LENGTHS, &before) |
                      bit_of(l->device.pace, PACES, &before) |
                      bit_of(l->device.restart_one_in > 0, 2, &before);
     for (int i = 0; i < l->sky.lines; i++) kinds |= kinds_of_line(&l->sky.line[i], before);
@@ -358,10 +412,11 @@ static uint64_t kinds_of(const life *l, walk kind_of_walk, uint32_t length) {
 }
 
 static uint32_t clocks_of(const life *l) {
-    uint32_t clocks = 0;
+    uint32_t within_us = l->world.within_us;
+    uint32_t clocks = UINT32_C(1) << (within_us == 450 ? 0 : within_us > 1 ? 1 : 2);
     for (int i = 0; i < l->sky.lines; i++) {
         uint32_t quality = l->sky.line[i].quality;
-        clocks |= UINT32_C(1) << (quality > 4 ? quality - 3 : quality > 0);
+        clocks |= UINT32_C(8) << (quality > 4 ? quality - 3 : quality > 0);
     }
     return clocks;
 }
@@ -369,26 +424,35 @@ static uint32_t clocks_of(const life *l) {
 void plan(life *l, uint64_t seed, uint64_t number) {
     chance luck = {seed * UINT64_C(0x2545f4914f6cdd1d) + number};
     draw(&luck);
-    uint32_t kind = below(&luck, 40);
+    uint32_t one = below(&luck, 40);
+    length kind = one == 0 ? TURN : one < 6 ? LONG : one == 6 ? LEARNING : SHORT;
     plan_setup(l, &luck);
     plan_delays(&l->world, &luck);
-    bool is_turn = kind == 0 && l->sky.lines > 1, is_long = kind >= 1 && kind < 6;
-    l->world.seconds = plan_length(l, &luck, is_turn, is_long);
+    if (kind == TURN && l->sky.lines == 1) kind = SHORT;
+    if (kind == LEARNING) plan_counter(l, &luck);
+    else if (number % 8 == 7) plan_wander(&l->world, &luck);
+    l->world.seconds = plan_length(l, &luck, kind);
+    if (kind != LEARNING) l->world.parts_at = l->world.seconds / 2;
     plan_time(l, &luck);
     plan_table(l, &luck);
-    walk kind_of_walk = (walk)(is_long ? ONE_OF(&luck, FAST, SLOW, FAST, SLOW, WALK, STEPS)
-                                       : (int32_t)below(&luck, WALKS));
+    walk kind_of_walk = (walk)(kind == LONG       ? ONE_OF(&luck, FAST, SLOW, FAST, SLOW, WALK, STEPS)
+                               : kind == LEARNING ? ONE_OF(&luck, PARTING, PARTING, RAMP, WALK, STEPS,
+                                                           ALTERNATING, FAST, TURNING)
+                                                  : (int32_t)below(&luck, WALKS));
     begin_lines(l, plan_start(l, &luck), kind_of_walk, &luck);
     int32_t zone = between(&luck, -31, 31);
     for (unsigned i = 0; i < l->sky.lines; i++) {
         plan_clock(&l->sky.line[i], &l->world, i, &luck);
         plan_line(&l->sky.line[i], &l->world, zone, &luck);
     }
-    if (is_turn) plan_turn(l, &luck);
-    else if (is_long) plan_long(l, &luck);
-    else plan_short(l, &luck);
+    switch (kind) {
+    case TURN: plan_turn(l, &luck); break;
+    case LONG: plan_long(l, &luck); break;
+    case LEARNING: plan_learning(l, &luck); break;
+    default: plan_short(l, &luck);
+    }
     for (uint8_t i = 0; i < l->sky.lines; i++) begin_line(&l->sky.line[i], &l->sky, i, draw(&luck));
-    plan_device(l, &luck, is_turn || is_long);
-    l->kinds = kinds_of(l, kind_of_walk, is_turn ? 2 : is_long);
+    plan_device(l, &luck, kind != SHORT, kind == LEARNING);
+    l->kinds = kinds_of(l, kind_of_walk, kind);
     l->clocks = clocks_of(l);
 }

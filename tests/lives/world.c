@@ -71,7 +71,8 @@ frame encode(const content *what, bool is_odd, bool is_subtracted) {
 }
 
 /* The rate of a second behind another one. */
-static int32_t rate_behind(int32_t rate, walk kind, uint32_t n, int32_t most, chance *luck) {
+static int32_t rate_behind(const world *w, int32_t rate, walk kind, uint32_t n, int32_t most,
+                           chance *luck) {
     int32_t step = 2 + most / 250;
     switch (kind) {
     case WALK: rate += between(luck, -step, step); break;
@@ -79,6 +80,8 @@ static int32_t rate_behind(int32_t rate, walk kind, uint32_t n, int32_t most, ch
     case SLOW: rate = -most; break;
     case STEPS: rate = is_once_in(luck, 20) ? between(luck, -most, most) : rate; break;
     case ALTERNATING: rate = n % 2 ? most : -most; break;
+    case PARTING: rate = n < w->parts_at ? most : -most; break;
+    case RAMP: rate = most - (int32_t)(2 * (int64_t)most * n / (w->seconds + 1)); break;
     default: rate = (int32_t)(n / 50 % 4 % 3) == 0 ? most : -most; break;
     }
     return rate > most ? most : rate < -most ? -most : rate;
@@ -88,7 +91,7 @@ static int32_t rate_behind(int32_t rate, walk kind, uint32_t n, int32_t most, ch
 static void make_drifting(world *w, walk kind, chance *luck) {
     int32_t most = (int32_t)w->drift_us, rate = between(luck, -most, most);
     for (uint32_t n = 0; n < w->seconds + 2; n++) {
-        rate = rate_behind(rate, kind, n, most, luck);
+        rate = rate_behind(w, rate, kind, n, most, luck);
         w->edge_us[n + 1] = w->edge_us[n] + (uint64_t)(SECOND_US + rate);
     }
 }
@@ -102,7 +105,7 @@ static void make_wandering(world *w, walk kind, chance *luck) {
     int32_t middle = is_once_in(luck, 3) ? between(luck, -room, room) : is_once_in(luck, 2) ? room : -room;
     uint64_t time_ns = 1000 * w->edge_us[0] + below(luck, 1000);
     for (uint32_t n = 0; n < w->seconds + 2; n++) {
-        rate = rate_behind(rate, kind, n, most, luck);
+        rate = rate_behind(w, rate, kind, n, most, luck);
         time_ns += (uint64_t)(1000 * SECOND_US + middle + way * rate);
         w->edge_us[n + 1] = time_ns / 1000;
     }

@@ -71,8 +71,9 @@ static inline bool is_once_in(chance *luck, uint32_t times) { return below(luck,
 
 /* ---- a world */
 
-/* How far the device's counter goes in a second of the world, beside 1,000,000. */
-typedef enum walk { WALK, FAST, SLOW, STEPS, ALTERNATING, TURNING, WALKS } walk;
+/* How far the device's counter goes in a second of the world, beside 1,000,000. The last two are at one
+ * end up to an edge and at the other end from there on, or come there little by little. */
+typedef enum walk { WALK, FAST, SLOW, STEPS, ALTERNATING, TURNING, PARTING, RAMP, WALKS } walk;
 
 typedef struct world {
     uint64_t
@@ -80,6 +81,7 @@ typedef struct world {
     uint32_t seconds;              /* the edges 0 to `seconds` + 2 are there */
     uint32_t drift_us;
     uint32_t wander_ppb; /* by so many ns any two seconds differ at most; 0 if by any number */
+    uint32_t parts_at;   /* the edge of PARTING */
     uint32_t within_us;  /* true pulses rise less than so many us from their time, */
     int32_t delay_us[MOST_LINES]; /* and reach the device so much later, on each line */
     /* The seconds of each line's clock begin so many us behind those of UTC. */
