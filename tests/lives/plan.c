@@ -215,6 +215,14 @@ static lie plan_lie(chance *luck, const sky *s) {
     return told;
 }
 
+/* How much earlier than it rises a pulse may reach the device. */
+static uint32_t early_us(const world *w) {
+    int32_t least_us = 0;
+    for (int i = 0; i < MOST_LINES; i++)
+        if (w->delay_us[i] < least_us) least_us = w->delay_us[i];
+    return (uint32_t)-least_us;
+}
+
 /* Lies of one line at a time, handed from line to line of some; or those of another, by a line that
  * colludes with it. */
 static void plan_liar(life *l, const uint8_t *lines, uint32_t count, uint32_t from, chance *luck) {
@@ -230,7 +238,8 @@ static void plan_liar(life *l, const uint8_t *lines, uint32_t count, uint32_t fr
         told.to_us =
             time_us + 100000 * (uint64_t)of_any_size(luck, 10 * most) + below(luck, 100000);
         s->lie[s->lies++] = told;
-        time_us = told.to_us + HANDED_ON_US + (is_patient ? below(luck, 20000000) : below(luck, 2));
+        time_us = told.to_us + HANDED_ON_US + early_us(&l->world) +
+                  (is_patient ? below(luck, 20000000) : below(luck, 2));
     }
 }
 
