@@ -241,18 +241,36 @@ static void count_on(anchor *a, uint32_t seconds) {
     if (a->seconds > 2 * LEARN_S) a->is_there = false;
 }
 
-/* What is known of the edge by all votes, so many seconds later, if the own edge goes on by as many
- * and so much more. */
-static void carry(uint32_t seconds, int32_t more_us) {
+/* What is known of the edge by all votes, so many seconds later, if the true one goes on by so much more than
+ * the own one, at least and at most. */
+static void carry_between(uint32_t seconds, int32_t least_us, int32_t most_us) {
     if (!k.is_known) return;
-    int32_t drift_us = is(KNOWS_STEADILY) ? 0 : (int32_t)(seconds * k.wires.drift_us);
-    k.least_us -= drift_us + more_us;
-    k.most_us += drift_us - more_us;
+    k.least_us += least_us;
+    k.most_us += most_us;
     count_on(&k.old, seconds);
     count_on(&k.young, seconds);
     if (k.most_us - k.least_us <= LONGEST_US) return;
     k.is_known = false;
     drop_anchors();
+}
+
+/* The same by the drift, if the own edge goes on by seconds of a million and so much more. */
+static void carry(uint32_t seconds, int32_t more_us) {
+    int32_t drift_us = is(KNOWS_STEADILY) ? 0 : (int32_t)(seconds * k.wires.drift_us);
+    carry_between(seconds, -drift_us - more_us, drift_us - more_us);
+}
+
+/* To a vote one second later by what is learned, if anything is. */
+static void carry_to_vote(uint32_t seconds, int32_t more_us) {
+    const learned *by = &k.learned;
+    if (seconds != 1 || by->second_ns == 0 || is(WALKS_UNSEEN)) {
+        carry(seconds, more_us);
+        return;
+    }
+    int32_t shortest_us = (int32_t)((by->second_ns - by->within_ns) / 1000);
+    int32_t longest_us = (int32_t)((by->second_ns + by->within_ns + 999) / 1000);
+    int32_t own_us = (int32_t)SECOND_US + more_us;
+    carry_between(seconds, shortest_us - own_us, longest_us - own_us);
 }
 
 static void doubt(void) {
@@ -418,7 +436,7 @@ static void tell_by_lines(irig_second *s, uint32_t now_us, const agreed_edge *by
     uint32_t half_us = is(ROUNDS_LOW) ? 400000 : 500000;
     uint32_t count = k.has_edge ? (to_us + half_us - k.edge_us) / SECOND_US : 1;
     uint32_t edge_us = is(CALL_IS_EDGE) ? now_us : end_us;
-    carry(count, (int32_t)(edge_us - k.edge_us - count * SECOND_US));
+    carry_to_vote(count, (int32_t)(edge_us - k.edge_us - count * SECOND_US));
     know_vote(count, edge_us);
     if (count == 0 && is(MOVES_NEVER)) count = 1;
     if (count == 0) {

@@ -1116,6 +1116,20 @@ static bool what_is_learned_is_dropped(life *l, const subject *s) {
     return true;
 }
 
+/* The counter gains 5 us a second more. By what was learned a second is 1,000,042 us long at most, so that the
+ * last edges that may be true lie 303 us behind 7 of a million, and the first ones of the seventh vote 306. By
+ * the drift nothing is against it. */
+static bool slow_walk_is_seen(life *l, const subject *s) {
+    if (jitter != 9) return true;
+    begin_learning(l, 50, 1000, LEARNED_AT + 20, 15);
+    l->judge.is_beyond = true;
+    for (uint32_t n = LEARNED_AT + 1; n <= l->world.seconds + 2; n++)
+        l->world.edge_us[n] += 5 * (n - LEARNED_AT);
+    if (!goes_right(l, s) || l->judge.strays != 1) return false;
+    const entry *before = entry_at(l, LEARNED_AT + 6), *seen = entry_at(l, LEARNED_AT + 7);
+    return before && before->second.strays == 0 && seen && seen->second.strays == 1;
+}
+
 /* No tick comes for 1,500 s in the dark, and then one 20 ms before an edge: by seconds of a million that would
  * have come. */
 static bool sleep_by_what_is_learned(life *l, const subject *s) {
@@ -1317,6 +1331,7 @@ static const struct {
     {"a counter is learned by lines within 10 us", counter_is_learned, 1, OF_ALL},
     {"a counter is just learned, or not", counter_is_just_learned, 0, OF_ALL},
     {"what is learned is dropped", what_is_learned_is_dropped, 0, OF_ALL},
+    {"a slow walk is seen", slow_walk_is_seen, 0, OF_ALL},
     {"sleep by what is learned", sleep_by_what_is_learned, 0, OF_ANY_TICKS},
     {"a flipped bit", flipped_bit, 0, OF_FLIPS},
 };

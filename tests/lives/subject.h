@@ -80,7 +80,8 @@ enum { DIFFERS = 200 }; /* what a subject answers where two have to answer alike
     X(LEARNS_LONG)     /* or when a holdover ends */                                               \
     X(HOLDS_SHARPLY)   /* a second that is held by it has a bound 1 us less, */                    \
     X(FORGETS_REST)    /* or its edge is cut to whole microseconds, and counted on from there, */  \
-    X(COUNTS_MILLIONS) /* or it is one of all seconds of a million that were missed */
+    X(COUNTS_MILLIONS) /* or it is one of all seconds of a million that were missed, */           \
+    X(WALKS_UNSEEN)    /* or a vote is compared with the one before by the drift */
 
 #define NUMBER_OF(wrong) wrong,
 typedef enum wrong { EACH_WRONG(NUMBER_OF) WRONGS } wrong;
