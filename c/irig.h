@@ -342,9 +342,10 @@ typedef struct irig_wires {
     uint8_t prefers_frames; /* 0: where the lines and the table lead to different seconds at a
                              * month's end, none is announced (IRIG_CAUSE_LEAP_GUARD). Any other:
                              * what the lines say is followed */
-    uint32_t wander_ppb; /* 0 to 100,000: how many ns the length of one second by the counter may
-                          * differ from that of any other one that lies no more than the holdover
-                          * and 4,000 s from it (docs/COUNTER.md). By 0 nothing is learned of it */
+    uint32_t wander_ppb; /* 0 to 100,000: how many ns the length of one second by the oscillator,
+                          * before the counter cuts it to microseconds, may differ from that of any
+                          * other one that lies no more than the holdover and 4,000 s from it
+                          * (docs/COUNTER.md). By 0 nothing is learned of the counter */
 } irig_wires;
 IRIG_ASSERT((sizeof(irig_wires) == 20u) && (offsetof(irig_wires, drift_us) == 2u) &&
             (offsetof(irig_wires, delay_us) == 4u) &&
@@ -756,10 +757,10 @@ uint8_t irig_timekeeper_hear(irig_timekeeper *timekeeper, uint8_t line, uint32_t
  * In a timekeeper that irig_timekeeper_init made, a second with the cause IRIG_CAUSE_HELD is true
  * too, if at each tick since then, or since the last irig_timekeeper_restart, no two of three lines
  * (three of five; not the one line) were untrue in the last 1.2 s, the counter is as steady as
- * `drift_us` says, calls were in order, and the table is right, which it need not be at a
- * `holdover` of up to 57. Its `bound_us` is that of the last vote, and `drift_us` more for each of
- * `lock_count` seconds, or less as the counter was learned, if its rate changes by no more than
- * `wander_ppb` says. Its true edge lies no further than that from `edge_us`. On these conditions
+ * `drift_us` says and, if that is above 0, `wander_ppb`, calls were in order, and the table is
+ * right, which it need not be at a `holdover` of up to 57. Its `bound_us` is that of the last vote,
+ * and `drift_us` more for each of `lock_count` seconds, or less once the counter is learned. Its
+ * true edge lies no further than that from `edge_us`. On these conditions
  * each second that is announced is later than the one before, and no cause is IRIG_CAUSE_JUMP.
  *
  * If lines were untrue before, and `wander_ppb` is 0, all this holds again once a tick has told a second with
@@ -783,8 +784,8 @@ uint8_t irig_timekeeper_hear(irig_timekeeper *timekeeper, uint8_t line, uint32_t
  * apart by more than what was learned of the counter allows. A step of whole
  * seconds is none. Frames whose first and last pulses are not 990 ms apart may count, too
  * (docs/EXACTNESS.md has the rule). As long as at each tick no two of three lines (three of five;
- * not the one line) were untrue in the last 1.2 s, the counter is as steady as `drift_us` says, and
- * calls were in order, `strays` stays 0. If it rises, look at the device: its lines, their delays,
+ * not the one line) were untrue in the last 1.2 s, the counter is as steady as `drift_us` says and,
+ * if that is above 0, `wander_ppb`, and calls were in order, `strays` stays 0. If it rises, look at the device: its lines, their delays,
  * or the drift of its counter are not what it was told. Seconds with a vote are announced as
  * before. Seconds without one are not, since nobody knows how far off they are, until as many
  * seconds were voted without another stray as `holdover` says, 1,000 at most and one at least.
@@ -828,8 +829,8 @@ uint32_t irig_timekeeper_stamp(const irig_timekeeper *timekeeper, uint32_t time_
 /* Says how long seconds are by the device's own counter: IRIG_DONE, or IRIG_FAULT_VALUE if nothing
  * is measured, or where a tick would be refused. Nothing is measured as long as no second was
  * counted after the first vote, or after one that strayed (`strays`), nor if votes lie too far back
- * (docs/COUNTER.md). As long as all lines but f are true and the counter drifts no more than
- * `drift_us`, the mean of the last `seconds` lies between the least and the most. These differ by
+ * (docs/COUNTER.md). As long as all lines but f are true, the counter drifts no more than `drift_us`
+ * and, if that is above 0, wanders no more than `wander_ppb`, the mean of the last `seconds` lies between the least and the most. These differ by
  * at most 2 ns and the lengths of two intervals in which votes left a true edge, divided by the
  * seconds. */
 uint32_t irig_timekeeper_rate(const irig_timekeeper *timekeeper, irig_rate *rate);

@@ -33,13 +33,13 @@ from .readers import Faulty, Poor, Reader, Report, Silence, Told, Zone, read
 from .scenes import run
 from .seconds import Claim, Leap, Second
 from .stretches import Stretch
-from .timekeepers import Beat, Line, Rate, Stamp, Timekeeper, quality_of
+from .timekeepers import Beat, Line, Pace, Rate, Stamp, Timekeeper, quality_of
 
 __version__ = "2.0.0"
 
 __all__ = [
     "Announced", "Beat", "Claim", "Coded", "Control", "Entry", "Fault", "Faulty", "Leap", "Line", "Log",
-    "Poor", "PortWord", "Ports", "PremiseBroken", "PremisesKept", "Rate", "Reader", "Refused", "Report",
+    "Pace", "Poor", "PortWord", "Ports", "PremiseBroken", "PremisesKept", "Rate", "Reader", "Refused", "Report",
     "Second", "Silence", "Silent", "Stamp", "Stretch", "Sync", "TableBroken", "Timekeeper",
     "Told", "Verdict", "Zone", "claim", "classify", "coded", "decode", "encode", "frame",
     "has_parity", "logs", "quality_of", "read", "read_log", "run", "scenarios", "symbols",

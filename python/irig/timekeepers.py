@@ -80,6 +80,18 @@ class Rate:
 
 
 @dataclass(frozen=True)
+class Pace:
+    """How long the next seconds are by the timekeeper's counter, as votes have taught it.
+
+    second_ns: in nanoseconds of the counter, 999,900,000 to 1,000,100,000
+    within_ns: how much shorter or longer each one may be
+    """
+
+    second_ns: int
+    within_ns: int
+
+
+@dataclass(frozen=True)
 class Stamp:
     """The time of an event.
 
@@ -132,11 +144,11 @@ class Timekeeper(Ruled):
     Whatever came before, a second that it announces with the cause "voted" is the true one, and its
     true edge lies at most `bound_us` from `edge_us`, if no two of its three lines (three of five;
     not the one) were untrue in the last 1.2 s. One with the cause "held" is true if that was so at
-    each tick, the counter is as steady as `drift_us` says, and the leap table is right or `holdover`
-    at most 57. By clocks that say time quality 0 the `bound_us` of a vote is `within_us` if all lines
+    each tick, the counter is as steady as `drift_us` and, if that is above 0, `wander_ppb` say, and the
+    leap table is right or `holdover` at most 57. By clocks that say time quality 0 the `bound_us` of a vote is `within_us` if all lines
     claim the second, or enough of them end together, and less than twice that else: by 450 it is 450
     to 899 us, by 10 it is 10 to 19; 1 less if `drift_us` is 0. For each second since the last vote it
-    is `drift_us` more.
+    is `drift_us` more, or less once its counter is learned.
 
     A frame may end further off by what its clock says of itself: 1 us by quality 1 to 4, 10 by 5, 100
     by 6 and 1,000 by 7. That is in the bound. If all clocks say 5, a vote's bound is 20 to 39 us by a
@@ -146,7 +158,7 @@ class Timekeeper(Ruled):
     Votes contradict one another if they differ from whole seconds by more than the sum of their
     bounds and the drift of the seconds between. `strays` counts those that contradict the ones before
     them, and stays 0 if at each tick no two of its three lines were untrue and the counter is as
-    steady as `drift_us` says. A device whose `strays` rise should be looked at: its lines, their
+    steady as `drift_us` and, if that is above 0, `wander_ppb` say. A device whose `strays` rise should be looked at: its lines, their
     delays, or its counter are not what it was told. Then no second is announced without a vote, until
     as many were voted as `holdover` says, 1,000 at most.
 
@@ -155,9 +167,10 @@ class Timekeeper(Ruled):
         2 * (within_us - 1) for a vote, or further apart by what their clocks say of themselves
     drift_us: the most by which its counter is wrong, in microseconds a second, 0 to 100; then
         (holdover + 2) * drift_us may be 490,000 at most
-    wander_ppb: how many nanoseconds the length of one second by its counter may differ from that of any
-        other one that lies no more than the holdover and 4,000 seconds from it, 0 to 100,000. By 0 it
-        learns nothing of its counter, and holds over by drift_us alone
+    wander_ppb: how many nanoseconds the length of one second by its oscillator, before the counter cuts
+        it to microseconds, may differ from that of any other one that lies no more than the holdover
+        and 4,000 seconds from it, 0 to 100,000 (docs/COUNTER.md). By 0 it learns nothing of its
+        counter, and holds over by drift_us alone
     delay_us: how many microseconds later than at its clock each line's pulses rise here, -4,000 to
         4,000, below 0 if it is early: this is taken off
     prefers_frames: whether it follows the frames where they contradict its leap table on a leap second.
@@ -260,6 +273,13 @@ class Timekeeper(Ruled):
             self._refuse(c.Timekeeper.from_buffer_copy(self._held))
             return None
         return Rate(held.seconds, held.least_ns, held.most_ns)
+
+    def pace(self) -> Optional[Pace]:
+        """What it has learned of its counter, by which it holds over. None if it goes by `drift_us`
+        alone. What a tick would refuse is refused."""
+        self._refuse(c.Timekeeper.from_buffer_copy(self._held))
+        held = self._held.pace
+        return Pace(held.second_ns, held.within_ns) if held.second_ns else None
 
     def restart(self) -> None:
         """Forgets all that was heard and counted. A timekeeper that a tick refuses stays so."""

@@ -6,6 +6,7 @@ from datetime import datetime, timedelta, timezone
 
 import irig
 from irig import Claim, Coded, Control, Leap, Second, _library
+from irig.seconds import day_number
 
 LEAP = Second(6209, 86400)  # 2016-12-31 is day 6209
 MARKS = ("unspoken", "no-leap", "insert", "delete")
@@ -60,6 +61,10 @@ class Seconds(unittest.TestCase):
             self.assertEqual(Second.of_datetime(inside, floor=True), Second(6209, 86399))
         self.assertTrue(LEAP.is_leap)
         self.assertRaisesRegex(irig.Fault, "no second 60", LEAP.to_datetime)
+
+    def test_days(self) -> None:
+        self.assertEqual([day_number(day) for day in ("2000-01-01", "2000-01-02", "2099-12-31")], [0, 1, 36_524])
+        self.assertRaisesRegex(irig.Fault, "1999-12-31 is a day before 2000-01-01", day_number, "1999-12-31")
 
     def test_order(self) -> None:
         self.assertLess(Second(6209, 86399), LEAP)

@@ -290,8 +290,9 @@ class Ticks(unittest.TestCase):
 
     def test_a_counter_is_learned(self) -> None:
         """The counter is 37 us a second fast, and one second of ten is voted. Nine seconds behind a vote that
-        is good to 20 us, a drift of 50 us a second leaves 470 us. A mean that is known to 1,040 ns leaves
-        30."""
+        is good to 20 us, a drift of 50 us a second leaves 470 us. What is learned leaves 30: 1,200 s are
+        known to 40 us, so that their mean lies within 17 ns of the middle, and each second within 1,000 and
+        1 ns of that."""
         for wander_ppb, most_us in ((0, 470), (1_000, 30)):
             keeper, second = Timekeeper(1, 100, drift_us=50, within_us=10, wander_ppb=wander_ppb), Second.read("2017-01-01T00:00:00Z")
             bounds = []
@@ -306,7 +307,9 @@ class Ticks(unittest.TestCase):
                 self.assertEqual(beat.report.second, second)
                 self.assertLessEqual(abs(beat.edge_us - begin_us - 1_000_037), beat.bound_us)
                 bounds.append(beat.bound_us)
+                self.assertTrue(number > 999 or keeper.pace() is None)
             with self.subTest(wander_ppb=wander_ppb):
+                self.assertEqual(keeper.pace(), irig.Pace(1_000_037_000, 1_018) if wander_ppb else None)
                 self.assertGreater(max(bounds[:1_000]), 450)
                 self.assertTrue(most_us - 20 <= max(bounds[1_001:]) <= most_us, max(bounds[1_001:]))
 
