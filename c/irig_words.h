@@ -49,7 +49,7 @@ static const words faults[] = {
     {"TableTwice", "a day is listed twice in a table"},
     {"Drift",
      "a holdover longer than a timekeeper's counter can count: (holdover + 2) * drift_us is "
-     "above 490,000"},
+     "above 490,000, and wander_ppb is 0"},
     {"Early", "a second before the first day that the reader takes, not_before"},
 };
 static const words locks[] = {

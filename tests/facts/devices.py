@@ -388,10 +388,11 @@ def random_pace(random: Random) -> tuple[int, int, int]:
     return second, random.choice((2, 999, 1_000, random.randrange(99_000))), random.choice((0, 999, random.randrange(1_000)))
 
 
-@question("model", "irig_lines.edge_on irig_lines.pace_on irig_lines.grown_us irig_lines.edges_own")
+@question("model", "irig_lines.edge_on irig_lines.pace_on irig_lines.grown_us irig_lines.is_spent irig_lines.edges_own")
 def paced_edges(random: Random) -> Iterator[Fact]:
     """By docs/COUNTER.md: where an edge is some seconds later, to the nanosecond, and its microsecond; how much further
-    off it may lie; and how many edges are counted alone, each 6 ms behind its place from the first one's on."""
+    off it may lie, and whether so many more seconds could make it 490 ms; and how many edges are counted alone, each
+    6 ms behind its place from the first one's on."""
     for _ in range(60):
         held, edge = random_pace(random), random.choice((0, WRAP - 1, random.randrange(WRAP)))
         seconds, drift = random.choice((0, 1, 2, 1_000, random.randrange(5_000))), random.choice((0, 1, 100))
@@ -402,6 +403,12 @@ def paced_edges(random: Random) -> Iterator[Fact]:
         yield equal(f"edge_on {antt(pace(held))} {edge} {seconds}", floor(at) % WRAP)
         yield equal(f"pace_on true {seconds} {antt(pace(held))}", pace(behind))
         yield equal(f"grown_us {drift} {antt(pace(held))} {seconds}", grown)
+        more, age = random.choice((1, 2, 1_000)), random.choice((seconds, random.randrange(400_000)))
+        aged = min(age * drift, 1 + ceil(Fraction(age * within, 1_000)))
+        yield equal(f"is_spent {drift} {antt(pace(held))} {age} {more}", aged + more * drift > 490_000)
+        last = 4_900 - more  # behind so many seconds, and by 100 us each, the next ones make 490 ms, and no more
+        yield equal(f"is_spent 100 {antt(pace(None))} {last} {more}", False)
+        yield equal(f"is_spent 100 {antt(pace(None))} {last + 1} {more}", True)
         gap = 1_006_000 + seconds % 1_700 * second // 1_000 + random.choice((0, -1, random.randrange(10**6)))
         counted = sum(1 for k in range(1_701) if gap >= 1_006_000 + k * second // 1_000)
         yield equal(f"edges_own {antt(pace(held))} (Some {edge}) {(edge + gap) % WRAP}", counted)
@@ -435,13 +442,15 @@ def delays_of_lines(random: Random) -> Iterator[tuple]:
 
 @question("model", "irig_lines.clock_fault")
 def refused_clocks(random: Random) -> Iterator[tuple]:
-    """By docs/EXACTLY_WHEN.md: a drift above 100, else one by which a holdover and two seconds err too much."""
+    """By docs/EXACTLY_WHEN.md: a drift above 100, else one by which a holdover and two seconds err too much if nothing
+    is learned."""
     for _ in range(40):
         drift = random.choice((0, 1, 10, 100, 101, random.randint(0, 120)))
         holdover = random.choice((0, 1_000_000, 490_000 // max(1, drift) - 2 + random.randint(-1, 1)))
-        is_long = (holdover + 2) * drift > 490_000
+        wander = random.choice((0, 0, 1, 100_000))
+        is_long = wander == 0 and (holdover + 2) * drift > 490_000
         fault = "Drift" if drift > 100 else "Holdover" if is_long else None
-        yield (ReaderRules(1, max(0, holdover)), drift), some(fault and Antt(f"ClockFault.{fault}"))
+        yield (ReaderRules(1, max(0, holdover)), drift, wander), some(fault and Antt(f"ClockFault.{fault}"))
 
 
 @question("model", "irig_timekeeper.quality_of")

@@ -7,6 +7,7 @@
 
 enum {
     WAIT_MOST_US = 1006000,
+    HELD_MOST_US = 490000, /* so much further off than its vote a second may be that is held */
     IN_TIME_US = 98000,
     TRUE_US = 2700000,
     OWN_LATE_US = 6000, /* so long behind its own edge it counts a second, */
@@ -180,6 +181,7 @@ static void judge_announced(judge *j, const irig_second *s, uint64_t edge_us) {
         fail(j, "it announces T(%lld) %lld us off its edge, within %u us, %lld s behind a vote",
              (long long)m, (long long)off_us, s->bound_us, (long long)age);
     if (age > j->setup.holdover) fail(j, "it holds for %lld s", (long long)age);
+    if (s->bound_us > voted_us + HELD_MOST_US) fail(j, "it holds within %u us", s->bound_us);
     if (r->cause != (age > 0 ? IRIG_CAUSE_HELD : IRIG_CAUSE_VOTED) ||
         (age > 0) != (r->agreed == 0) || age != m - j->voted)
         fail(j, "it announces T(%lld) by cause %u, %lld s behind the vote at edge %lld",
@@ -194,8 +196,8 @@ static void judge_announced(judge *j, const irig_second *s, uint64_t edge_us) {
     j->counts[LEARNED] += j->voted_us > 0 && s->bound_us < voted_us + drift_us;
 }
 
-/* It goes silent behind an announcement only if its holdover is over, or what follows is not
- * known. */
+/* It goes silent behind an announcement only if its holdover is over, or its counter could be half a second
+ * wrong, or what follows is not known. */
 static void judge_silence(judge *j, const irig_second *s) {
     const irig_report *last = &j->report;
     uint64_t age = last->lock == IRIG_LOCK_HOLDOVER ? last->lock_count : 0;
@@ -204,7 +206,11 @@ static void judge_silence(judge *j, const irig_second *s) {
     bool may_guard = is_month_end(day) && j->table.until < day;
     bool may_guard_next = is_month_end(day + 1) && j->table.until < day + 1;
     bool is_guarded = may_guard || (may_guard_next && s->missed > 0);
-    if (alone <= j->setup.holdover && !is_guarded && day < LAST_DAY)
+    int64_t grown_us = age == 0            ? 0
+                       : j->voted_us == 0 ? (int64_t)age * j->world->drift_us
+                                          : (int64_t)j->bound_us - j->voted_us;
+    bool is_spent = grown_us + ((int64_t)s->missed + 1) * j->world->drift_us > HELD_MOST_US;
+    if (alone <= j->setup.holdover && !is_spent && !is_guarded && day < LAST_DAY)
         fail(j, "it is silent, cause %u, %u s behind a vote", s->report.cause, (unsigned)alone);
 }
 
@@ -361,7 +367,8 @@ void judge_wait(judge *j, uint32_t wait_us, bool is_behind_tick) {
 /* A stamp is right if its second's edge lies as near as it says. */
 void judge_stamp(judge *j, uint64_t time_us) {
     irig_stamp s = {0};
-    int64_t m, most_us = vote_us(j) + (int64_t)j->setup.holdover * j->world->drift_us;
+    int64_t m, held_us = (int64_t)j->setup.holdover * j->world->drift_us;
+    int64_t most_us = vote_us(j) + (held_us < HELD_MOST_US ? held_us : HELD_MOST_US);
     uint32_t answer = j->subject->stamp((uint32_t)time_us, &s);
     bool is_behind = j->has_told && j->report.announces && time_us >= j->edge_us;
     bool is_between = j->has_told && time_us >= j->before_us && time_us < j->edge_us;

@@ -340,6 +340,13 @@ static uint32_t grown_us(uint32_t seconds) {
     return (uint32_t)(is_sharper ? by_ns / 1000 : drift_us);
 }
 
+/* A holdover ends where a second that is counted could lie more than 490 ms off. */
+static bool is_spent(uint32_t seconds) {
+    const irig_state *held = &k.reader.state;
+    uint32_t age = held->kind == IRIG_STATE_LOCKED ? held->age : 0;
+    return grown_us(age) + seconds * k.wires.drift_us > 490000 && !is(HOLDS_WHEN_SPENT);
+}
+
 /* ---- what lines are */
 
 /* How a frame's end lies to a told edge. */
@@ -399,6 +406,8 @@ static void go_on_by(const claim *vote, irig_report *r) {
 static void tell(irig_second *s, uint32_t now_us, uint32_t edge_us, uint32_t missed, int enough) {
     voice voices[MOST_LINES];
     irig_report lost;
+    uint32_t holdover = k.reader.setup.holdover;
+    if (is_spent(missed + 1)) k.reader.setup.holdover = 0;
     for (uint32_t i = 0; i < missed && !is(MISSES_NONE); i++) go_on_by(NULL, &lost);
     voices_at(now_us, voices);
     int voted = vote(voices, k.lines, enough, k.reader.setup.sense, &s->report);
@@ -406,6 +415,7 @@ static void tell(irig_second *s, uint32_t now_us, uint32_t edge_us, uint32_t mis
     const claim *by = voted < 0 ? NULL : &k.line[voted].kept.claim;
     s->against_table = is_against_table(&k.reader, by);
     go_on_by(by, &s->report);
+    k.reader.setup.holdover = holdover;
     if (voted < 0 && k.doubt > 0 && !is(HOLDS_IN_DOUBT)) say_nothing(&s->report);
     s->is_told = 1;
     s->edge_us = k.edge_us = edge_us;
@@ -560,7 +570,8 @@ static uint32_t begin(const irig_setup *setup, const irig_table *table, const ir
     bool is_exact = wires->within_us >= 1 && wires->within_us <= 450;
     bool is_steady = wires->drift_us <= 100 && wires->wander_ppb <= 100000;
     if (!is_exact || !is_steady || setup->poor_from > 8) return IRIG_FAULT_VALUE;
-    if ((uint64_t)(setup->holdover + 2) * wires->drift_us + 10000 > 500000) return IRIG_FAULT_DRIFT;
+    bool learns = wires->wander_ppb > 0;
+    if (!learns && (uint64_t)(setup->holdover + 2) * wires->drift_us > 490000) return IRIG_FAULT_DRIFT;
     k.reader.setup = *setup;
     if (setup->poor_from == 0) k.reader.setup.poor_from = 7;
     if (is(HOLDS_LONG)) k.reader.setup.holdover += 5;

@@ -61,8 +61,6 @@ static void plan_wander(world *w, chance *luck) {
 /* A counter of which there is something to learn. */
 static void plan_counter(life *l, chance *luck) {
     l->world.drift_us = (uint32_t)ONE_OF(luck, 100, 100, 50, 10, 3);
-    uint32_t most = 490000 / l->world.drift_us - 2;
-    if (l->setup.holdover > most) l->setup.holdover = most;
     plan_wander(&l->world, luck);
 }
 
@@ -361,11 +359,15 @@ static void plan_turn(life *l, chance *luck) {
     s->lie[s->lies++] = told;
 }
 
-/* How long all is dark in a long life: most of the longest holdover by this oscillator, or more. */
+/* How long all is dark in a long life: most of the longest holdover by this oscillator, or more. One that
+ * is learned may be asked for any holdover: it ends by itself, by what is learned or, else, by the drift. */
 static uint32_t plan_dark_time(life *l, chance *luck) {
     uint32_t drift = l->world.drift_us, most = is_once_in(luck, 20) ? MOST_SECONDS - 3000 : 6000;
-    if (drift > 0 && !is_once_in(luck, 4)) l->setup.holdover = 490000 / drift - 2;
-    uint32_t holdover = l->setup.holdover < 20 ? 20 : l->setup.holdover;
+    uint32_t longest = drift > 0 ? 490000 / drift - 2 : 1000000;
+    bool is_any = l->world.wander_ppb > 0 && is_once_in(luck, 2);
+    if (is_any) l->setup.holdover = 1000000;
+    else if (l->setup.holdover > longest || (drift > 0 && !is_once_in(luck, 4))) l->setup.holdover = longest;
+    uint32_t holdover = is_any ? longest : l->setup.holdover < 20 ? 20 : l->setup.holdover;
     uint32_t time = is_once_in(luck, 3) ? below(luck, holdover + holdover / 3)
                                         : holdover - below(luck, holdover / 8);
     return time < most ? time : below(luck, most);

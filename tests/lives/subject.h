@@ -79,6 +79,7 @@ enum { DIFFERS = 200 }; /* what a subject answers where two have to answer alike
     X(LEARNS_ON)       /* or is kept when votes contradict one another, or frames the counter, */  \
     X(LEARNS_LONG)     /* or when a holdover ends */                                               \
     X(HOLDS_SHARPLY)   /* a second that is held by it has a bound 1 us less, */                    \
+    X(HOLDS_WHEN_SPENT) /* or it holds on where its edge could lie half a second off, */           \
     X(FORGETS_REST)    /* or its edge is cut to whole microseconds, and counted on from there, */  \
     X(COUNTS_MILLIONS) /* or it is one of all seconds of a million that were missed, */           \
     X(WALKS_UNSEEN)    /* or a vote is compared with the one before by the drift */

@@ -77,6 +77,7 @@ as_told : (s : IrigSecond) (beat : Beat) (t : TimelineValue) (edges : ℕ → �
 as_told s beat t edges early late c now u same h = record {
   bound = subst (λ (r : Report). s.bound_us ≤ vote_us c c.drift_us + lasted r.lock * c.drift_us) (sym same.report) (omega (arith, h.bound, same.bound_us));
   few = subst (λ (r : Report). lasted r.lock ≤ c.reader_rules.holdover) (sym same.report) h.few;
+  small = omega (arith, h.small, same.bound_us);
   told = record {
     m = h.told.m;
     edge = h.told.edge;

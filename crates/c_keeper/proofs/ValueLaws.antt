@@ -63,10 +63,11 @@ clock_as t q setup wires =
     clock_of : IrigSetup → IrigWires → ClockRules
     clock_of s w = record { reader_rules = reader_rules_in s; redundancy = redundancy_in s; within = within_of w.within_us; limits = vote_limits_in s; drift_us = w.drift_us; wander_ppb = w.wander_ppb; delays = delays_in w.delays; prefers_frames = not (w.prefers_frames == 0) }
 
-pub steady_as : (t q : IrigTimekeeper) → q.setup ≡ t.setup → q.wires ≡ t.wires → clock_fault (reader_rules_in t.setup) t.wires.drift_us ≡ None
-    → clock_fault (reader_rules_in q.setup) q.wires.drift_us ≡ None
+pub steady_as : (t q : IrigTimekeeper) → q.setup ≡ t.setup → q.wires ≡ t.wires → clock_fault (reader_rules_in t.setup) t.wires.drift_us t.wires.wander_ppb ≡ None
+    → clock_fault (reader_rules_in q.setup) q.wires.drift_us q.wires.wander_ppb ≡ None
 steady_as t q setup wires steady =
-    ap (λ (s : IrigSetup). clock_fault (reader_rules_in s) q.wires.drift_us) setup ∙ (ap (λ (w : IrigWires). clock_fault (reader_rules_in t.setup) w.drift_us) wires ∙ steady)
+    ap (λ (s : IrigSetup). clock_fault (reader_rules_in s) q.wires.drift_us q.wires.wander_ppb) setup
+    ∙ (ap (λ (w : IrigWires). clock_fault (reader_rules_in t.setup) w.drift_us w.wander_ppb) wires ∙ steady)
 
 -- ---- the limits of a setup that a timekeeper may have are as it says
 

@@ -108,7 +108,7 @@ HasShortInterval t = (t.has_interval ≡ 0) ⊎ (t.long_us ≤ 2 * most_held_us)
 pub record IsSetUp (t : IrigTimekeeper) : Type 0 where
   pub setup : IsKeeperSetup t.setup
   pub wires : AreWires t.wires
-  pub steady : clock_fault (reader_rules_in t.setup) t.wires.drift_us ≡ None
+  pub steady : clock_fault (reader_rules_in t.setup) t.wires.drift_us t.wires.wander_ppb ≡ None
 
 -- seconds can be counted by what is known of the edge, and by what is learned
 pub record CountsSoundly (t : IrigTimekeeper) : Type 0 where
@@ -119,7 +119,7 @@ pub record CountsSoundly (t : IrigTimekeeper) : Type 0 where
 pub record IsAccepted (t : IrigTimekeeper) : Type 0 where
   pub setup : IsKeeperSetup t.setup
   pub wires : AreWires t.wires
-  pub steady : clock_fault (reader_rules_in t.setup) t.wires.drift_us ≡ None
+  pub steady : clock_fault (reader_rules_in t.setup) t.wires.drift_us t.wires.wander_ppb ≡ None
   pub bound : t.bound_us ≤ most_vote_us
   pub known : CountsSoundly t
   pub is_state : IsState t.setup.lock_after t.state

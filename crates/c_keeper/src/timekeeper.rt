@@ -219,6 +219,7 @@ fn is_set_up(timekeeper: &IrigTimekeeper) -> bool
         && clock_fault(
             reader_rules_of(&timekeeper.setup),
             u32::from(timekeeper.wires.drift_us),
+            timekeeper.wires.wander_ppb,
         )
         .is_none()
 }

@@ -76,7 +76,8 @@ const DRIFT: u32 = 35;
 
 /// Makes a timekeeper of these, to which nothing has happened. 26 if a number of the setup or of the
 /// wires has no meaning or is out of its range, or a leap that counts has another kind; then 31 to 34
-/// for the first fault of the table; then 35 if the holdover is longer than its counter can count.
+/// for the first fault of the table; then 35 if the holdover is longer than its counter can count and
+/// nothing is to be learned of it.
 #[unsafe(no_mangle)]
 pub extern "C" fn irig_c_timekeeper_init(
     timekeeper: &mut IrigTimekeeper,
@@ -86,12 +87,12 @@ pub extern "C" fn irig_c_timekeeper_init(
 ) -> u32
     ensures answer { (result ≡ 0) ↔ (IsKeeperSetup setup.now × (HasKinds table.now
         × (AreWires wires.now × (IsTable table.now
-        × (clock_fault (reader_rules_in setup.now) wires.now.drift_us ≡ None))))) }
+        × (clock_fault (reader_rules_in setup.now) wires.now.drift_us wires.now.wander_ppb ≡ None))))) }
     ensures table { IsKeeperSetup setup.now → HasKinds table.now → AreWires wires.now
         → (IsTable table.now → ⊥) → result ≡ code_of_table table.now }
     ensures drift { IsKeeperSetup setup.now → HasKinds table.now → AreWires wires.now
         → IsTable table.now
-        → (clock_fault (reader_rules_in setup.now) wires.now.drift_us ≡ None → ⊥) → result ≡ 35 }
+        → (clock_fault (reader_rules_in setup.now) wires.now.drift_us wires.now.wander_ppb ≡ None → ⊥) → result ≡ 35 }
     ensures range { (IsKeeperSetup setup.now → HasKinds table.now → AreWires wires.now → ⊥)
         → result ≡ 26 }
     ensures refused { (result ≡ 0 → ⊥) → timekeeper.new ≡ timekeeper.old }
@@ -125,7 +126,13 @@ pub extern "C" fn irig_c_timekeeper_init(
     if fault != 0 {
         return fault;
     }
-    if clock_fault(reader_rules_of(setup), u32::from(wires.drift_us)).is_some() {
+    if clock_fault(
+        reader_rules_of(setup),
+        u32::from(wires.drift_us),
+        wires.wander_ppb,
+    )
+    .is_some()
+    {
         return DRIFT;
     }
     timekeeper.setup = *setup;

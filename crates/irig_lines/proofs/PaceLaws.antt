@@ -1,12 +1,12 @@
 -- What votes teach of a counter holds on, and edges that are counted by it lie near their true ones.
 use Rattle.std.specs.Prelude.{min}
-use Rattle.std.proofs.Common.{◌≡◌, ℕ, zero, suc, ◌+◌, ◌*◌, ◌/◌, ◌<◌, ◌≤◌, Option, Some, None, sym, arith, subst, inl, inr}
+use Rattle.std.proofs.Common.{◌≡◌, ℕ, zero, suc, ◌+◌, ◌*◌, ◌/◌, ◌<◌, ◌≤◌, Option, Some, None, refl, sym, true, arith, subst, inl, inr}
 use Rattle.std.proofs.Math.Nat.{lt_of_mul-lt-mul_right, mul-le-mul_left, mul-le-mul_right, div-add-mod'}
 use Rattle.std.proofs.lemmas.Bool.{cases_lt}
 use Rattle.irig_lines.specs.declared.pace.Pace.{Pace}
 use Rattle.irig_lines.specs.declared.rate.Rate.{Rate}
 use Rattle.irig_lines.specs.Edges.{IsQuartz, IsNear}
-use Rattle.irig_lines.specs.Paces.{IsFit, longest_us, shortest_us, IsOscillator, middle_of, spread_of, ahead_us, rest_on, grown_us}
+use Rattle.irig_lines.specs.Paces.{IsFit, longest_us, shortest_us, IsOscillator, middle_of, spread_of, ahead_us, rest_on, grown_us, pace_on}
 use Rattle.irig_lines.specs.Rates.{IsMeanFrom}
 use Rattle.irig_lines.proofs.CountingLaws.{rises}
 
@@ -151,13 +151,66 @@ module _ (edges : ℕ → ℕ) (reach d voted w a edge : ℕ) (p : Pace) (is : I
             | inr high ↦ let is : min x y ≡ y = grind (arith, high) in rw is (record { least = omega (arith, near.least, other); most = omega (arith, near.most, other) })
           ]
 
+  -- where it has just come to, too, but for 1 us of what is not whole
+  pub near_still : (k : ℕ) → a ≤ k → IsNear edges (voted + (grown_us d (Some p) k + 1)) (voted + (grown_us d (Some p) k + 1)) w edge
+  near_still k more = elim (cases_lt 0 a) [
+    | inl some ↦ let near = near_grown some k more in record { least = omega (arith, near.least); most = omega (arith, near.most) }
+    | inr none ↦ let near = near_learned in let nothing = mul-le-mul_right p.within_ns (let zero : a ≤ 0 = omega (arith, none) in zero) in record { least = omega (arith, near.least, nothing); most = omega (arith, near.most, nothing) }
+  ]
+
+min_left : (x y : ℕ) → min x y ≤ x
+min_left x y = elim (cases_lt x y) [ inl low ↦ let is : min x y ≡ x = grind (arith, low) in omega (arith, is) | inr high ↦ let is : min x y ≡ y = grind (arith, high) in omega (arith, is, high) ]
+
+min_right : (x y : ℕ) → min x y ≤ y
+min_right x y = elim (cases_lt x y) [ inl low ↦ let is : min x y ≡ x = grind (arith, low) in omega (arith, is, low) | inr high ↦ let is : min x y ≡ y = grind (arith, high) in omega (arith, is) ]
+
+less_of : (x y x' y' : ℕ) → x ≤ y → x' ≤ y' → min x x' ≤ min y y'
+less_of x y x' y' low other = elim (cases_lt y y') [
+  | inl less ↦ let is : min y y' ≡ y = grind (arith, less) in let most = min_left x x' in omega (arith, is, most, low)
+  | inr more ↦ let is : min y y' ≡ y' = grind (arith, more) in let most = min_right x x' in omega (arith, is, most, other)
+]
+
 -- what comes of so many seconds is no more than the drift, and nothing of none
 pub grown_most : (d : ℕ) (pace : Option Pace) (k : ℕ) → grown_us d pace k ≤ k * d
 grown_most d None k = omega arith
-grown_most d (Some p) k = least (k * d) ((k * p.within_ns + 1999) / 1000)
+grown_most d (Some p) k = min_left (k * d) ((k * p.within_ns + 1999) / 1000)
+
+-- it is no less of more seconds
+pub grown_more : (d : ℕ) (pace : Option Pace) (k j : ℕ) → k ≤ j → grown_us d pace k ≤ grown_us d pace j
+grown_more d None k j more = mul-le-mul_right d more
+grown_more d (Some p) k j more = less_of (k * d) (j * d) ((k * p.within_ns + 1999) / 1000) ((j * p.within_ns + 1999) / 1000) (mul-le-mul_right d more) (let grows = mul-le-mul_right p.within_ns more in omega (arith, grows))
+
+-- and each second more costs no more than the drift
+pub grown_on : (d : ℕ) (pace : Option Pace) (k n : ℕ) → grown_us d pace (k + n) ≤ grown_us d pace k + n * d
+grown_on d None k n = omega arith
+grown_on d (Some p) k n = elim (cases_lt p.within_ns (1000 * d)) [
+  | inl less ↦
+      let more = mul-le-mul_left n (let l : p.within_ns ≤ 1000 * d = omega (arith, less) in l) in
+      least_of ((k + n) * d) (k * d) (((k + n) * p.within_ns + 1999) / 1000) ((k * p.within_ns + 1999) / 1000) (n * d) (omega arith) (omega (arith, more))
+  | inr not_less ↦
+      let more = mul-le-mul_left k not_less in
+      by_drift ((k + n) * d) (k * d) (((k + n) * p.within_ns + 1999) / 1000) ((k * p.within_ns + 1999) / 1000) (n * d) (omega arith) (omega (arith, more))
+]
   where
-    least : (x y : ℕ) → min x y ≤ x
-    least x y = elim (cases_lt x y) [ inl low ↦ let is : min x y ≡ x = grind (arith, low) in omega (arith, is) | inr high ↦ let is : min x y ≡ y = grind (arith, high) in omega (arith, is, high) ]
+    by_drift : (x y x' y' z : ℕ) → x ≤ y + z → y ≤ y' → min x x' ≤ min y y' + z
+    by_drift x y x' y' z low is_less =
+        let left : min y y' ≡ y = grind (arith, is_less) in
+        let most : min x x' ≤ x = min_left x x' in
+        omega (arith, left, most, low)
+
+    least_of : (x y x' y' z : ℕ) → x ≤ y + z → x' ≤ y' + z → min x x' ≤ min y y' + z
+    least_of x y x' y' z low other = elim (cases_lt y y') [
+      | inl less ↦ by_drift x y x' y' z low (omega (arith, less))
+      | inr more ↦
+          let right : min y y' ≡ y' = grind (arith, more) in
+          let most : min x x' ≤ x' = min_right x x' in
+          omega (arith, right, most, other)
+    ]
+
+-- what remains below a microsecond changes nothing
+pub rest_grown : (d n : ℕ) (pace : Option Pace) (k : ℕ) → grown_us d (pace_on true n pace) k ≡ grown_us d pace k
+rest_grown d n None k = refl
+rest_grown d n (Some p) k = refl
 
 pub none_grown : (d : ℕ) (pace : Option Pace) → grown_us d pace 0 ≡ 0
 none_grown d pace = let most = grown_most d pace 0 in omega (arith, most)

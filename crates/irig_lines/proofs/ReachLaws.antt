@@ -45,7 +45,7 @@ module _ (d : ℕ) (edges : ℕ → ℕ) (quartz : IsQuartz d edges) where
     | inl more ↦ absurd (omega (arith, rise_to i j (omega (arith, more)), more, close))
   ]
 
-  module _ (early late : ℕ) (room : early + late ≤ 3002) (A bound m : ℕ) (near : IsNear edges (early + bound) (late + bound) m A) (small : bound + 2 * d ≤ most_vote_us + most_held_us) where
+  module _ (early late : ℕ) (room : early + late ≤ 3002) (A bound m : ℕ) (near : IsNear edges (early + bound) (late + bound) m A) (small : bound ≤ most_vote_us + most_held_us) where
     Put : ℕ → Type 0
     Put = IsPut edges early late
 

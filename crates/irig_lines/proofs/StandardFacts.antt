@@ -13,7 +13,8 @@ use Rattle.irig_lines.specs.Intervals.{by_vote, carried, cut, contradicts}
 use Rattle.irig_lines.specs.Exactness.{most_vote_us}
 use Rattle.irig_lines.specs.Widths.{quality_us}
 use Rattle.irig_lines.specs.Counting.{edges_to, edges_to_vote, edges_own, is_late, has_come}
-use Rattle.irig_lines.specs.Paces.{edge_on}
+use Rattle.irig_lines.specs.declared.pace.Pace.{Pace}
+use Rattle.irig_lines.specs.Paces.{edge_on, is_spent}
 use Rattle.irig_lines.specs.Refusals.{clock_fault}
 use Rattle.irig_lines.specs.declared.setup.ClockFault.TheVariants.{Drift, Holdover}
 use Rattle.irig_lines.specs.Steps.{first_candidate, vote_with, until, wait_by}
@@ -39,8 +40,20 @@ known_late = (refl, refl, refl, refl)
 abbrev rules_of : ℕ → ReaderRules
 rules_of holdover = record { lock_after = 3; holdover = holdover }
 
-pub known_refused : (clock_fault (rules_of 1000000) 1 ≡ Some Holdover) × (clock_fault (rules_of 4898) 100 ≡ None) × (clock_fault (rules_of 4899) 100 ≡ Some Holdover) × (clock_fault (rules_of 1000000) 101 ≡ Some Drift) × (clock_fault (rules_of 1000000) 0 ≡ None)
+pub known_refused : (clock_fault (rules_of 1000000) 1 0 ≡ Some Holdover) × (clock_fault (rules_of 4898) 100 0 ≡ None) × (clock_fault (rules_of 4899) 100 0 ≡ Some Holdover) × (clock_fault (rules_of 1000000) 101 0 ≡ Some Drift) × (clock_fault (rules_of 1000000) 0 0 ≡ None)
 known_refused = (refl, refl, refl, refl, refl)
+
+-- of a device that learns any, by a counter that runs no more than 100 us a second wrong
+pub known_learning : (clock_fault (rules_of 1000000) 100 1 ≡ None) × (clock_fault (rules_of 1000000) 101 1 ≡ Some Drift)
+known_learning = (refl, refl)
+
+-- by 50 us a second an edge may be held for 9,800 s, or by 1,450 ns for 337,896 s, and one more costs the
+-- drift
+abbrev learned_pace : Option Pace
+learned_pace = Some (record { second_ns = 1000000000; within_ns = 1450; rest_ns = 0 })
+
+pub known_spent : (is_spent 50 None 9799 1 ≡ false) × (is_spent 50 None 9800 1 ≡ true) × (is_spent 50 learned_pace 337895 1 ≡ false) × (is_spent 50 learned_pace 337896 1 ≡ true)
+known_spent = (refl, refl, refl, refl)
 
 -- frames of one claim and of another
 abbrev claim_of : ℕ → Claim

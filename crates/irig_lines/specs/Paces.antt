@@ -89,6 +89,11 @@ abbrev pub grown_us : (d : ℕ) → Option Pace → ℕ → ℕ
 grown_us d None seconds = seconds * d
 grown_us d (Some p) seconds = min (seconds * d) ((seconds * p.within_ns + 1999) / 1000)
 
+-- a holdover is spent if an edge that is counted so many seconds later, behind so many without a vote,
+-- could lie more than 490 ms off
+abbrev pub is_spent : (d : ℕ) → Option Pace → (age seconds : ℕ) → Bool
+is_spent d pace age seconds = nat_lt most_held_us (grown_us d pace age + seconds * d)
+
 -- at least so many microseconds the next second lasts by it
 abbrev pub shortest_us : Pace → ℕ
 shortest_us p = (p.second_ns - p.within_ns) / 1000

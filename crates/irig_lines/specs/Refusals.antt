@@ -1,6 +1,6 @@
 -- What is refused of a setup, and the nearest that is not.
 -- Source: this project's profile.
-use Rattle.std.specs.Prelude.{ℕ, ◌+◌, ◌-◌, ◌*◌, min, nat_lt, if◌then◌else◌, Option, Some, None}
+use Rattle.std.specs.Prelude.{ℕ, ◌+◌, ◌-◌, ◌*◌, ◌==◌, ◌&&◌, min, nat_lt, if◌then◌else◌, Option, Some, None}
 use Rattle.std.proofs.Common.{arith}
 use Rattle.irig_port.specs.declared.limits.Limits.{Limits}
 use Rattle.irig_reader.specs.declared.rules.ReaderRules.{ReaderRules}
@@ -26,9 +26,10 @@ limits_of l = record {
   few = omega arith;
 }
 
--- the counter is more than 100 us a second wrong, or so much that it could be half a second wrong
--- when the holdover ends
-abbrev pub clock_fault : ReaderRules → ℕ → Option ClockFault
-clock_fault rules drift =
+-- the counter is more than 100 us a second wrong, or nothing is learned of it and it could be half a
+-- second wrong when the holdover ends
+abbrev pub clock_fault : ReaderRules → (drift wander : ℕ) → Option ClockFault
+clock_fault rules drift wander =
     if nat_lt most_drift_us drift then Some Drift
-    else (if nat_lt most_held_us ((rules.holdover + 2) * drift) then Some Holdover else None)
+    else (if wander == 0 && nat_lt most_held_us ((rules.holdover + 2) * drift) then Some Holdover
+    else None)

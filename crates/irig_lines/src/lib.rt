@@ -25,7 +25,7 @@ pub use lines::{
     is_pulse, line_at, lines_of_nothing, quality_told, settle, take, tells_of, wait_by,
     whole_frame, with_line,
 };
-pub use pace::{Pace, carried_by, edge_on, grown_us, learned, pace_on};
+pub use pace::{Pace, carried_by, edge_on, grown_us, is_spent, learned, pace_on};
 pub use rate::{Anchor, Anchors, NO_ANCHORS, Rate, anchors_cut, anchors_on, rate_of};
 pub use setup::{ClockFault, ClockRules, clock_fault, nearest_limits, nearest_within};
 pub use within::Within;

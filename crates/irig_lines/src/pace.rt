@@ -3,7 +3,7 @@
 ghost use Rattle.std.specs.Prelude.{◌≡◌, ◌≤◌, ◌+◌, ◌-◌, ◌*◌};
 ghost use Rattle.irig_lines.specs.Exactness.{most_drift_us, most_held_us};
 ghost use Rattle.irig_lines.specs.Intervals.{IsShort};
-ghost use Rattle.irig_lines.specs.Paces.{IsFit, IsSound, ahead_us, edge_on, carried_by, grown_us, is_fit, learned, learned_by, longest_us, middle_of, pace_on, paced, rest_on, shortest_us, spread_of};
+ghost use Rattle.irig_lines.specs.Paces.{IsFit, IsSound, ahead_us, edge_on, carried_by, grown_us, is_fit, is_spent, learned, learned_by, longest_us, middle_of, pace_on, paced, rest_on, shortest_us, spread_of};
 
 use crate::interval::{Interval, LONGEST_US, carried_on};
 use crate::rate::Rate;
@@ -16,6 +16,9 @@ const LEARN_S: u32 = 1_000;
 const SHORTEST_NS: u64 = 999_900_000;
 
 const LONGEST_NS: u64 = 1_000_100_000;
+
+/// How far off an edge may lie that is held, beside what that of its last vote may.
+const MOST_HELD_US: u64 = 490_000;
 
 /// What a device has learned of its counter.
 #[derive(Clone, Copy, PartialEq, Eq)]
@@ -189,16 +192,23 @@ pub fn carried_by(
 
 /// How much further off than that of the last vote an edge may lie that is counted so many seconds
 /// later, in microseconds.
-pub fn grown_us(drift_us: u32, pace: Option<Pace>, seconds: u32) -> u32
-    requires few { seconds * drift_us ≤ most_held_us }
+pub fn grown_us(drift_us: u32, pace: Option<Pace>, seconds: u32) -> u64
+    requires steady { drift_us ≤ most_drift_us }
     ensures value { result ≡ grown_us drift_us pace seconds }
+    ensures few { result ≤ 4294967295 * most_drift_us }
 {
-    let drift = seconds * drift_us;
+    let drift = u64::from(seconds) * u64::from(drift_us);
     match pace {
         None => drift,
-        Some(pace) => {
-            let learned = (u64::from(seconds) * u64::from(pace.within_ns) + 1_999) / 1_000;
-            u64::from(drift).min(learned) as u32
-        }
+        Some(pace) => drift.min((u64::from(seconds) * u64::from(pace.within_ns) + 1_999) / 1_000),
     }
+}
+
+/// Whether a holdover has to end, before so many seconds more are counted behind so many without a
+/// vote: an edge could lie more than 490 ms off.
+pub fn is_spent(drift_us: u32, pace: Option<Pace>, age: u32, seconds: u32) -> bool
+    requires steady { drift_us ≤ most_drift_us }
+    ensures { result ≡ is_spent drift_us pace age seconds }
+{
+    grown_us(drift_us, pace, age) + u64::from(seconds) * u64::from(drift_us) > MOST_HELD_US
 }

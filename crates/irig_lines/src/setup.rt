@@ -83,19 +83,22 @@ fn quality_us(quality: u8) -> u32
 pub enum ClockFault {
     /// The counter is more than 100 us a second wrong.
     Drift,
-    /// The holdover is longer than the counter can count: it could be half a second wrong by its
-    /// end. The seconds of the holdover and two more, times the drift, are more than 490,000 us.
+    /// The holdover is longer than a device can count that learns nothing: its counter could be half a
+    /// second wrong by its end. The seconds of the holdover and two more, times the drift, are more than
+    /// 490,000 us, and the setup has no `wander_ppb`.
     Holdover,
 }
 
-/// The first fault of a setup, by a counter that is at most `drift_us` us a second wrong.
-pub fn clock_fault(rules: ReaderRules, drift_us: u32) -> Option<ClockFault>
-    ensures { result ≡ clock_fault rules drift_us }
+/// The first fault of a setup, by a counter that is at most `drift_us` us a second wrong. A device that
+/// learns its counter, by a `wander_ppb`, may have any holdover: it ends by itself before the counter
+/// could be half a second wrong.
+pub fn clock_fault(rules: ReaderRules, drift_us: u32, wander_ppb: u32) -> Option<ClockFault>
+    ensures { result ≡ clock_fault rules drift_us wander_ppb }
 {
     if drift_us > 100 {
         return Some(ClockFault::Drift);
     }
-    if (u64::from(rules.holdover) + 2) * u64::from(drift_us) > 490_000 {
+    if wander_ppb == 0 && (u64::from(rules.holdover) + 2) * u64::from(drift_us) > 490_000 {
         return Some(ClockFault::Holdover);
     }
     None

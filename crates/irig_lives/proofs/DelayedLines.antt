@@ -128,7 +128,7 @@ by_clocks = ap (λ (k : Keeping). answer_at k (now % 2 ^ 32)) (sym same_life) �
 
 told_truly : IsToldInHoldover noon edges 0 0 (made_with delays).clock now beat (at 43202)
 told_truly =
-    device_true rules (made_with delays).clock no_table new_lines 4294400000 are_new (IsTrueLately 450 rules noon edges) noon edges 0 0 (record { steady = steady; sound = is_device.sound; knows = is_device.knows; short = is_device.short }) (omega arith)
+    device_true rules (made_with delays).clock no_table new_lines 4294400000 are_new (IsTrueLately 450 rules noon edges) noon edges 0 0 (record { steady = steady; sound = is_device.sound; knows = is_device.knows }) (omega arith)
     (λ now half end pulses claim is frame soon. true_by_any (made_with delays).clock rules noon 100 edges half now end pulses claim steady is frame soon) calls now beat (at 43202) order truth (plain_steps edges 0 0 (new_keeping rules (made_with delays).clock no_table new_lines) 4294400000 (record { off = refl; none = refl }) steady (Tick now ∷ calls)) by_clocks refl
 
 -- ---- a device that does not know the delays has no vote of the same pulses
@@ -170,5 +170,5 @@ exact_answer = refl
 
 told_exactly : IsToldInHoldover noon exact_edges 0 0 exact.clock exact_now exact_beat (at 43202)
 told_exactly =
-    device_true rules exact.clock no_table new_lines 1900000 are_new (IsTrueLately 10 rules noon exact_edges) noon exact_edges 0 0 (record { steady = exact_steady; sound = is_device.sound; knows = is_device.knows; short = omega arith })
+    device_true rules exact.clock no_table new_lines 1900000 are_new (IsTrueLately 10 rules noon exact_edges) noon exact_edges 0 0 (record { steady = exact_steady; sound = is_device.sound; knows = is_device.knows })
     (omega arith) (λ now half end pulses claim is frame soon. true_by_any exact.clock rules noon 1 exact_edges half now end pulses claim exact_steady is frame soon) exact_calls exact_now exact_beat (at 43202) exact_order exact_truth (plain_steps exact_edges 0 0 (new_keeping rules exact.clock no_table new_lines) 1900000 (record { off = refl; none = refl }) exact_steady (Tick exact_now ∷ exact_calls)) (ap (λ (k : Keeping). answer_at k (exact_now % 2 ^ 32)) (sym same_exactly) ∙ exact_answer) refl

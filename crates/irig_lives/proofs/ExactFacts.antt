@@ -64,7 +64,7 @@ abbrev clock : ClockRules
 clock = clock_of 10
 
 by_counter : IsDevice noon 1 edges clock.reader_rules no_table
-by_counter = record { steady = exact_steady; sound = is_device.sound; knows = is_device.knows; short = omega arith }
+by_counter = record { steady = exact_steady; sound = is_device.sound; knows = is_device.knows }
 
 -- ---- the line that is true: two frames
 
@@ -224,7 +224,7 @@ abbrev utc : ℕ → ℕ
 utc n = 999990 + 1000001 * n
 
 by_utc : IsDevice noon 1 utc clock.reader_rules no_table
-by_utc = record { steady = record { few = omega arith; steady = record { least = λ n. omega arith; most = λ n. omega arith } }; sound = is_device.sound; knows = is_device.knows; short = omega arith }
+by_utc = record { steady = record { few = omega arith; steady = record { least = λ n. omega arith; most = λ n. omega arith } }; sound = is_device.sound; knows = is_device.knows }
 
 by_clocks : (now : ℕ) (pulses : List Pulse) → IsTrueLately 10 rules noon edges now pulses → IsTrueByItsClock 10 10 1 rules noon utc now pulses
 by_clocks now pulses is = record { own = edges; steady = exact_steady; near = λ n. record { least = omega arith; most = omega arith }; truth = is }

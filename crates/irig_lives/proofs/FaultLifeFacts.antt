@@ -39,7 +39,7 @@ abbrev clock : ClockRules
 clock = record { reader_rules = record { lock_after = 1; holdover = 100 }; redundancy = of.One; within = within_of 450; limits = usual; drift_us = 100; wander_ppb = 0; delays = no_delays; prefers_frames = false }
 
 by_counter : IsDevice noon 100 fast clock.reader_rules no_table
-by_counter = record { steady = fast_steady; sound = is_device.sound; knows = is_device.knows; short = is_device.short }
+by_counter = record { steady = fast_steady; sound = is_device.sound; knows = is_device.knows }
 
 -- ---- the pulses, and the calls: all of them, and a tick 2 ms behind the edge
 

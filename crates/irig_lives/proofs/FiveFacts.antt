@@ -39,7 +39,7 @@ abbrev clock : ClockRules
 clock = record { reader_rules = record { lock_after = 1; holdover = 100 }; redundancy = of.Five; within = within_of 450; limits = usual; drift_us = 100; wander_ppb = 0; delays = no_delays; prefers_frames = false }
 
 is_device_of_five : IsDevice noon 100 edges clock.reader_rules no_table
-is_device_of_five = record { steady = steady; sound = is_device.sound; knows = is_device.knows; short = is_device.short }
+is_device_of_five = record { steady = steady; sound = is_device.sound; knows = is_device.knows }
 
 -- ---- the line that is true
 

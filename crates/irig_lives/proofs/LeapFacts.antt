@@ -80,7 +80,7 @@ sound leap.Insert = record { sound = refl }
 sound leap.Delete = record { sound = refl }
 
 is_device : (l : Leap) → IsDevice (with_leap l) 100 edges clock.reader_rules (knows_leap l)
-is_device l = record { steady = steady; sound = sound l; knows = inl (record { leaps = λ day end from to. refl }); short = omega arith }
+is_device l = record { steady = steady; sound = sound l; knows = inl (record { leaps = λ day end from to. refl }) }
 
 -- by the calendar: 23:59:59 is followed by 23:59:60 and the new year, or 23:59:58 by the new year
 second_60 : IsSecond (with_leap leap.Insert) 60 (at 86400) × IsSecond (with_leap leap.Insert) 61 new_year

@@ -1,6 +1,10 @@
 -- A device whose counter is 37 ppm fast and whose rate changes by 1 ppm from second to second learns it
--- from votes 1,000 s apart, by lines exact to 450 us and to 10 us, and holds over by it.
-use Rattle.std.proofs.Common.{◌≡◌, ℕ, ◌+◌, ◌-◌, ◌*◌, ◌/◌, ◌%◌, Some, true, false, refl, arith, inr}
+-- from votes 1,000 s apart, by lines exact to 450 us and to 10 us, and holds over by it, for days if its setup
+-- says so.
+use Rattle.std.proofs.Common.{◌≡◌, ℕ, ◌+◌, ◌-◌, ◌*◌, ◌/◌, ◌%◌, Some, None, true, false, refl, arith, inr}
+use Rattle.irig_time.specs.declared.mark.Mark.TheVariants.{Unspoken}
+use Rattle.irig_reader.specs.declared.rule.State.{State}
+use Rattle.irig_reader.specs.declared.rule.State.TheVariants.{Locked}
 use Rattle.irig_vote.specs.declared.redundancy.Redundancy.TheVariants as of
 use Rattle.irig_lines.specs.declared.interval.Interval.{Interval}
 use Rattle.irig_lines.specs.declared.pace.Pace.{Pace}
@@ -13,6 +17,7 @@ use Rattle.irig_lines.specs.Paces.{IsOscillator, WandersAsSet, grown_us, learned
 use Rattle.irig_lines.specs.Rates.{IsMeanFrom, mean_since}
 use Rattle.irig_lines.specs.Refusals.{within_of}
 use Rattle.irig_lines.proofs.PaceLaws.{IsPaced, begins_paced, goes_on, near_grown}
+use Rattle.irig_timekeeper.specs.Clock.{rules_on}
 use Rattle.irig_lives.proofs.LifeFacts.{no_delays, usual}
 
 -- ---- the counter
@@ -88,6 +93,74 @@ held_450 = near_grown edges 6898 100 450 1293 288 1293048291 (rest_on 288 pace_4
 
 pub held_10 : IsNear edges 1000 1000 1973 1973072991
 held_10 = near_grown edges 6898 100 10 1973 968 1973072991 (rest_on 968 pace_10) (goes_on edges 6898 100 10 1005 0 1005037175 pace_10 paced_10 968 (omega arith)) (omega arith) 968 (omega arith)
+
+-- ---- a holdover of days, behind 2,000 s that were measured, by a counter that the setup takes to run no more
+-- than 50 us a second wrong
+
+abbrev days_of : ℕ → ClockRules
+days_of within = record { reader_rules = record { lock_after = 4; holdover = 1000000 }; redundancy = of.Three; within = within_of within; limits = usual; drift_us = 50; wander_ppb = 1000; delays = no_delays; prefers_frames = false }
+
+pub wanders_days : (within : ℕ) → WandersAsSet (days_of within) edges
+wanders_days within = inr (ns, oscillates 1004000)
+
+pub steady_50 : IsQuartz 50 edges
+steady_50 = record { steady = record { least = λ n. omega arith; most = λ n. omega arith }; few = omega arith }
+
+abbrev old_anchor : ℕ → Anchor
+old_anchor bound = record { begin_us = 5000185 - bound; long_us = 2 * bound; seconds = 2000 }
+
+abbrev known_then : ℕ → Interval
+known_then bound = record { begin_us = 2005074185 - bound; long_us = 2 * bound }
+
+abbrev long_450 : Rate
+long_450 = record { seconds = 2000; least_ns = 1000036550; most_ns = 1000037450 }
+
+abbrev long_10 : Rate
+long_10 = record { seconds = 2000; least_ns = 1000036990; most_ns = 1000037010 }
+
+pub measured_long : (mean_since (old_anchor 450) (known_then 450) ≡ long_450) × (mean_since (old_anchor 10) (known_then 10) ≡ long_10)
+measured_long = (refl, refl)
+
+pub means_long : IsMeanFrom edges 5 long_450 × IsMeanFrom edges 5 long_10
+means_long = (record { least = omega arith; most = omega arith }, record { least = omega arith; most = omega arith })
+
+abbrev days_450 : Pace
+days_450 = record { second_ns = 1000037000; within_ns = 1451; rest_ns = 0 }
+
+abbrev days_10 : Pace
+days_10 = record { second_ns = 1000037000; within_ns = 1011; rest_ns = 0 }
+
+pub learns_days : (learned (days_of 450) (Some long_450) ≡ Some days_450) × (learned (days_of 10) (Some long_10) ≡ Some days_10)
+learns_days = (refl, refl)
+
+-- a locked reader that has held over so long
+abbrev held_for : ℕ → State
+held_for age = Locked (record { last = record { day = 6209; sod = 43200 }; age = age; heard = Unspoken })
+
+-- by lines exact to 450 us it holds over for 337,663 s, which is 3.9 days, and then ends by itself
+pub holds_for_days : (rules_on (days_of 450) (Some days_450) (held_for 337662) 1 ≡ (days_of 450).reader_rules) × (rules_on (days_of 450) (Some days_450) (held_for 337663) 1 ≡ record { lock_after = 4; holdover = 0 })
+holds_for_days = (refl, refl)
+
+-- by such to 10 us for 484,619 s, 5.6 days
+pub holds_for_days_10 : (rules_on (days_of 10) (Some days_10) (held_for 484618) 1 ≡ (days_of 10).reader_rules) × (rules_on (days_of 10) (Some days_10) (held_for 484619) 1 ≡ record { lock_after = 4; holdover = 0 })
+holds_for_days_10 = (refl, refl)
+
+-- as long as it has learned nothing, for 9,800 s
+pub holds_for_hours : (rules_on (days_of 10) None (held_for 9799) 1 ≡ (days_of 10).reader_rules) × (rules_on (days_of 10) None (held_for 9800) 1 ≡ record { lock_after = 4; holdover = 0 })
+holds_for_hours = (refl, refl)
+
+-- so it is: the last edge that it holds lies as near its true one
+pub paced_days : IsPaced edges 1002000 50 450 2005 0 2005074635 days_450
+paced_days = begins_paced 1000 1004000 edges ns (oscillates 1004000) 50 steady_50 long_450 5 1002000 450 2005 2005074635 means_long.0 refl (omega arith) (omega arith) (record { least = omega arith; most = omega arith }) days_450 refl (omega arith)
+
+pub held_days : IsNear edges 490401 490401 339668 339680568166
+held_days = near_grown edges 1002000 50 450 339668 337663 339680568166 (rest_on 337663 days_450) (goes_on edges 1002000 50 450 2005 0 2005074635 days_450 paced_days 337663 (omega arith)) (omega arith) 337663 (omega arith)
+
+pub paced_days_10 : IsPaced edges 1002000 50 10 2005 0 2005074175 days_10
+paced_days_10 = begins_paced 1000 1004000 edges ns (oscillates 1004000) 50 steady_50 long_10 5 1002000 10 2005 2005074175 means_long.1 refl (omega arith) (omega arith) (record { least = omega arith; most = omega arith }) days_10 refl (omega arith)
+
+pub held_days_10 : IsNear edges 489961 489961 486624 486642005078
+held_days_10 = near_grown edges 1002000 50 10 486624 484619 486642005078 (rest_on 484619 days_10) (goes_on edges 1002000 50 10 2005 0 2005074175 days_10 paced_days_10 484619 (omega arith)) (omega arith) 484619 (omega arith)
 
 -- ---- a vote one second later whose edge lies 50 us behind the true one, with a bound of 10 us
 

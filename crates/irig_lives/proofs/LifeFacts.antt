@@ -100,7 +100,7 @@ abbrev pub clock : ClockRules
 clock = record { reader_rules = record { lock_after = 2; holdover = 100 }; redundancy = of.Three; within = within_of 450; limits = usual; drift_us = 100; wander_ppb = 0; delays = no_delays; prefers_frames = false }
 
 pub is_device : IsDevice noon 100 edges clock.reader_rules no_table
-is_device = record { steady = steady; sound = is_timeline; knows = inl true_table; short = omega arith }
+is_device = record { steady = steady; sound = is_timeline; knows = inl true_table }
 
 abbrev pub rules : Rules
 rules = record { parity = parity.Even; sense = sense.Add; sbs = sbs.Check }
@@ -359,7 +359,7 @@ abbrev utc : ℕ → ℕ
 utc n = 4293501000 + 1000100 * n
 
 by_utc : IsDevice noon 100 utc clock.reader_rules no_table
-by_utc = record { steady = record { few = omega arith; steady = record { least = λ n. omega arith; most = λ n. omega arith } }; sound = is_timeline; knows = inl true_table; short = omega arith }
+by_utc = record { steady = record { few = omega arith; steady = record { least = λ n. omega arith; most = λ n. omega arith } }; sound = is_timeline; knows = inl true_table }
 
 by_clocks : (now : ℕ) (pulses : List Pulse) → IsTrueLately 450 rules noon edges now pulses → IsTrueByItsClock 1000 450 100 rules noon utc now pulses
 by_clocks now pulses is = record { own = edges; steady = steady; near = λ n. record { least = omega arith; most = omega arith }; truth = is }
@@ -529,7 +529,7 @@ unfolding is_month_end four_years
 lies is = let none : Some leap.Insert ≡ None = is.leaps 6209 refl (omega arith) (omega arith) in cc
 
 short_holdover : IsDevice noon 100 edges (rules_for 57) false_table
-short_holdover = record { steady = steady; sound = is_timeline; knows = inr (omega arith); short = omega arith }
+short_holdover = record { steady = steady; sound = is_timeline; knows = inr (omega arith) }
 
 longer_holdover : ¬ IsDevice noon 100 edges (rules_for 58) false_table
 longer_holdover is = elim is.knows [

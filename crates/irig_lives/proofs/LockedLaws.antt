@@ -33,7 +33,7 @@ use Rattle.irig_lines.specs.declared.lines.Vote.{Vote}
 use Rattle.irig_lines.specs.Counting.{edges_own, edges_to_vote}
 use Rattle.irig_lines.specs.Steps.{settled, taken, agreed, if_come}
 use Rattle.irig_timekeeper.specs.Rule.{missed, step_behind, against_table, step_checked, goes_against}
-use Rattle.irig_timekeeper.specs.Clock.{bound_of, beat_by, step_to, after_vote, answer_to_vote, after_own, answer_alone, own_edge, clock_by, answer_by, settled_at, is_unsteady}
+use Rattle.irig_timekeeper.specs.Clock.{rules_on, bound_of, beat_by, step_to, after_vote, answer_to_vote, after_own, answer_alone, own_edge, clock_by, answer_by, settled_at, is_unsteady}
 use Rattle.irig_timekeeper.specs.Keeping.{Keeping, vote_at, after_tick, answer_at}
 use Rattle.irig_timekeeper.proofs.DoubtedSteps.{says_all}
 use Rattle.irig_timekeeper.proofs.EvenLaws.{dark_is_steady}
@@ -106,7 +106,7 @@ module _ (c : ClockRules) (table : TableValue) (s : ClockState) (u : UtcSecond) 
     | inr some ↦
         let is : Some (beat_by c s false (step_to c table s n None) (n - 1) (own_edge s.pace s.edge_us n) s.bound_us) ≡ Some beat = rw some at e in
         let same : beat_by c s false (step_to c table s n None) (n - 1) (own_edge s.pace s.edge_us n) s.bound_us ≡ beat = cc in
-        absurd (never_alone c.reader_rules table c.prefers_frames (missed c.prefers_frames c.reader_rules table (n - 1) s.reader) (ap (λ (b : Beat). b.report.lock) same ∙ ap (λ (r : Report). r.lock) says))
+        absurd (never_alone (rules_on c s.pace s.reader n) table c.prefers_frames (missed c.prefers_frames (rules_on c s.pace s.reader n) table (n - 1) s.reader) (ap (λ (b : Beat). b.report.lock) same ∙ ap (λ (r : Report). r.lock) says))
   ]
 
   left_voted : (v : Vote) (n : ℕ) → answer_to_vote c table s v n ≡ Some beat → IsLeft u beat (after_vote c table s v n)
@@ -116,7 +116,7 @@ module _ (c : ClockRules) (table : TableValue) (s : ClockState) (u : UtcSecond) 
     | inr some ↦
         let is : Some (beat_by c s (against_table table (Some v.claim)) (step_to c table s n (Some v.claim)) (n - 1) v.edge_us v.bound_us) ≡ Some beat = rw some at e in
         let same : beat_by c s (against_table table (Some v.claim)) (step_to c table s n (Some v.claim)) (n - 1) v.edge_us v.bound_us ≡ beat = cc in
-        let locked = voted_locks c.reader_rules table c.prefers_frames u (missed c.prefers_frames c.reader_rules table (n - 1) s.reader) v.claim (ap (λ (b : Beat). b.report.announce) same ∙ ap (λ (r : Report). r.announce) says) in
+        let locked = voted_locks (rules_on c s.pace s.reader n) table c.prefers_frames u (missed c.prefers_frames (rules_on c s.pace s.reader n) table (n - 1) s.reader) v.claim (ap (λ (b : Beat). b.report.announce) same ∙ ap (λ (r : Report). r.announce) says) in
         let none : v.bound_us + grown_us c.drift_us s.pace 0 ≡ v.bound_us = omega (arith, none_grown c.drift_us s.pace) in
         let bound : beat.bound_us ≡ v.bound_us =
         ap (λ (b : Beat). b.bound_us) (sym same)
@@ -157,8 +157,8 @@ pub record SaysAlone (k : Keeping) (clock e n : ℕ) (u : UtcSecond) : Type 0 wh
   pub bound : k.state.bound_us ≤ beat.bound_us
 
 pub says_alone : (k : Keeping) (clock e n : ℕ) (u : UtcSecond) (lines : Lines) → k.state.lines ≡ taken lines → k.state.edge_us ≡ Some e → k.state.doubt ≡ 0 → k.state.pace ≡ None → edges_own None (Some e) clock ≡ suc n
-    → (step_behind k.clock.prefers_frames k.clock.reader_rules k.table n k.state.reader None).report.announce ≡ Some u → SaysAlone k clock e n u
-says_alone k clock e n u lines dark edge certain plain count says =
+    → rules_on k.clock None k.state.reader (suc n) ≡ k.clock.reader_rules → (step_behind k.clock.prefers_frames k.clock.reader_rules k.table n k.state.reader None).report.announce ≡ Some u → SaysAlone k clock e n u
+says_alone k clock e n u lines dark edge certain plain count goes says =
     let s : ClockState = settled_at k.clock k.state clock in
     let none : vote_at k clock ≡ None = ap (λ (x : Lines). if_come clock (agreed k.clock (settled clock x))) dark in
     let nothing_learned : s.pace ≡ None = plain_settled k plain clock in
@@ -168,7 +168,11 @@ says_alone k clock e n u lines dark edge certain plain count says =
     let counted_on : answer_alone k.clock k.table s (suc n) ≡ Some (beat_by k.clock s false (step_to k.clock k.table s (suc n) None) (suc n - 1) (own_edge s.pace k.state.edge_us (suc n)) k.state.bound_us) = rw some refl in
     let steady : is_unsteady k.clock k.state clock ≡ false = dark_is_steady k clock lines dark in
     let nothing : s.doubt ≡ 0 = rw steady certain in
-    let step : (step_to k.clock k.table s (suc n) None).report.announce ≡ Some u = says_all s.doubt None (step_behind k.clock.prefers_frames k.clock.reader_rules k.table (suc n - 1) k.state.reader None).report.announce nothing ∙ ap (λ (m : ℕ). (step_behind k.clock.prefers_frames k.clock.reader_rules k.table m k.state.reader None).report.announce) less ∙ says in
+    let by : rules_on k.clock s.pace k.state.reader (suc n) ≡ k.clock.reader_rules = ap (λ (p : Option Pace). rules_on k.clock p k.state.reader (suc n)) nothing_learned ∙ goes in
+    let step : (step_to k.clock k.table s (suc n) None).report.announce ≡ Some u =
+    says_all s.doubt None (step_behind k.clock.prefers_frames (rules_on k.clock s.pace k.state.reader (suc n)) k.table (suc n - 1) k.state.reader None).report.announce nothing
+    ∙ ap (λ (r : ReaderRules). (step_behind k.clock.prefers_frames r k.table (suc n - 1) k.state.reader None).report.announce) by
+    ∙ ap (λ (m : ℕ). (step_behind k.clock.prefers_frames k.clock.reader_rules k.table m k.state.reader None).report.announce) less ∙ says in
     record {
       beat = beat_by k.clock s false (step_to k.clock k.table s (suc n) None) (suc n - 1) (own_edge s.pace k.state.edge_us (suc n)) k.state.bound_us;
       answer = ap (answer_by k.clock k.table s clock) none ∙ ap (answer_alone k.clock k.table s) so_many ∙ counted_on;

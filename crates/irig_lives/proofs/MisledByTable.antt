@@ -4,7 +4,9 @@
 use Rattle.irig_port.specs.Limits.{IsWithin}
 use Rattle.std.proofs.Common.{◌≡◌, ◌∙◌, ℕ, ◌+◌, ◌-◌, ◌*◌, ◌%◌, ◌^◌, ◌<◌, ◌≤◌, List, [], ◌∷◌, Option, Some, None, refl, sym, ap, subst, arith, inl, inr}
 use Rattle.std.specs.Prelude.{nat_lt, cond}
-use Rattle.std.proofs.lemmas.Bool.{lt-ltb, cases_lt}
+use Rattle.std.proofs.lemmas.Bool.{lt-ltb, le-ltb, cases_lt}
+use Rattle.irig_timekeeper.specs.Clock.{age_of, rules_on}
+use Rattle.irig_lines.specs.declared.pace.Pace.{Pace}
 use Rattle.irig_sync.specs.Lines.{Pulse, IsAfter}
 use Rattle.irig_time.specs.declared.second.UtcSecond.{UtcSecond}
 use Rattle.irig_time.specs.declared.rules.Rules.{Rules}
@@ -65,7 +67,7 @@ still_after : (ps : List Pulse) (now then : ℕ) → now ≤ then → IsAfter ps
 still_after [] now then later after = tt
 still_after (p ∷ ps) now then later after = omega (arith, later, after)
 
-module _ (rules : Rules) (clock : ClockRules) (range : IsReaderRules clock.reader_rules) (few : clock.drift_us ≤ 100) (short : (clock.reader_rules.holdover + 2) * clock.drift_us ≤ 490000) (plain : clock.wander_ppb ≡ 0) (long : 58 ≤ clock.reader_rules.holdover) (some : 1 ≤ clock.limits.limits.poor_from) (late : clock.limits.limits.not_before ≤ 30) where
+module _ (rules : Rules) (clock : ClockRules) (range : IsReaderRules clock.reader_rules) (few : clock.drift_us ≤ 100) (plain : clock.wander_ppb ≡ 0) (long : 58 ≤ clock.reader_rules.holdover) (some : 1 ≤ clock.limits.limits.poor_from) (late : clock.limits.limits.not_before ≤ 30) where
   abbrev locks : ℕ
   locks = clock.reader_rules.lock_after
 
@@ -89,7 +91,7 @@ module _ (rules : Rules) (clock : ClockRules) (range : IsReaderRules clock.reade
   lie_is = record { sound = rw (known_first_end, lt-ltb first 86399 (omega (arith, fits, range.lock_after.0))) refl }
 
   pub device : IsDevice lie clock.drift_us edges clock.reader_rules deletion
-  device = record { steady = steady clock.drift_us few; sound = lie_is; knows = inl (record { leaps = λ day end from to. refl }); short = short }
+  device = record { steady = steady clock.drift_us few; sound = lie_is; knows = inl (record { leaps = λ day end from to. refl }) }
 
   abbrev pub made : Made
   made = sent.made rules clock range deletion lie device
@@ -150,11 +152,11 @@ module _ (rules : Rules) (clock : ClockRules) (range : IsReaderRules clock.reade
   learns_none = record { off = plain; none = refl }
 
   -- where that leaves the device
-  stands : (now : ℕ) (s : State) (voted : ℕ) (o : Option ℕ) (e : ℕ) (h : HoldValue) → o ≡ Some e → s ≡ Locked h → h.last ≡ at (first + n) → h.age ≡ 0 → IsOnTrack lie edges 0 0 clock.drift_us 0 clock.reader_rules deletion now s voted o → IsAloneAt lie n 0 s
-  stands now s voted None e h edge is last age track = absurd cc
-  stands now s voted (Some x) e h edge is last age (inl idle) = let both : Locked h ≡ Idle = sym is ∙ idle.0 in absurd cc
-  stands now s voted (Some x) e h edge is last age (inr on) =
-      let sure = subst (λ (y : State). StandsAt lie edges 0 0 clock.drift_us 0 clock.reader_rules deletion now y voted x on.0 on.1) is on.2 in
+  stands : (now : ℕ) (s : State) (voted : ℕ) (pace : Option Pace) (o : Option ℕ) (e : ℕ) (h : HoldValue) → o ≡ Some e → s ≡ Locked h → h.last ≡ at (first + n) → h.age ≡ 0 → IsOnTrack lie edges 0 0 clock.drift_us 0 deletion now s voted pace o → IsAloneAt lie n 0 s
+  stands now s voted pace None e h edge is last age track = absurd cc
+  stands now s voted pace (Some x) e h edge is last age (inl idle) = let both : Locked h ≡ Idle = sym is ∙ idle.0 in absurd cc
+  stands now s voted pace (Some x) e h edge is last age (inr on) =
+      let sure = subst (λ (y : State). StandsAt lie edges 0 0 clock.drift_us 0 deletion now y voted pace x on.0 on.1) is on.2 in
       let there = subst (IsSecond lie on.0) last sure.truth.on_time.last in
       let same : on.0 ≡ n = omega (arith, there.sum, (second n (omega arith)).sum) in
       record { h = h; is = is; on_time = subst (λ (w : ℕ). IsOnTime lie w h) same sure.truth.on_time; age_is = age }
@@ -190,7 +192,7 @@ module _ (rules : Rules) (clock : ClockRules) (range : IsReaderRules clock.reade
       let track = (ticks rules clock deletion new_lines 9999000 are_new (IsTrueLately clock.within.us rules lie edges) lie edges 0 0 device (omega arith)
       (λ time half end pulses claim is frame soon. true_by_any clock rules lie clock.drift_us edges half time end pulses claim device.steady is frame soon) a.earlier a.now told.order told.truth (plain_steps edges 0 0 new 9999000 learns_none device.steady calls)).track in
       let dark : IsPlain k = stays_plain new learns_none calls in
-      let alone = stands a.now k.state.reader k.state.bound_us k.state.edge_us e left.h left.edge left.reader left.last left.age track in
+      let alone = stands a.now k.state.reader k.state.bound_us k.state.pace k.state.edge_us e left.h left.edge left.reader left.last left.age track in
       let many = (many_alone clock.reader_rules deletion lie lie_is (record { leaps = λ day end from to. refl }) clock.prefers_frames n 57 k.state.reader then_second alone (omega (arith, long)) then_seconds of_that_day).1 in
       let late : a.now ≤ now = omega (arith, told.at.soon) in
       let order : AreInOrder 9999000 clock.redundancy (Tick now ∷ calls) = (late, omega (arith, told.at.come), (λ line. still_after (pulses_on line a.earlier) (a.now + 4000) (now + 4000) (omega (arith, late)) (told.order.2 line)), told.order) in
@@ -201,7 +203,10 @@ module _ (rules : Rules) (clock : ClockRules) (range : IsReaderRules clock.reade
       let come : own_come None told.edge now ≡ 58 = omega arith in
       let count : edges_own None (Some e) (now % 2 ^ 32) ≡ 58 = own_count a.now now late (omega (arith, told.at.come)) e told.edge told.at None ∙ come in
       let certain = never_doubts lie edges made 9999000 calls (record { is = device; learns = inl plain; order = told.order; truth = told.truth }) in
-      let then = says_alone k (now % 2 ^ 32) e 57 new_month left.lines left.dark left.edge certain dark.none count says in
+      let young : age_of k.state.reader ≡ 0 = ap age_of left.reader ∙ left.age in
+      let unspent : (reader : State) → age_of reader ≡ 0 → rules_on clock None reader 58 ≡ clock.reader_rules = λ reader none. rw (none, le-ltb 490000 (0 * clock.drift_us + 58 * clock.drift_us) (omega (arith, few))) refl in
+      let goes : rules_on k.clock None k.state.reader 58 ≡ k.clock.reader_rules = subst (λ (c : ClockRules). rules_on c None k.state.reader 58 ≡ c.reader_rules) (sym setup.clock) (unspent k.state.reader young) in
+      let then = says_alone k (now % 2 ^ 32) e 57 new_month left.lines left.dark left.edge certain dark.none count goes says in
       let edge = own_edge_at a.now now late (omega (arith, told.at.come)) e told.edge told.at None none_sound 58 (sym come) (omega arith) in
       let same : told.m ≡ n = omega (arith, told.second.sum, (second n (omega arith)).sum) in
       let truths = truth_before (IsTrueLately clock.within.us rules truth edges) (f_of clock.redundancy) a.later calls
@@ -216,7 +221,6 @@ module _ (rules : Rules) (clock : ClockRules) (range : IsReaderRules clock.reade
         steady = steady clock.drift_us few;
         sound = truth_is;
         listed = rw known_first_end refl;
-        short = short;
         learns = inl plain;
         start = 9999000;
         calls = calls;

@@ -54,9 +54,9 @@ no_table = table 0 []
 pub true_table : (sod : ℕ) → IsTrueTable (from sod) no_table
 true_table sod = record { leaps = λ day end low high. absurd (omega (arith, low, high)) }
 
-module _ (rules : Rules) (clock : ClockRules) (range : IsReaderRules clock.reader_rules) (few : clock.drift_us ≤ 100) (short : (clock.reader_rules.holdover + 2) * clock.drift_us ≤ 490000) (some : 1 ≤ clock.limits.limits.poor_from) (late : clock.limits.limits.not_before ≤ 6205) where
+module _ (rules : Rules) (clock : ClockRules) (range : IsReaderRules clock.reader_rules) (few : clock.drift_us ≤ 100) (some : 1 ≤ clock.limits.limits.poor_from) (late : clock.limits.limits.not_before ≤ 6205) where
   pub device : IsDevice lie clock.drift_us edges clock.reader_rules no_table
-  device = record { steady = steady clock.drift_us few; sound = lie_is; knows = inl (true_table 43200); short = short }
+  device = record { steady = steady clock.drift_us few; sound = lie_is; knows = inl (true_table 43200) }
 
   abbrev pub made : Made
   made = sent.made rules clock range no_table lie device
@@ -86,7 +86,6 @@ module _ (rules : Rules) (clock : ClockRules) (range : IsReaderRules clock.reade
         steady = steady clock.drift_us few;
         sound = truth_is;
         listed = refl;
-        short = short;
         learns = sent.never_wanders clock;
         start = 9999000;
         calls = a.earlier;

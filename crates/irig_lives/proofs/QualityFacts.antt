@@ -142,7 +142,7 @@ abbrev clock_10 : ClockRules
 clock_10 = record { reader_rules = record { lock_after = 1; holdover = 100 }; redundancy = of.Three; within = within_of 10; limits = usual; drift_us = 1; wander_ppb = 0; delays = no_delays; prefers_frames = false }
 
 is_device_10 : IsDevice noon 1 edges_10 clock_10.reader_rules no_table
-is_device_10 = record { steady = steady_10; sound = is_device.sound; knows = is_device.knows; short = omega arith }
+is_device_10 = record { steady = steady_10; sound = is_device.sound; knows = is_device.knows }
 
 abbrev says_10 : List Symbol
 says_10 = saying 71
@@ -256,7 +256,7 @@ abbrev clock_450 : ClockRules
 clock_450 = record { reader_rules = record { lock_after = 1; holdover = 100 }; redundancy = of.Three; within = within_of 450; limits = usual; drift_us = 100; wander_ppb = 0; delays = no_delays; prefers_frames = false }
 
 is_device_450 : IsDevice noon 100 edges_450 clock_450.reader_rules no_table
-is_device_450 = record { steady = steady_450; sound = is_device.sound; knows = is_device.knows; short = omega arith }
+is_device_450 = record { steady = steady_450; sound = is_device.sound; knows = is_device.knows }
 
 abbrev says_450 : List Symbol
 says_450 = saying 72

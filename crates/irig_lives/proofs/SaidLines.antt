@@ -171,7 +171,7 @@ abbrev exact_clock : ClockRules
 exact_clock = record { reader_rules = record { lock_after = 1; holdover = 100 }; redundancy = of.Three; within = within_of 10; limits = usual; drift_us = 1; wander_ppb = 0; delays = no_delays; prefers_frames = false }
 
 by_counter : IsDevice noon 1 exact exact_clock.reader_rules no_table
-by_counter = record { steady = steady; sound = is_device.sound; knows = is_device.knows; short = omega arith }
+by_counter = record { steady = steady; sound = is_device.sound; knows = is_device.knows }
 
 abbrev exact_made : Made
 exact_made = record { rules = rules; clock = exact_clock; table = no_table; lines = new_lines; fresh = are_new }

@@ -61,7 +61,7 @@ abbrev clock : ClockRules
 clock = record { reader_rules = record { lock_after = 1; holdover = 100 }; redundancy = of.One; within = within_of 450; limits = usual; drift_us = 100; wander_ppb = 0; delays = no_delays; prefers_frames = false }
 
 by_counter : (edges : ℕ → ℕ) → IsQuartz 100 edges → IsDevice noon 100 edges clock.reader_rules no_table
-by_counter edges steady = record { steady = steady; sound = is_device.sound; knows = is_device.knows; short = is_device.short }
+by_counter edges steady = record { steady = steady; sound = is_device.sound; knows = is_device.knows }
 
 -- ---- the line: two frames
 

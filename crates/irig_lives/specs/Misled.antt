@@ -24,7 +24,6 @@ pub record IsMisled (t : TimelineValue) (made : Made) (untrue_lines : ℕ) : Typ
   pub steady : IsQuartz made.clock.drift_us edges
   pub sound : IsTimeline t
   pub listed : table_fault made.table.until made.table.leaps ≡ None
-  pub short : (made.clock.reader_rules.holdover + 2) * made.clock.drift_us ≤ most_held_us
   pub start : ℕ
   pub calls : List Call
   pub now : ℕ

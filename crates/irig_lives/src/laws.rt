@@ -166,13 +166,15 @@ pub fn a_device_tells_the_truth()
         → LivesTruly (IsTrueLately made.clock.within.us) t edges made start (Tick now ∷ calls)
         → answer_at (life_of made calls) (now % 2 ^ 32) ≡ Some beat
         → ¬ (beat.report.cause ≡ Cause.Jump) }
-    // A setup without a fault is one of these.
-    ensures setup { (rules : ReaderRules) (d : ℕ) → clock_fault rules d ≡ None
-        → (d ≤ most_drift_us) × ((rules.holdover + 2) * d ≤ most_held_us) }
-    // The bound is less than half a second.
-    ensures half { (t : TimelineValue) (d : ℕ) (edges : ℕ → ℕ) (rules : ReaderRules)
-        (table : TableValue) (far : ℕ) → IsDevice t d edges rules table → far ≤ rules.holdover
-        → most_vote_us + far * d < 500000 }
+    // The counter of a setup without a fault is no further off, and if nothing is learned of it the setup's
+    // holdover ends before an edge could lie 490 ms off.
+    ensures setup { (rules : ReaderRules) (d wander : ℕ) → clock_fault rules d wander ≡ None
+        → (d ≤ most_drift_us) × (wander ≡ 0 → (rules.holdover + 2) * d ≤ most_held_us) }
+    // Whatever lines carry, and however long the setup's holdover is, no bound is half a second.
+    ensures half { (made : Made) (now : ℕ) (calls : List Call) (beat : Beat)
+        → made.clock.drift_us ≤ most_drift_us
+        → answer_at (life_of made calls) (now % 2 ^ 32) ≡ Some beat
+        → beat.bound_us ≤ most_vote_us + most_held_us }
     // One tick, of any device that stands at the truth or has nothing to go on, and has learned nothing of
     // its counter.
     ensures tick { (t : TimelineValue) (edges : ℕ → ℕ) (k : Keeping) (last tick now : ℕ)
@@ -180,13 +182,13 @@ pub fn a_device_tells_the_truth()
         → k.state.pace ≡ None
         → IsDevice t k.clock.drift_us edges k.clock.reader_rules k.table → tick ≤ now
         → now ≤ tick + 1800000000
-        → IsOnTrack t edges 0 0 k.clock.drift_us last k.clock.reader_rules k.table tick
-        k.state.reader k.state.bound_us k.state.edge_us
+        → IsOnTrack t edges 0 0 k.clock.drift_us last k.table tick k.state.reader k.state.bound_us
+        k.state.pace k.state.edge_us
         → AreHeardTruly (IsTrueLately k.clock.within.us k.rules t edges now) k.clock
         k.rules (f_of k.clock.redundancy) now k.state.lines pulses
-        → IsOnTrack t edges 0 0 k.clock.drift_us last k.clock.reader_rules k.table now
+        → IsOnTrack t edges 0 0 k.clock.drift_us last k.table now
         (after_tick k (now % 2 ^ 32)).state.reader (after_tick k (now % 2 ^ 32)).state.bound_us
-        (after_tick k (now % 2 ^ 32)).state.edge_us }
+        (after_tick k (now % 2 ^ 32)).state.pace (after_tick k (now % 2 ^ 32)).state.edge_us }
 {}
 
 /// Votes do not stray: in every life in which at each tick all but at most f lines were true in the

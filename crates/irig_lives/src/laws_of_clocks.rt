@@ -77,9 +77,10 @@ pub fn clocks_off_tell_truly()
         → stamp_at (life_of made calls) (time % 2 ^ 32) ≡ Some stamp
         → IsStampedTruly t edges off time stamp }
     // The bound and `off` together are less than half a second.
-    ensures half { (t : TimelineValue) (d off : ℕ) (edges : ℕ → ℕ) (rules : ReaderRules)
-        (table : TableValue) (far : ℕ) → off ≤ 1000 → IsDevice t d edges rules table
-        → far ≤ rules.holdover → off + most_vote_us + far * d < 500000 }
+    ensures half { (made : Made) (off now : ℕ) (calls : List Call) (beat : Beat) → off ≤ 1000
+        → made.clock.drift_us ≤ most_drift_us
+        → answer_at (life_of made calls) (now % 2 ^ 32) ≡ Some beat
+        → off + beat.bound_us < 500000 }
     // A line that is true by the seconds of UTC is true by those of a clock that may be off.
     ensures right { (off d : ℕ) (within : Within) (rules : Rules) (t : TimelineValue) (edges : ℕ → ℕ)
         (now : ℕ) (pulses : List Pulse) → IsQuartz d edges

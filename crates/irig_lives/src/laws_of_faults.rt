@@ -99,10 +99,11 @@ pub fn lines_with_faults_tell_truly()
     ensures most { (within : Within) (d : ℕ) → d ≤ most_drift_us
         → (fault_early_us within.us d < 1100) × (fault_late_us within.us d ≤ 1000)
         × (fault_late_us within.us d ≤ fault_early_us within.us d) }
-    // The bound is less than half a second.
-    ensures half { (t : TimelineValue) (within : Within) (d : ℕ) (edges : ℕ → ℕ)
-        (rules : ReaderRules) (table : TableValue) (far : ℕ) → IsDevice t d edges rules table
-        → far ≤ rules.holdover → fault_early_us within.us d + most_vote_us + far * d < 500000 }
+    // The bound is less than half a second, and so it is with that.
+    ensures half { (made : Made) (now : ℕ) (calls : List Call) (beat : Beat)
+        → made.clock.drift_us ≤ most_drift_us
+        → answer_at (life_of made calls) (now % 2 ^ 32) ≡ Some beat
+        → fault_early_us made.clock.within.us made.clock.drift_us + beat.bound_us < 500000 }
     // A line may have faults that sends n frames, each of which carries the true claim of its second,
     // and nothing behind them.
     ensures lines { (rules : Rules) (t : TimelineValue) (n : ℕ) (frames : ℕ → List Symbol)

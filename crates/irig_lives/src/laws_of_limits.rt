@@ -19,7 +19,7 @@ use irig_time::Rules;
 /// that it tells.
 pub fn a_majority_misleads()
     ensures { (rules : Rules) (clock : ClockRules) → IsReaderRules clock.reader_rules
-        → clock_fault clock.reader_rules clock.drift_us ≡ None
+        → clock_fault clock.reader_rules clock.drift_us clock.wander_ppb ≡ None
         → 1 ≤ clock.limits.limits.poor_from → clock.limits.limits.not_before ≤ 6205
         → (t : TimelineValue) × (made : Made) × (made.rules ≡ rules) × (made.clock ≡ clock)
         × KnowsMonthEnds t clock.reader_rules made.table
@@ -33,7 +33,7 @@ pub fn a_majority_misleads()
 pub fn a_false_table_misleads()
     ensures { (rules : Rules) (clock : ClockRules) → IsReaderRules clock.reader_rules
         → clock.wander_ppb ≡ 0
-        → clock_fault clock.reader_rules clock.drift_us ≡ None → 58 ≤ clock.reader_rules.holdover
+        → clock_fault clock.reader_rules clock.drift_us clock.wander_ppb ≡ None → 58 ≤ clock.reader_rules.holdover
         → 1 ≤ clock.limits.limits.poor_from → clock.limits.limits.not_before ≤ 30
         → (t : TimelineValue) × (made : Made) × (made.rules ≡ rules) × (made.clock ≡ clock)
         × IsMisled t made (f_of clock.redundancy) }

@@ -18,9 +18,8 @@ use Rattle.irig_reader.specs.declared.rule.Step.{Step}
 use Rattle.irig_reader.specs.Rule.{count_step, first_vote_step, later_vote_step_by, locked_step, holdover_step, step_of}
 use Rattle.irig_time.specs.declared.claim.Claim.{Claim}
 use Rattle.irig_reader.specs.declared.rule.Step.{Step}
-use Rattle.irig_timekeeper.specs.Clock.{lasted}
-use Rattle.irig_timekeeper.specs.Rule.{missed, step_checked}
-use Rattle.irig_timekeeper.specs.Truth.{age_of}
+use Rattle.irig_timekeeper.specs.Clock.{age_of, lasted}
+use Rattle.irig_timekeeper.specs.Rule.{missed, step_behind, step_checked}
 use Rattle.irig_timekeeper.proofs.CheckedSteps.{checked_cases}
 
 -- a step without a vote: silent and with nothing to go on, or locked and one edge older
@@ -71,55 +70,64 @@ module _ (prefers : Bool) (rules : ReaderRules) (table : TableValue) where
 
   -- ---- how long a holdover has lasted, whatever the vote
 
-  counted_lasts : (h : HoldValue) (count : ℕ) → lasted (count_step rules h count).report.lock ≤ rules.holdover
-  counted_lasts h count = elim (cases_Bool (count == rules.lock_after)) [
-    | inl enough ↦ rw enough (omega arith)
-    | inr more ↦ rw more (omega arith)
-  ]
+  module _ (most : ℕ) where
+    counted_lasts : (h : HoldValue) (count : ℕ) → lasted (count_step rules h count).report.lock ≤ most
+    counted_lasts h count = elim (cases_Bool (count == rules.lock_after)) [
+      | inl enough ↦ rw enough (omega arith)
+      | inr more ↦ rw more (omega arith)
+    ]
 
-  first_lasts : (o : Result HoldValue Turn) → lasted (first_vote_step rules o).report.lock ≤ rules.holdover
-  first_lasts (Ok h) = counted_lasts h 1
-  first_lasts (Err stop) = omega arith
+    first_lasts : (o : Result HoldValue Turn) → lasted (first_vote_step rules o).report.lock ≤ most
+    first_lasts (Ok h) = counted_lasts h 1
+    first_lasts (Err stop) = omega arith
 
-  later_lasts : (count : ℕ) (anew : Step) (answer : Turn) (h : HoldValue) → lasted anew.report.lock ≤ rules.holdover → lasted (later_vote_step_by rules count anew answer h).report.lock ≤ rules.holdover
-  later_lasts count anew (turn.Now u) h e = counted_lasts h (count + 1)
-  later_lasts count anew turn.Jump h e = e
-  later_lasts count anew turn.LeapGuard h e = omega arith
-  later_lasts count anew turn.Expired h e = omega arith
-  later_lasts count anew turn.RangeEnd h e = omega arith
+    later_lasts : (count : ℕ) (anew : Step) (answer : Turn) (h : HoldValue) → lasted anew.report.lock ≤ most → lasted (later_vote_step_by rules count anew answer h).report.lock ≤ most
+    later_lasts count anew (turn.Now u) h e = counted_lasts h (count + 1)
+    later_lasts count anew turn.Jump h e = e
+    later_lasts count anew turn.LeapGuard h e = omega arith
+    later_lasts count anew turn.Expired h e = omega arith
+    later_lasts count anew turn.RangeEnd h e = omega arith
 
-  voted_lasts : (answer : Turn) (h : HoldValue) → lasted (locked_step lock.Locked cause.Voted answer h).report.lock ≤ rules.holdover
-  voted_lasts (turn.Now u) h = omega arith
-  voted_lasts turn.LeapGuard h = omega arith
-  voted_lasts turn.Expired h = omega arith
-  voted_lasts turn.RangeEnd h = omega arith
-  voted_lasts turn.Jump h = omega arith
+    voted_lasts : (answer : Turn) (h : HoldValue) → lasted (locked_step lock.Locked cause.Voted answer h).report.lock ≤ most
+    voted_lasts (turn.Now u) h = omega arith
+    voted_lasts turn.LeapGuard h = omega arith
+    voted_lasts turn.Expired h = omega arith
+    voted_lasts turn.RangeEnd h = omega arith
+    voted_lasts turn.Jump h = omega arith
 
-  alone_lasts : (answer : Turn) (h new : HoldValue) → ((u : UtcSecond) → answer ≡ turn.Now u → new.age ≤ rules.holdover) → lasted (locked_step (lock.Holdover new.age) cause.Held answer h).report.lock ≤ rules.holdover
-  alone_lasts (turn.Now u) h new few = few u refl
-  alone_lasts turn.LeapGuard h new few = omega arith
-  alone_lasts turn.Expired h new few = omega arith
-  alone_lasts turn.RangeEnd h new few = omega arith
-  alone_lasts turn.Jump h new few = omega arith
+    alone_lasts : (answer : Turn) (h new : HoldValue) → ((u : UtcSecond) → answer ≡ turn.Now u → new.age ≤ most) → lasted (locked_step (lock.Holdover new.age) cause.Held answer h).report.lock ≤ most
+    alone_lasts (turn.Now u) h new few = few u refl
+    alone_lasts turn.LeapGuard h new few = omega arith
+    alone_lasts turn.Expired h new few = omega arith
+    alone_lasts turn.RangeEnd h new few = omega arith
+    alone_lasts turn.Jump h new few = omega arith
 
-  stepped_lasts : (h : HoldValue) (mark : Mark) (o : Option UtcSecond) → h.age < rules.holdover → lasted (holdover_step (outcome_of h (hold_or_stop h.last (h.age + 1) mark o))).report.lock ≤ rules.holdover
-  stepped_lasts h mark None young = alone_lasts (stop_on h.last.day) h h (λ u e. absurd (no_step h.last.day u e))
-  stepped_lasts h mark (Some u) young = omega (arith, young)
+    stepped_lasts : (h : HoldValue) (mark : Mark) (o : Option UtcSecond) → h.age + 1 ≤ most → lasted (holdover_step (outcome_of h (hold_or_stop h.last (h.age + 1) mark o))).report.lock ≤ most
+    stepped_lasts h mark None young = alone_lasts (stop_on h.last.day) h h (λ u e. absurd (no_step h.last.day u e))
+    stepped_lasts h mark (Some u) young = omega (arith, young)
 
-  rule_lasts : (s : State) (vote : Option Claim) → lasted (step_of rules table s vote).report.lock ≤ rules.holdover
-  unfolding step_of
-  rule_lasts Idle None = omega arith
-  rule_lasts (Acquiring h count) None = omega arith
-  rule_lasts Idle (Some c) = first_lasts (hold_start table c)
-  rule_lasts (Acquiring h count) (Some c) = later_lasts count (first_vote_step rules (hold_start table c)) (voted_by table h c).answer (voted_by table h c).new (first_lasts (hold_start table c))
-  rule_lasts (Locked h) (Some c) = voted_lasts (voted_by table h c).answer (voted_by table h c).new
-  rule_lasts (Locked h) None = elim (cases_Bool (nat_le rules.holdover h.age)) [
-    | inl long ↦ rw long (omega arith)
-    | inr short ↦ rw short (stepped_lasts h h.heard (next_of h.last (spoken_mark table h.heard h.last.day)) (leb-false rules.holdover h.age short))
-  ]
+    rule_lasts : (s : State) (vote : Option Claim) → (age_of s < rules.holdover → age_of s + 1 ≤ most) → lasted (step_of rules table s vote).report.lock ≤ most
+    unfolding step_of
+    rule_lasts Idle None young = omega arith
+    rule_lasts (Acquiring h count) None young = omega arith
+    rule_lasts Idle (Some c) young = first_lasts (hold_start table c)
+    rule_lasts (Acquiring h count) (Some c) young = later_lasts count (first_vote_step rules (hold_start table c)) (voted_by table h c).answer (voted_by table h c).new (first_lasts (hold_start table c))
+    rule_lasts (Locked h) (Some c) young = voted_lasts (voted_by table h c).answer (voted_by table h c).new
+    rule_lasts (Locked h) None young = elim (cases_Bool (nat_le rules.holdover h.age)) [
+      | inl long ↦ rw long (omega arith)
+      | inr short ↦ rw short (stepped_lasts h h.heard (next_of h.last (spoken_mark table h.heard h.last.day)) (young (leb-false rules.holdover h.age short)))
+    ]
 
+    step_lasts_by : (s : State) (vote : Option Claim) → (age_of s < rules.holdover → age_of s + 1 ≤ most) → lasted (step_checked prefers rules table s vote).report.lock ≤ most
+    step_lasts_by s vote young = checked_cases prefers rules table s vote (λ step. lasted step.report.lock ≤ most) (rule_lasts s vote young) (omega arith)
+
+  -- no longer than it may
   pub step_lasts : (s : State) (vote : Option Claim) → lasted (step_checked prefers rules table s vote).report.lock ≤ rules.holdover
-  step_lasts s vote = checked_cases prefers rules table s vote (λ step. lasted step.report.lock ≤ rules.holdover) (rule_lasts s vote) (omega arith)
+  step_lasts s vote = step_lasts_by rules.holdover s vote (λ young. omega (arith, young))
+
+  -- and one edge more than before
+  step_ages : (s : State) (vote : Option Claim) → lasted (step_checked prefers rules table s vote).report.lock ≤ age_of s + 1
+  step_ages s vote = step_lasts_by (age_of s + 1) s vote (λ young. omega arith)
 
   -- one more or several
   abbrev IsGone : ℕ → State → Type 0
@@ -155,3 +163,15 @@ module _ (prefers : Bool) (rules : ReaderRules) (table : TableValue) where
   pub missed_idle : (n : ℕ) (s : State) → s ≡ Idle → missed prefers rules table n s ≡ Idle
   missed_idle zero s e = e
   missed_idle (suc n) s e = ap (λ (x : State). (step_checked prefers rules table x None).state) (missed_idle n s e) ∙ idle_stays
+
+  -- behind so many it has lasted for these at most
+  missed_ages : (n : ℕ) (s : State) → age_of (missed prefers rules table n s) ≤ age_of s + n
+  missed_ages zero s = omega arith
+  missed_ages (suc n) s = by (gone n s)
+    where
+      by : IsGone (age_of s + suc n) (missed prefers rules table (suc n) s) → age_of (missed prefers rules table (suc n) s) ≤ age_of s + suc n
+      by (inl idle) = let none : age_of (missed prefers rules table (suc n) s) ≡ 0 = ap age_of idle in omega (arith, none)
+      by (inr older) = let same : age_of (missed prefers rules table (suc n) s) ≡ older.h.age = ap age_of older.is in omega (arith, same, older.older)
+
+  pub behind_ages : (n : ℕ) (s : State) (vote : Option Claim) → lasted (step_behind prefers rules table n s vote).report.lock ≤ age_of s + n + 1
+  behind_ages n s vote = omega (arith, step_ages (missed prefers rules table n s) vote, missed_ages n s)

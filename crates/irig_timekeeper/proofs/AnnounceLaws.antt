@@ -24,7 +24,7 @@ use Rattle.irig_lines.specs.Widths.{vote_us}
 use Rattle.irig_lines.specs.Counting.{edges_to_vote, edges_own}
 use Rattle.irig_timekeeper.specs.Rule.{missed, against_table, step_behind}
 use Rattle.irig_lines.specs.Steps.{is_pulse, settled, agreed, if_come}
-use Rattle.irig_timekeeper.specs.Clock.{knowing_vote, learning, step_to, beat_by, after_vote, answer_to_vote, after_own, clock_by, answer_by, settled_at}
+use Rattle.irig_timekeeper.specs.Clock.{knowing_vote, learning, step_to, beat_by, after_vote, answer_to_vote, after_own, clock_by, answer_by, settled_at, rules_on}
 use Rattle.irig_timekeeper.specs.Keeping.{Keeping, vote_at, after_pulse, after_tick, answer_at}
 use Rattle.irig_timekeeper.specs.Truth.{IsEdgeAt, IsDevice, FollowsTruth}
 use Rattle.irig_timekeeper.specs.Life.{Call, after_calls, pulses_on, last_tick, HaveRisen, AreInOrder, AreTrueLately, AreTrueOver}
@@ -34,7 +34,8 @@ use Rattle.irig_lines.proofs.CountingLaws.{counts}
 use Rattle.irig_lines.specs.declared.pace.Pace.{Pace}
 use Rattle.irig_timekeeper.proofs.TimeLaws.{none_before, own_come, own_count, still_edge, voted_count}
 use Rattle.irig_timekeeper.proofs.VoteLaws.{vote_is_true}
-use Rattle.irig_timekeeper.proofs.LockLaws.{IsLed, step_led, missed_led}
+use Rattle.irig_timekeeper.proofs.LockLaws.{IsLed, led_on}
+use Rattle.irig_timekeeper.proofs.SpentLaws.{same_vote}
 use Rattle.irig_timekeeper.proofs.LifeLaws.{AreLinesAt, lines_after, TellAlwaysTruly, heard_truly, order_before}
 use Rattle.irig_timekeeper.proofs.OrderLaws.{IsSetByVote, set_before, votes_apart, edge_of}
 use Rattle.irig_timekeeper.proofs.FrameLaws.{HaveNoVotes, whole_kept}
@@ -96,7 +97,7 @@ voted k clock v e = of (vote_at k clock) e
 
 -- a tick leaves the reader, or steps on by some edges and a vote, or none
 abbrev Stepped : ClockRules → TableValue → State → State → Type 0
-Stepped c table old new = (new ≡ old) ⊎ ((n : ℕ) × (vote : Option Claim) × (new ≡ (step_behind c.prefers_frames c.reader_rules table n old vote).state))
+Stepped c table old new = (new ≡ old) ⊎ ((n : ℕ) × (vote : Option Claim) × (pace : Option Pace) × (edges : ℕ) × (new ≡ (step_behind c.prefers_frames (rules_on c pace old edges) table n old vote).state))
 
 stepped : (k : Keeping) (clock : ℕ) → Stepped k.clock k.table k.state.reader (after_tick k clock).state.reader
 stepped k clock = of (vote_at k clock)
@@ -106,11 +107,11 @@ stepped k clock = of (vote_at k clock)
 
     own : (n : ℕ) (test : Bool) → (n == 0) ≡ test → Stepped k.clock k.table k.state.reader (after_own k.clock k.table s n).reader
     own n true e = rw e (inl refl)
-    own n false e = rw e (inr (n - 1, None, refl))
+    own n false e = rw e (inr (n - 1, None, s.pace, n, refl))
 
     by_vote : (v : Vote) (n : ℕ) (test : Bool) → (n == 0) ≡ test → Stepped k.clock k.table k.state.reader (after_vote k.clock k.table s v n).reader
     by_vote v n true e = rw e (inl refl)
-    by_vote v n false e = rw e (inr (n - 1, Some v.claim, refl))
+    by_vote v n false e = rw e (inr (n - 1, Some v.claim, s.pace, n, refl))
 
     of : (o : Option Vote) → Stepped k.clock k.table k.state.reader (clock_by k.clock k.table s clock o).reader
     of None = own (edges_own (settled_at k.clock k.state clock).pace k.state.edge_us clock) _ refl
@@ -274,18 +275,19 @@ module _ (IsTrue : ℕ → List Pulse → Type 0) (t : TimelineValue) (edges : �
     voted_at : IsVotedAt m votes calls
 
   -- a tick leads on
-  leads : (k : Keeping) (n : ℕ) (vote : Option Claim) → k.clock ≡ new.clock → k.table ≡ new.table → IsLed new.clock.reader_rules new.table k.state.reader → IsLed new.clock.reader_rules new.table (step_behind k.clock.prefers_frames k.clock.reader_rules k.table n k.state.reader vote).state
-  leads k n vote clock table led =
-      subst (λ (c : ClockRules). IsLed new.clock.reader_rules new.table (step_behind c.prefers_frames c.reader_rules k.table n k.state.reader vote).state) (sym clock)
-      (subst (λ (x : TableValue). IsLed new.clock.reader_rules new.table (step_behind new.clock.prefers_frames new.clock.reader_rules x n k.state.reader vote).state) (sym table)
-      (step_led new.clock.reader_rules new.table new.clock.prefers_frames (missed new.clock.prefers_frames new.clock.reader_rules new.table n k.state.reader) vote
-      (missed_led new.clock.reader_rules new.table new.clock.prefers_frames n k.state.reader led)))
+  leads : (k : Keeping) (n : ℕ) (vote : Option Claim) (pace : Option Pace) (edges : ℕ) → k.clock ≡ new.clock → k.table ≡ new.table → IsLed new.clock.reader_rules new.table k.state.reader
+      → IsLed new.clock.reader_rules new.table (step_behind k.clock.prefers_frames (rules_on k.clock pace k.state.reader edges) k.table n k.state.reader vote).state
+  leads k n vote pace edges clock table led =
+      subst (λ (c : ClockRules). IsLed new.clock.reader_rules new.table (step_behind c.prefers_frames (rules_on c pace k.state.reader edges) k.table n k.state.reader vote).state) (sym clock)
+      (subst (λ (x : TableValue). IsLed new.clock.reader_rules new.table (step_behind new.clock.prefers_frames (rules_on new.clock pace k.state.reader edges) x n k.state.reader vote).state) (sym table)
+      (led_on new.clock pace k.state.reader edges new.clock.prefers_frames new.table n k.state.reader vote led))
 
   -- one more true vote is the rule's
-  step_reads : (k : Keeping) (m : ℕ) (votes : List (Option Claim)) (v : Vote) → k.clock ≡ new.clock → k.table ≡ new.table → Reads votes k.state.reader → truth_at t m ≡ Some v.claim
-      → step_behind k.clock.prefers_frames k.clock.reader_rules k.table 0 k.state.reader (Some v.claim) ≡ step_of new.clock.reader_rules new.table (state_of new.clock.reader_rules new.table votes) (Some v.claim)
-  step_reads k m votes v clock table reads truth =
-      ap (λ (c : ClockRules). step_behind c.prefers_frames c.reader_rules k.table 0 k.state.reader (Some v.claim)) clock
+  step_reads : (k : Keeping) (m : ℕ) (votes : List (Option Claim)) (v : Vote) (pace : Option Pace) → k.clock ≡ new.clock → k.table ≡ new.table → Reads votes k.state.reader → truth_at t m ≡ Some v.claim
+      → step_behind k.clock.prefers_frames (rules_on k.clock pace k.state.reader 1) k.table 0 k.state.reader (Some v.claim) ≡ step_of new.clock.reader_rules new.table (state_of new.clock.reader_rules new.table votes) (Some v.claim)
+  step_reads k m votes v pace clock table reads truth =
+      same_vote k.clock pace k.state.reader 1 k.clock.prefers_frames k.table k.state.reader v.claim
+      ∙ ap (λ (c : ClockRules). step_behind c.prefers_frames c.reader_rules k.table 0 k.state.reader (Some v.claim)) clock
       ∙ ap (λ (x : TableValue). step_behind new.clock.prefers_frames new.clock.reader_rules x 0 k.state.reader (Some v.claim)) table
       ∙ passes_truth t new.clock.prefers_frames new.clock.reader_rules new.table follows m k.state.reader v.claim truth
       ∙ ap (λ (s : State). step_of new.clock.reader_rules new.table s (Some v.claim)) reads
@@ -299,7 +301,7 @@ module _ (IsTrue : ℕ → List Pulse → Type 0) (t : TimelineValue) (edges : �
         | inl waits ↦ by reached.votes (left.none (eqb-true n 0 waits) ∙ reached.reads) left.edge
         | inr more ↦
             let some : 1 ≤ n = (let apart = eqb-false n 0 more in omega (arith, apart)) in
-            let led = leads k (n - 1) (Some v.claim) (same_clock calls now order) (same_table calls now order) reached in
+            let led = leads k (n - 1) (Some v.claim) (settled_at k.clock k.state (now % 2 ^ 32)).pace n (same_clock calls now order) (same_table calls now order) reached in
             by led.votes (left.some some ∙ led.reads) left.edge
       ]
     where
@@ -332,7 +334,7 @@ module _ (IsTrue : ℕ → List Pulse → Type 0) (t : TimelineValue) (edges : �
       let told = left.tells some in
       let same : m + 1 - 1 ≡ m = omega arith in
       let claim : Some v.claim ≡ truth_at t m = sym vote.claim ∙ ap (truth_at t) same in
-      let rule = step_reads k m votes v (same_clock calls now order) (same_table calls now order) at.reads (sym claim) in
+      let rule = step_reads k m votes v (settled_at k.clock k.state (now % 2 ^ 32)).pace (same_clock calls now order) (same_table calls now order) at.reads (sym claim) in
       record {
         voted_at = record {
           e = v.edge_us;
@@ -341,13 +343,13 @@ module _ (IsTrue : ℕ → List Pulse → Type 0) (t : TimelineValue) (edges : �
           at = vote.at;
           near = vote.near;
           set = set_here vote.V now calls v is_voted vote.at;
-          reads = left.some some ∙ ap (λ (x : ℕ). (step_to k.clock k.table (settled_at k.clock k.state 0) x (Some v.claim)).state) one ∙ ap (λ (x : Step). x.state) rule ∙ ap (λ (o : Option Claim). state_of new.clock.reader_rules new.table (o ∷ votes)) claim;
+          reads = left.some some ∙ ap (λ (x : ℕ). (step_to k.clock k.table (settled_at k.clock k.state (now % 2 ^ 32)) x (Some v.claim)).state) one ∙ ap (λ (x : Step). x.state) rule ∙ ap (λ (o : Option Claim). state_of new.clock.reader_rules new.table (o ∷ votes)) claim;
         };
         beat = told.0;
         answer = told.1;
         report =
             told.2
-            ∙ ap (λ (x : ℕ). (step_to k.clock k.table (settled_at k.clock k.state 0) x (Some v.claim)).report) one
+            ∙ ap (λ (x : ℕ). (step_to k.clock k.table (settled_at k.clock k.state (now % 2 ^ 32)) x (Some v.claim)).report) one
             ∙ ap (λ (x : Step). x.report) rule
             ∙ ap (λ (o : Option Claim). report_of new.clock.reader_rules new.table o votes) claim;
       }
@@ -433,8 +435,8 @@ module _ (IsTrue : ℕ → List Pulse → Type 0) (t : TimelineValue) (edges : �
         by : IsReached calls → Stepped (after_calls new calls).clock (after_calls new calls).table (state calls).reader (state (Tick now ∷ calls)).reader → IsReached (Tick now ∷ calls)
         by before (inl same) = record { votes = before.votes; reads = same ∙ before.reads }
         by before (inr step) =
-            let led = leads (after_calls new calls) step.0 step.1 (same_clock calls now order) (same_table calls now order) before in
-            record { votes = led.votes; reads = step.2 ∙ led.reads }
+            let led = leads (after_calls new calls) step.0 step.1 step.2 step.3 (same_clock calls now order) (same_table calls now order) before in
+            record { votes = led.votes; reads = step.4 ∙ led.reads }
 
     walk_first : (m : ℕ) (older later : List Call) → AreInOrder start new.clock.redundancy (later ++ older) → AreTrueOver IsTrue f later older → last_tick start (later ++ older) ≤ edges m + 3000 → HaveNoVotes new (edges m - 17000) later older ⊎ IsFirstVoted m (later ++ older)
     walk_first m older [] order truth early = inl tt

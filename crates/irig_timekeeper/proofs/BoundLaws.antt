@@ -1,7 +1,8 @@
 -- How far off an edge may lie that a device tells, by what it says, whatever lines carry.
 use Rattle.std.specs.Prelude.{◌==◌, ◌&&◌, count_by, nat_lt, min}
 use Rattle.std.proofs.Common.{◌≡◌, ◌∙◌, ℕ, ◌+◌, ◌-◌, ◌*◌, ◌%◌, ◌^◌, ◌≤◌, Bool, true, false, cond, List, [], ◌∷◌, Option, Some, None, refl, sym, ap, subst, arith, inl, inr}
-use Rattle.std.proofs.lemmas.Bool.{cases_Bool, cases_lt}
+use Rattle.std.proofs.lemmas.Bool.{cases_Bool, cases_lt, eqb-false}
+use Rattle.irig_time.specs.declared.claim.Claim.{Claim}
 use Rattle.irig_reader.specs.declared.rule.Step.{Step}
 use Rattle.irig_lines.specs.declared.lines.KeptClaim.{KeptClaim}
 use Rattle.irig_lines.specs.declared.lines.Lines.{Lines}
@@ -15,11 +16,13 @@ use Rattle.irig_lines.specs.Counting.{edges_to_vote, edges_own}
 use Rattle.irig_timekeeper.specs.Rule.{missed, against_table}
 use Rattle.irig_lines.specs.Steps.{is_pulse, all_kept, ends_by, ends_from, ends_near, begins_near, last_behind, first_before, less_behind, less_before, least_behind, least_before, agreed, settled}
 use Rattle.irig_lines.proofs.PaceLaws.{grown_most}
-use Rattle.irig_timekeeper.specs.Clock.{after_own, after_vote, answer_alone, answer_to_vote, lasted, bound_of, own_edge, beat_by, step_to, clock_by, answer_by, settled_at}
+use Rattle.irig_lines.specs.Paces.{grown_us}
+use Rattle.irig_timekeeper.specs.Clock.{after_own, after_vote, answer_alone, answer_to_vote, lasted, bound_of, knowing, knowing_vote, learning, own_edge, beat_by, rules_on, step_to, clock_by, answer_by, settled_at}
 use Rattle.irig_timekeeper.specs.Keeping.{Keeping, vote_at, after_tick, answer_at}
 use Rattle.irig_timekeeper.specs.Life.{Call, after_calls}
 use Rattle.irig_timekeeper.specs.Life.Call.{Hear, Tick}
 use Rattle.irig_timekeeper.proofs.AgeLaws.{step_lasts}
+use Rattle.irig_timekeeper.proofs.SpentLaws.{held_small, no_longer}
 use Rattle.irig_lines.proofs.PartLaws.{agreed_first}
 use Rattle.irig_timekeeper.proofs.VoteLaws.{come}
 
@@ -58,11 +61,12 @@ vote_bound c lines v e =
 -- ---- a tick
 
 -- the last vote's bound is no more than a vote's, and so is what is told, but for the drift of the edges
--- that the holdover has lasted
+-- that the holdover has lasted, and for 490 ms
 pub record HasBound (c : ClockRules) (new : ClockState) (answer : Option Beat) : Type 0 where
   pub voted : new.bound_us ≤ vote_us c c.drift_us
   pub bound : (b : Beat) → answer ≡ Some b → b.bound_us ≤ vote_us c c.drift_us + lasted b.report.lock * c.drift_us
   pub few : (b : Beat) → answer ≡ Some b → lasted b.report.lock ≤ c.reader_rules.holdover
+  pub small : (b : Beat) → answer ≡ Some b → b.bound_us ≤ vote_us c c.drift_us + 490000
 
 module _ (k : Keeping) (clock : ℕ) where
   abbrev s : ClockState
@@ -71,36 +75,44 @@ module _ (k : Keeping) (clock : ℕ) where
   abbrev most : ℕ
   most = vote_us k.clock k.clock.drift_us
 
-  -- whether it tells an edge or not
-  either : (test : Bool) (waits tells : ClockState) (against : Bool) (step : Step) (n edge voted : ℕ) → voted ≤ most → waits.bound_us ≡ voted → tells.bound_us ≡ voted → lasted step.report.lock ≤ k.clock.reader_rules.holdover
-      → HasBound k.clock (cond test waits tells) (cond test None (Some (beat_by k.clock s against step n edge voted)))
-  either true waits tells against step n edge voted low same then few = record { voted = omega (arith, same, low); bound = λ b e. absurd cc; few = λ b e. absurd cc }
-  either false waits tells against step n edge voted low same then few = record {
+  -- where it tells no edge
+  waits : (new : ClockState) → new.bound_us ≤ most → HasBound k.clock new None
+  waits new low = record { voted = low; bound = λ b e. absurd cc; few = λ b e. absurd cc; small = λ b e. absurd cc }
+
+  -- and where it tells one, to which so many seconds were counted
+  tells : (n : ℕ) → 1 ≤ n → (against : Bool) (vote : Option Claim) (edge voted : ℕ) (new : ClockState) → voted ≤ most → new.bound_us ≡ voted → HasBound k.clock new (Some (beat_by k.clock s against (step_to k.clock k.table s n vote) (n - 1) edge voted))
+  tells n some against vote edge voted new low then = record {
     voted = omega (arith, then, low);
-    bound = λ b e.
-        let beat : beat_by k.clock s against step n edge voted ≡ b = cc in
-        let bound : b.bound_us ≡ bound_of k.clock.drift_us s.pace voted b.report.lock = ap (λ (x : Beat). x.bound_us) (sym beat) ∙ ap (λ (x : Beat). bound_of k.clock.drift_us s.pace voted x.report.lock) beat in
-        omega (arith, bound, low, grown_most k.clock.drift_us s.pace (lasted b.report.lock));
-    few = λ b e. let beat : beat_by k.clock s against step n edge voted ≡ b = cc in subst (λ (x : Beat). lasted x.report.lock ≤ k.clock.reader_rules.holdover) beat few;
+    bound = λ b e. omega (arith, is_bound b e, low, grown_most k.clock.drift_us s.pace (lasted b.report.lock));
+    few = λ b e.
+        let lasts = step_lasts k.clock.prefers_frames (rules_on k.clock s.pace k.state.reader n) k.table (missed k.clock.prefers_frames (rules_on k.clock s.pace k.state.reader n) k.table (n - 1) k.state.reader) vote in
+        subst (λ (x : Beat). lasted x.report.lock ≤ k.clock.reader_rules.holdover) (is_beat b e) (omega (arith, lasts, no_longer k.clock s.pace k.state.reader n));
+    small = λ b e.
+        let held = held_small k.clock s.pace k.state.reader n k.clock.prefers_frames k.table vote some in
+        let bound = subst (λ (x : Beat). grown_us k.clock.drift_us s.pace (lasted x.report.lock) ≤ 490000) (is_beat b e) held in
+        omega (arith, is_bound b e, low, bound);
   }
+    where
+      is_beat : (b : Beat) → Some (beat_by k.clock s against (step_to k.clock k.table s n vote) (n - 1) edge voted) ≡ Some b → beat_by k.clock s against (step_to k.clock k.table s n vote) (n - 1) edge voted ≡ b
+      is_beat b e = cc
+
+      is_bound : (b : Beat) → Some (beat_by k.clock s against (step_to k.clock k.table s n vote) (n - 1) edge voted) ≡ Some b → b.bound_us ≡ bound_of k.clock.drift_us s.pace voted b.report.lock
+      is_bound b e = ap (λ (x : Beat). x.bound_us) (sym (is_beat b e)) ∙ ap (λ (x : Beat). bound_of k.clock.drift_us s.pace voted x.report.lock) (is_beat b e)
 
   pub tick_bound : k.state.bound_us ≤ most → HasBound k.clock (after_tick k clock).state (answer_at k clock)
   tick_bound low = of (vote_at k clock) refl
     where
+      own : (n : ℕ) (test : Bool) → (n == 0) ≡ test → HasBound k.clock (knowing k.clock s n (after_own k.clock k.table s n)) (answer_alone k.clock k.table s n)
+      own n true none = rw none (waits _ low)
+      own n false some = rw some (tells n (let more = eqb-false n 0 some in omega (arith, more)) false None (own_edge s.pace k.state.edge_us n) k.state.bound_us _ low refl)
+
+      voted : (v : Vote) → v.bound_us ≤ most → (n : ℕ) (test : Bool) → (n == 0) ≡ test → HasBound k.clock (learning k.clock (knowing_vote k.clock s v n (after_vote k.clock k.table s v n))) (answer_to_vote k.clock k.table s v n)
+      voted v small n true none = rw none (waits _ small)
+      voted v small n false some = rw some (tells n (let more = eqb-false n 0 some in omega (arith, more)) (against_table k.table (Some v.claim)) (Some v.claim) v.edge_us v.bound_us _ small refl)
+
       of : (o : Option Vote) → vote_at k clock ≡ o → HasBound k.clock (clock_by k.clock k.table s clock o) (answer_by k.clock k.table s clock o)
-      of None e =
-          let n = edges_own s.pace k.state.edge_us clock in
-          let h : HasBound k.clock (after_own k.clock k.table s n) (answer_alone k.clock k.table s n) =
-          either (n == 0) _ _ false (step_to k.clock k.table s n None) (n - 1) (own_edge s.pace k.state.edge_us n) k.state.bound_us low refl refl
-          (step_lasts k.clock.prefers_frames k.clock.reader_rules k.table (missed k.clock.prefers_frames k.clock.reader_rules k.table (n - 1) k.state.reader) None) in
-          record { voted = h.voted; bound = h.bound; few = h.few }
-      of (Some v) e =
-          let n = edges_to_vote k.state.edge_us v.edge_us in
-          let h : HasBound k.clock (after_vote k.clock k.table s v n) (answer_to_vote k.clock k.table s v n) =
-          either (n == 0) _ _ (against_table k.table (Some v.claim)) (step_to k.clock k.table s n (Some v.claim)) (n - 1) v.edge_us v.bound_us
-          (vote_bound k.clock (settled clock k.state.lines) v (come clock (agreed k.clock (settled clock k.state.lines)) v e).0) refl refl
-          (step_lasts k.clock.prefers_frames k.clock.reader_rules k.table (missed k.clock.prefers_frames k.clock.reader_rules k.table (n - 1) k.state.reader) (Some v.claim)) in
-          record { voted = h.voted; bound = h.bound; few = h.few }
+      of None e = own (edges_own s.pace k.state.edge_us clock) _ refl
+      of (Some v) e = voted v (vote_bound k.clock (settled clock k.state.lines) v (come clock (agreed k.clock (settled clock k.state.lines)) v e).0) (edges_to_vote k.state.edge_us v.edge_us) _ refl
 
 -- ---- a life
 

@@ -3,7 +3,7 @@
 -- lines are true nothing is in doubt.
 use Rattle.std.specs.Prelude.{◌==◌, is_none, min, max}
 use Rattle.std.proofs.Common.{◌≡◌, ◌∙◌, ℕ, ◌+◌, ◌-◌, ◌%◌, ◌^◌, ◌<◌, ◌≤◌, Bool, true, false, cond, List, [], ◌∷◌, ◌++◌, Option, Some, None, refl, sym, ap, subst, arith, inl, inr}
-use Rattle.std.proofs.lemmas.Bool.{cases_Bool}
+use Rattle.std.proofs.lemmas.Bool.{cases_Bool, eqb-false}
 use Rattle.irig_time.specs.declared.second.UtcSecond.{UtcSecond}
 use Rattle.irig_time.specs.declared.claim.Claim.{Claim}
 use Rattle.irig_reader.specs.declared.report.Report.{Report}
@@ -15,7 +15,7 @@ use Rattle.irig_lines.specs.Counting.{edges_to_vote, edges_own}
 use Rattle.irig_lines.specs.Intervals.{by_vote, contradicts}
 use Rattle.irig_timekeeper.specs.Rule.{step_behind, against_table}
 use Rattle.irig_lines.specs.Steps.{is_pulse}
-use Rattle.irig_timekeeper.specs.Clock.{announce_unless, unless_doubted, beat_by, step_to, own_edge, after_own, answer_alone, answer_to_vote, known_at, doubted_s, clock_by, answer_by, settled_at, is_unsteady, claim_voted}
+use Rattle.irig_timekeeper.specs.Clock.{announce_unless, unless_doubted, beat_by, step_to, own_edge, after_own, answer_alone, answer_to_vote, known_at, doubted_s, clock_by, answer_by, settled_at, is_unsteady, claim_voted, rules_on}
 use Rattle.irig_timekeeper.specs.Keeping.{Keeping, vote_at, after_tick, answer_at}
 use Rattle.irig_timekeeper.specs.Life.{Call, after_calls}
 use Rattle.irig_timekeeper.specs.Life.Call.{Hear, Tick}
@@ -39,6 +39,13 @@ module _ (k : Keeping) (clock : ℕ) where
       one_at_least : (n : ℕ) → 1 ≤ max 1 n
       one_at_least n = grind arith
 
+  -- what the rule says where so many seconds are counted
+  abbrev rule_by : (n missed : ℕ) → Option Claim → Report
+  rule_by n missed vote = (step_behind k.clock.prefers_frames (rules_on k.clock s.pace k.state.reader n) k.table missed k.state.reader vote).report
+
+  abbrev rule : ℕ → Option Claim → Report
+  rule missed vote = rule_by (missed + 1) missed vote
+
   pub says_nothing : (b : Beat) → 1 ≤ k.state.doubt → vote_at k clock ≡ None → answer_at k clock ≡ Some b → b.report.announce ≡ None
   says_nothing b doubt alone answer = by (edges_own s.pace k.state.edge_us clock) (subst (λ (o : Option Vote). answer_by k.clock k.table s clock o ≡ Some b) alone answer)
     where
@@ -48,14 +55,13 @@ module _ (k : Keeping) (clock : ℕ) where
         | inr some ↦
             let both : Some (beat_by k.clock s false (step_to k.clock k.table s n None) (n - 1) (own_edge s.pace s.edge_us n) s.bound_us) ≡ Some b = rw some at answer in
             let beat : beat_by k.clock s false (step_to k.clock k.table s n None) (n - 1) (own_edge s.pace s.edge_us n) s.bound_us ≡ b = cc in
-            ap (λ (x : Beat). x.report.announce) (sym beat) ∙ holds_back s.doubt (step_behind k.clock.prefers_frames k.clock.reader_rules k.table (n - 1) k.state.reader None).report.announce (still_doubted doubt)
+            ap (λ (x : Beat). x.report.announce) (sym beat) ∙ holds_back s.doubt (rule_by n (n - 1) None).announce (still_doubted doubt)
       ]
 
-  abbrev rule : ℕ → Option Claim → Report
-  rule missed vote = (step_behind k.clock.prefers_frames k.clock.reader_rules k.table missed k.state.reader vote).report
-
-  by_beat : (vote : Option Claim) (n edge voted : ℕ) (b : Beat) → unless_doubted s.doubt vote (rule (n - 1) vote) ≡ rule (n - 1) vote → beat_by k.clock s (against_table k.table vote) (step_to k.clock k.table s n vote) (n - 1) edge voted ≡ b → b.report ≡ rule b.missed vote
-  by_beat vote n edge voted b said beat = ap (λ (x : Beat). x.report) (sym beat) ∙ said ∙ ap (λ (x : Beat). rule x.missed vote) beat
+  by_beat : (vote : Option Claim) (n edge voted : ℕ) (b : Beat) → 1 ≤ n → unless_doubted s.doubt vote (rule_by n (n - 1) vote) ≡ rule_by n (n - 1) vote → beat_by k.clock s (against_table k.table vote) (step_to k.clock k.table s n vote) (n - 1) edge voted ≡ b → b.report ≡ rule b.missed vote
+  by_beat vote n edge voted b some said beat =
+      let one_more : n ≡ n - 1 + 1 = omega (arith, some) in
+      ap (λ (x : Beat). x.report) (sym beat) ∙ said ∙ ap (λ (i : ℕ). rule_by i (n - 1) vote) one_more ∙ ap (λ (x : Beat). rule x.missed vote) beat
 
   -- by a vote the rule is said, whatever is in doubt
   by_vote_said : (v : Vote) (b : Beat) → answer_by k.clock k.table s clock (Some v) ≡ Some b → b.report ≡ rule b.missed (Some v.claim)
@@ -66,7 +72,7 @@ module _ (k : Keeping) (clock : ℕ) where
         | inl none ↦ let both : None ≡ Some b = rw none at answer in absurd cc
         | inr some ↦
             let both : Some (beat_by k.clock s (against_table k.table (Some v.claim)) (step_to k.clock k.table s n (Some v.claim)) (n - 1) v.edge_us v.bound_us) ≡ Some b = rw some at answer in
-            by_beat (Some v.claim) n v.edge_us v.bound_us b refl cc
+            by_beat (Some v.claim) n v.edge_us v.bound_us b (let more = eqb-false n 0 some in omega (arith, more)) refl cc
       ]
 
   pub says_voted : (v : Vote) (b : Beat) → vote_at k clock ≡ Some v → answer_at k clock ≡ Some b → SaysTheRule k clock b
@@ -90,7 +96,7 @@ module _ (k : Keeping) (clock : ℕ) where
             | inl none ↦ let both : None ≡ Some b = rw none at answer in absurd cc
             | inr some ↦
                 let both : Some (beat_by k.clock s false (step_to k.clock k.table s n None) (n - 1) (own_edge s.pace s.edge_us n) s.bound_us) ≡ Some b = rw some at answer in
-                by_beat None n (own_edge s.pace s.edge_us n) s.bound_us b (ap (λ (o : Option UtcSecond). record (rule (n - 1) None) { announce = o }) (says_all s.doubt None (rule (n - 1) None).announce nothing)) cc
+                by_beat None n (own_edge s.pace s.edge_us n) s.bound_us b (let more = eqb-false n 0 some in omega (arith, more)) (ap (λ (o : Option UtcSecond). record (rule_by n (n - 1) None) { announce = o }) (says_all s.doubt None (rule_by n (n - 1) None).announce nothing)) cc
           ]
 
 -- ---- what a tick leaves in doubt

@@ -1,7 +1,6 @@
 -- The second that ended at a told edge is a true one, and its edge lies no further off than its bound.
 use Rattle.std.specs.Prelude.{◌==◌}
 use Rattle.std.proofs.Common.{◌≡◌, ◌∙◌, ℕ, ◌+◌, ◌-◌, ◌*◌, ◌%◌, ◌^◌, ◌<◌, ◌≤◌, Bool, true, false, cond, List, [], ◌∷◌, Option, Some, None, refl, sym, ap, subst, arith, inl, inr}
-use Rattle.std.proofs.Math.Nat.{mul-le-mul_left}
 use Rattle.std.proofs.lemmas.Bool.{cases_Bool, cases_order, eqb-true, eqb-false}
 use Rattle.irig_sync.specs.Lines.{Pulse}
 use Rattle.irig_time.specs.declared.second.UtcSecond.{UtcSecond}
@@ -18,8 +17,9 @@ use Rattle.irig_lines.specs.declared.setup.ClockRules.{ClockRules}
 use Rattle.irig_timekeeper.specs.declared.clock.ClockState.{ClockState}
 use Rattle.irig_lines.specs.Edges.{IsQuartz, IsNear}
 use Rattle.irig_lines.specs.Counting.{edges_between, edges_to_vote, edges_own}
-use Rattle.irig_timekeeper.specs.Rule.{missed, step_behind}
-use Rattle.irig_timekeeper.specs.Clock.{lasted, bound_of, announced_at, held_second, second_ended, own_edge, beat_by, step_to, after_own, after_vote, answer_alone, knowing, knowing_vote, clock_by, answer_by, settled_at}
+use Rattle.irig_reader.specs.declared.rules.ReaderRules.{ReaderRules}
+use Rattle.irig_timekeeper.specs.Rule.{step_behind}
+use Rattle.irig_timekeeper.specs.Clock.{lasted, bound_of, announced_at, held_second, second_ended, own_edge, beat_by, step_to, after_own, after_vote, answer_alone, knowing, knowing_vote, clock_by, answer_by, settled_at, rules_on}
 use Rattle.irig_lines.specs.Steps.{is_pulse, settled, agreed, if_come}
 use Rattle.irig_timekeeper.specs.Keeping.{Keeping, vote_at, after_tick, answer_at}
 use Rattle.irig_timekeeper.specs.Life.{Call, after_calls, last_tick, pulses_on, AreInOrder, AreTrueLately, AreTrueAtTicks}
@@ -29,10 +29,9 @@ use Rattle.irig_timekeeper.specs.LineTruths.{IsEndedTruly}
 use Rattle.irig_lines.proofs.CountingLaws.{rises}
 use Rattle.irig_lines.specs.declared.pace.Pace.{Pace}
 use Rattle.irig_lines.specs.Paces.{IsSound, ahead_us, grown_us}
-use Rattle.irig_lines.proofs.PaceLaws.{grown_most}
 use Rattle.irig_timekeeper.proofs.SoundLaws.{settled_sound}
 use Rattle.irig_timekeeper.proofs.TimeLaws.{own_come, own_count, still_edge, own_edge_at, voted_count, lasts_so}
-use Rattle.irig_timekeeper.proofs.AgeLaws.{step_lasts}
+use Rattle.irig_timekeeper.proofs.SpentLaws.{held_small, is_by}
 use Rattle.irig_timekeeper.proofs.SureSteps.{sure_step}
 use Rattle.irig_timekeeper.proofs.DoubtedSteps.{rule_announces}
 use Rattle.irig_timekeeper.proofs.VoteLaws.{vote_is_true}
@@ -104,11 +103,6 @@ pub second_one : (t : TimelineValue) (m n : ℕ) (u : UtcSecond) → IsSecond t 
 second_one t m n u a b = omega (arith, a.sum, b.sum)
 
 module _ (t : TimelineValue) (edges : ℕ → ℕ) (c : ClockRules) (table : TableValue) (is : IsDevice t c.drift_us edges c.reader_rules table) (tick now : ℕ) (order : tick ≤ now) (soon : now ≤ tick + 1800000000) where
-  low_bound : (pace : Option Pace) (voted lasts : ℕ) → voted ≤ 2899 → lasts ≤ c.reader_rules.holdover → voted + grown_us c.drift_us pace lasts ≤ 492899
-  low_bound pace voted lasts small few =
-      let most = mul-le-mul_left c.drift_us (let h : lasts ≤ c.reader_rules.holdover + 2 = omega (arith, few) in h) in
-      omega (arith, small, most, is.short, grown_most c.drift_us pace lasts)
-
   -- by a true vote
   module _ (v : Vote) (vote : IsTrueVote t edges 0 0 now v) where
     edge_now : IsEdgeAt v.edge_us vote.edge now
@@ -144,7 +138,7 @@ module _ (t : TimelineValue) (edges : ℕ → ℕ) (c : ClockRules) (table : Tab
         let next = near_next c.drift_us edges is.steady 2899 (ended.n + 1) (vote.truth.second + 1) h.0 vote.edge ended.here near_now (omega (arith, count)) (omega (arith, count)) in
         (ended.n, ended.told, omega (arith, next), ended.is)
 
-    voted : (pace : Option Pace) (o : Option ℕ) (ended before : Option Announced) (lock : Lock) → EndedBy t edges tick o ended before → lasted lock ≤ c.reader_rules.holdover → (n : ℕ) → n ≡ edges_to_vote o v.edge_us → 1 ≤ n
+    voted : (pace : Option Pace) (o : Option ℕ) (ended before : Option Announced) (lock : Lock) → EndedBy t edges tick o ended before → grown_us c.drift_us pace (lasted lock) ≤ 490000 → (n : ℕ) → n ≡ edges_to_vote o v.edge_us → 1 ≤ n
         → EndedBy t edges now (Some v.edge_us) (announced_at v.edge_us (bound_of c.drift_us pace v.bound_us lock) (Some v.claim.at)) (cond (n - 1 == 0) ended None)
     voted pace o ended before lock h few n same some = (
       vote.edge,
@@ -156,7 +150,7 @@ module _ (t : TimelineValue) (edges : ℕ → ℕ) (c : ClockRules) (table : Tab
           truth = second_voted;
           clock = vote.clock;
           near = record { least = omega (arith, vote.truth.near.least); most = omega (arith, vote.truth.near.most) };
-          small = low_bound pace v.bound_us (lasted lock) vote.small few;
+          small = omega (arith, vote.small, few);
         };
         here = record { least = omega (arith, near_now.least); most = omega (arith, near_now.most) };
         before = elim (cases_Bool (n - 1 == 0)) [
@@ -208,10 +202,14 @@ module _ (t : TimelineValue) (edges : ℕ → ℕ) where
   abbrev pub Ends : ℕ → ClockState → Type 0
   Ends tick s = EndedBy t edges tick s.edge_us s.ended s.ended_before
 
-  module _ (k : Keeping) (tick now : ℕ) (order : tick ≤ now) (soon : now ≤ tick + 1800000000) (is : IsDevice t k.clock.drift_us edges k.clock.reader_rules k.table) (on : IsOnTrack t edges 0 0 k.clock.drift_us 0 k.clock.reader_rules k.table tick k.state.reader k.state.bound_us k.state.edge_us)
-      (keeps : KeepsTrue t k.clock.drift_us edges 0 0 0 k.clock.reader_rules k.table now (after_tick k (now % 2 ^ 32)).state (answer_at k (now % 2 ^ 32))) (ends : Ends tick k.state) (sound : IsSound k.state.pace) where
+  module _ (k : Keeping) (tick now : ℕ) (order : tick ≤ now) (soon : now ≤ tick + 1800000000) (is : IsDevice t k.clock.drift_us edges k.clock.reader_rules k.table) (on : IsOnTrack t edges 0 0 k.clock.drift_us 0 k.table tick k.state.reader k.state.bound_us k.state.pace k.state.edge_us)
+      (keeps : KeepsTrue t k.clock.drift_us edges 0 0 0 k.table now (after_tick k (now % 2 ^ 32)).state (answer_at k (now % 2 ^ 32))) (ends : Ends tick k.state) (sound : IsSound k.state.pace) where
     abbrev pace : Option Pace
     pace = (settled_at k.clock k.state (now % 2 ^ 32)).pace
+
+    -- the rules where so many seconds are counted
+    abbrev by : ℕ → ReaderRules
+    by n = rules_on k.clock pace k.state.reader n
 
     -- by the own counter
     module _ (alone : vote_at k (now % 2 ^ 32) ≡ None) (n : ℕ) (count : n ≡ edges_own pace k.state.edge_us (now % 2 ^ 32)) where
@@ -235,7 +233,7 @@ module _ (t : TimelineValue) (edges : ℕ → ℕ) where
             → EndedBy t edges now (Some (own_edge pace (Some e) n)) (announced_at (own_edge pace (Some e) n) beat.bound_us (held_second reader)) (cond (n - 1 == 0) k.state.ended None)
         held Idle at u says only = nothing (cond (n - 1 == 0) k.state.ended None)
         held (Acquiring h c) at u says only = nothing (cond (n - 1 == 0) k.state.ended None)
-        held (Locked h) at u says only = elim (subst (λ (o : Option ℕ). IsOnTrack t edges 0 0 k.clock.drift_us 0 k.clock.reader_rules k.table tick k.state.reader k.state.bound_us o) here on) [
+        held (Locked h) at u says only = elim (subst (λ (o : Option ℕ). IsOnTrack t edges 0 0 k.clock.drift_us 0 k.table tick k.state.reader k.state.bound_us k.state.pace o) here on) [
           | inl idle ↦ absurd (let both : Idle ≡ Locked h = sym idle.0 ∙ at in cc)
           | inr stood ↦
               let w = stood.0 in
@@ -244,14 +242,14 @@ module _ (t : TimelineValue) (edges : ℕ → ℕ) where
               let answers : answer_at k (now % 2 ^ 32) ≡ Some beat = ap (answer_by k.clock k.table (settled_at k.clock k.state (now % 2 ^ 32)) (now % 2 ^ 32)) alone ∙ (let one : answer_alone k.clock k.table (settled_at k.clock k.state (now % 2 ^ 32)) (edges_own pace k.state.edge_us (now % 2 ^ 32)) ≡ Some beat = subst (λ (m : ℕ). answer_alone k.clock k.table (settled_at k.clock k.state (now % 2 ^ 32)) m ≡ Some beat) count (rw counts refl) in one) in
               let told = (keeps.told beat u answers says).told in
               let sure = subst (λ (r : State). StandsSurely t k.table w r) at stands.truth in
-              let by_rule = rule_announces (settled_at k.clock k.state (now % 2 ^ 32)).doubt None (step_behind k.clock.prefers_frames k.clock.reader_rules k.table (n - 1) k.state.reader None).report.announce u says in
-              let one_step = subst (λ (i : ℕ). (step_behind k.clock.prefers_frames k.clock.reader_rules k.table i k.state.reader None).report.announce ≡ Some u) zero_more by_rule in
-              let next = (sure_step t k.clock.reader_rules k.table is.sound is.knows k.clock.prefers_frames w k.state.reader None stands.truth (inl refl)).says u one_step in
-              let few = step_lasts k.clock.prefers_frames k.clock.reader_rules k.table (missed k.clock.prefers_frames k.clock.reader_rules k.table (n - 1) k.state.reader) None in
+              let by_rule = rule_announces (settled_at k.clock k.state (now % 2 ^ 32)).doubt None (step_behind k.clock.prefers_frames (by n) k.table (n - 1) k.state.reader None).report.announce u says in
+              let one_step = subst (λ (i : ℕ). (step_behind k.clock.prefers_frames (by n) k.table i k.state.reader None).report.announce ≡ Some u) zero_more by_rule in
+              let next = (sure_step t (by n) k.table is.sound (is_by k.clock pace k.state.reader n t edges k.table is).knows k.clock.prefers_frames w k.state.reader None stands.truth (inl refl)).says u one_step in
+              let few = held_small k.clock pace k.state.reader n k.clock.prefers_frames k.table None some in
               let near : IsNear edges beat.bound_us beat.bound_us told.m told.edge = record { least = omega (arith, told.near.least); most = omega (arith, told.near.most) } in
               alone_one t edges k.clock k.table is tick now order soon pace settled_is e at_edge.0 at_edge.1 k.state.ended k.state.ended_before at_edge.2 n count_here (omega (arith, zero_more, some)) h.last w told.m beat.bound_us told.edge
               sure.on_time.last (second_one t told.m (w + 1) u told.truth next) (sym (ap (λ (o : Option ℕ). own_edge pace o n) here) ∙ told.clock) near told.come told.soon
-              (low_bound t edges k.clock k.table is tick now order soon pace k.state.bound_us (lasted beat.report.lock) stands.small few)
+              (omega (arith, stands.small, few))
         ]
 
         announced : (announce : Option UtcSecond) → beat.report.announce ≡ announce
@@ -279,7 +277,7 @@ module _ (t : TimelineValue) (edges : ℕ → ℕ) where
     vote_tick v vote n count = elim (cases_Bool (n == 0)) [
       | inl none ↦ rw none (stays t edges k.clock k.table is tick now order soon v vote k.state.edge_us k.state.ended k.state.ended_before ends (sym count ∙ eqb-true n 0 none))
       | inr some ↦
-          let few = step_lasts k.clock.prefers_frames k.clock.reader_rules k.table (missed k.clock.prefers_frames k.clock.reader_rules k.table (n - 1) k.state.reader) (Some v.claim) in
+          let few = held_small k.clock pace k.state.reader n k.clock.prefers_frames k.table (Some v.claim) (omega (arith, eqb-false n 0 some)) in
           rw some (voted t edges k.clock k.table is tick now order soon v vote pace k.state.edge_us k.state.ended k.state.ended_before (step_to k.clock k.table (settled_at k.clock k.state (now % 2 ^ 32)) n (Some v.claim)).report.lock ends few n count (omega (arith, eqb-false n 0 some)))
     ]
 
@@ -308,8 +306,8 @@ module _ (IsTrue : ℕ → List Pulse → Type 0) (t : TimelineValue) (edges : �
         track = keeps.track;
         ends = tick_ends t edges k (last_tick start calls) now order.0 (omega (arith, order.1))
             (moves k same (λ c table. IsDevice t c.drift_us edges c.reader_rules table) is)
-            (moves k same (λ c table. IsOnTrack t edges 0 0 c.drift_us 0 c.reader_rules table (last_tick start calls) k.state.reader k.state.bound_us k.state.edge_us) h.track)
-            (moves k same (λ c table. KeepsTrue t c.drift_us edges 0 0 0 c.reader_rules table now (after_tick k (now % 2 ^ 32)).state (answer_at k (now % 2 ^ 32))) keeps)
+            (moves k same (λ c table. IsOnTrack t edges 0 0 c.drift_us 0 table (last_tick start calls) k.state.reader k.state.bound_us k.state.pace k.state.edge_us) h.track)
+            (moves k same (λ c table. KeepsTrue t c.drift_us edges 0 0 0 table now (after_tick k (now % 2 ^ 32)).state (answer_at k (now % 2 ^ 32))) keeps)
             h.ends (lines_after new start begins calls now order).sound
             (λ v e. vote_is_true (IsTrue now) new.rules t new.clock edges is.steady 0 0 (omega arith) now k.state.lines (λ i. pulses_on i calls) (truly now) (heard_truly IsTrue t edges 0 0 new start begins calls now order lately) v
             (ap (λ (c : ClockRules). if_come (now % 2 ^ 32) (agreed c (settled (now % 2 ^ 32) k.state.lines))) (sym same.clock) ∙ e));
@@ -331,6 +329,6 @@ module _ (IsTrue : ℕ → List Pulse → Type 0) (t : TimelineValue) (edges : �
 
   pub ends_truly : (new.state.reader ≡ Idle) → (new.state.edge_us ≡ None) → (new.state.ended ≡ None) → (calls : List Call) → AreInOrder start new.clock.redundancy calls → AreTrueAtTicks IsTrue (f_of new.clock.redundancy) calls → StepsIn edges 0 0 new start calls → Ends t edges (last_tick start calls) (after_calls new calls).state
   ends_truly idle none never calls order truth steps = (all_along (record {
-    track = subst (λ (o : Option ℕ). IsOnTrack t edges 0 0 new.clock.drift_us 0 new.clock.reader_rules new.table start new.state.reader new.state.bound_us o) (sym none) (idle, refl);
+    track = subst (λ (o : Option ℕ). IsOnTrack t edges 0 0 new.clock.drift_us 0 new.table start new.state.reader new.state.bound_us new.state.pace o) (sym none) (idle, refl);
     ends = subst (λ (o : Option ℕ). EndedBy t edges start o new.state.ended new.state.ended_before) (sym none) never;
   }) calls order truth steps).ends

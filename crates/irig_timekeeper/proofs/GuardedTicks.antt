@@ -1,7 +1,7 @@
 -- A tick of a device whose leap table guards its leaps, and what it tells of a vote against the table.
 use Rattle.std.specs.Prelude.{◌==◌}
 use Rattle.std.proofs.Common.{◌≡◌, ◌∙◌, ℕ, ◌+◌, ◌-◌, ◌%◌, ◌^◌, ◌≤◌, Bool, false, List, ◌∷◌, Option, Some, None, refl, sym, ap, subst, arith, inl, inr}
-use Rattle.std.proofs.lemmas.Bool.{cases_Bool}
+use Rattle.std.proofs.lemmas.Bool.{cases_Bool, eqb-false}
 use Rattle.irig_time.specs.declared.second.UtcSecond.{UtcSecond}
 use Rattle.irig_time.specs.Tables.{TableValue}
 use Rattle.irig_time.specs.Timelines.{TimelineValue, IsSecond}
@@ -17,10 +17,11 @@ use Rattle.irig_lines.specs.Counting.{edges_to_vote, edges_own}
 use Rattle.irig_lines.specs.Lines.{IsTrueLately}
 use Rattle.irig_lines.specs.Steps.{agreed, settled, if_come}
 use Rattle.irig_lines.proofs.LineLaws.{true_by_any}
+use Rattle.irig_reader.specs.declared.rules.ReaderRules.{ReaderRules}
 use Rattle.irig_timekeeper.specs.declared.clock.Beat.{Beat}
 use Rattle.irig_timekeeper.specs.declared.clock.ClockState.{ClockState}
 use Rattle.irig_timekeeper.specs.Rule.{against_table, step_behind, missed}
-use Rattle.irig_timekeeper.specs.Clock.{beat_by, step_to, answer_to_vote, answer_alone, own_edge, answer_by, claim_voted, settled_at}
+use Rattle.irig_timekeeper.specs.Clock.{beat_by, step_to, answer_to_vote, answer_alone, own_edge, answer_by, claim_voted, settled_at, rules_on}
 use Rattle.irig_timekeeper.specs.Keeping.{Keeping, vote_at, answer_at}
 use Rattle.irig_timekeeper.specs.Truth.{KnowsEnd}
 use Rattle.irig_timekeeper.specs.Life.{Call, Made, pulses_on, LivesTruly, device_of, life_of}
@@ -64,18 +65,24 @@ module _ (k : Keeping) (clock : ℕ) (b : Beat) (answer : answer_at k clock ≡ 
 
   -- ---- what is announced
 
-  alone_says : (u : UtcSecond) → vote_at k clock ≡ None → b.report.announce ≡ Some u → (step_behind k.clock.prefers_frames k.clock.reader_rules k.table b.missed k.state.reader None).report.announce ≡ Some u
+  -- the rules where so many were missed
+  abbrev rules_then : ℕ → ReaderRules
+  rules_then missed = rules_on k.clock s.pace k.state.reader (missed + 1)
+
+  alone_says : (u : UtcSecond) → vote_at k clock ≡ None → b.report.announce ≡ Some u → (step_behind k.clock.prefers_frames (rules_then b.missed) k.table b.missed k.state.reader None).report.announce ≡ Some u
   alone_says u alone says = own (edges_own s.pace k.state.edge_us clock) (subst (λ (o : Option Vote). answer_by k.clock k.table s clock o ≡ Some b) alone answer)
     where
-      own : (n : ℕ) → answer_alone k.clock k.table s n ≡ Some b → (step_behind k.clock.prefers_frames k.clock.reader_rules k.table b.missed k.state.reader None).report.announce ≡ Some u
+      own : (n : ℕ) → answer_alone k.clock k.table s n ≡ Some b → (step_behind k.clock.prefers_frames (rules_then b.missed) k.table b.missed k.state.reader None).report.announce ≡ Some u
       own n answer = elim (cases_Bool (n == 0)) [
         | inl none ↦ let both : None ≡ Some b = rw none at answer in absurd cc
         | inr some ↦
             let both : Some (beat_by k.clock s false (step_to k.clock k.table s n None) (n - 1) (own_edge s.pace s.edge_us n) s.bound_us) ≡ Some b = rw some at answer in
             let beat : beat_by k.clock s false (step_to k.clock k.table s n None) (n - 1) (own_edge s.pace s.edge_us n) s.bound_us ≡ b = cc in
             let so_many : n - 1 ≡ b.missed = ap (λ (x : Beat). x.missed) beat in
-            let announces = rule_announces s.doubt None (step_behind k.clock.prefers_frames k.clock.reader_rules k.table (n - 1) k.state.reader None).report.announce u (ap (λ (x : Beat). x.report.announce) beat ∙ says) in
-            subst (λ (i : ℕ). (step_behind k.clock.prefers_frames k.clock.reader_rules k.table i k.state.reader None).report.announce ≡ Some u) so_many announces
+            let announces = rule_announces s.doubt None (step_behind k.clock.prefers_frames (rules_on k.clock s.pace k.state.reader n) k.table (n - 1) k.state.reader None).report.announce u (ap (λ (x : Beat). x.report.announce) beat ∙ says) in
+            let one_more : n ≡ n - 1 + 1 = (let more = eqb-false n 0 some in omega (arith, more)) in
+            subst (λ (i : ℕ). (step_behind k.clock.prefers_frames (rules_then i) k.table i k.state.reader None).report.announce ≡ Some u) so_many
+            (subst (λ (i : ℕ). (step_behind k.clock.prefers_frames (rules_on k.clock s.pace k.state.reader i) k.table (n - 1) k.state.reader None).report.announce ≡ Some u) one_more announces)
       ]
 
   module _ (t : TimelineValue) (sound : IsTimeline t) (guards : k.clock.prefers_frames ≡ false) (n : ℕ) (u : UtcSecond) (says : b.report.announce ≡ Some u) where
@@ -83,18 +90,18 @@ module _ (k : Keeping) (clock : ℕ) (b : Beat) (answer : answer_at k clock ≡ 
     pub tick_guards_vote : (v : Vote) → vote_at k clock ≡ Some v → IsSecond t n v.claim.at → KnowsEnd t k.table v.claim.at.day → IsSecond t (n + 1) u
     tick_guards_vote v voted at knows =
         let rule = says_voted k clock v b voted answer in
-        let by : (step_behind k.clock.prefers_frames k.clock.reader_rules k.table b.missed k.state.reader (claim_voted (vote_at k clock))).report.announce ≡ Some u = ap (λ (r : Report). r.announce) (sym rule) ∙ says in
-        let by_claim : (step_behind k.clock.prefers_frames k.clock.reader_rules k.table b.missed k.state.reader (Some v.claim)).report.announce ≡ Some u =
-        subst (λ (o : Option Vote). (step_behind k.clock.prefers_frames k.clock.reader_rules k.table b.missed k.state.reader (claim_voted o)).report.announce ≡ Some u) voted by in
-        guards_vote t k.clock.reader_rules k.table n (missed false k.clock.reader_rules k.table b.missed k.state.reader) v.claim u sound at knows
-        (subst (λ (p : Bool). (step_behind p k.clock.reader_rules k.table b.missed k.state.reader (Some v.claim)).report.announce ≡ Some u) guards by_claim)
+        let by : (step_behind k.clock.prefers_frames (rules_then b.missed) k.table b.missed k.state.reader (claim_voted (vote_at k clock))).report.announce ≡ Some u = ap (λ (r : Report). r.announce) (sym rule) ∙ says in
+        let by_claim : (step_behind k.clock.prefers_frames (rules_then b.missed) k.table b.missed k.state.reader (Some v.claim)).report.announce ≡ Some u =
+        subst (λ (o : Option Vote). (step_behind k.clock.prefers_frames (rules_then b.missed) k.table b.missed k.state.reader (claim_voted o)).report.announce ≡ Some u) voted by in
+        guards_vote t (rules_then b.missed) k.table n (missed false (rules_then b.missed) k.table b.missed k.state.reader) v.claim u sound at knows
+        (subst (λ (p : Bool). (step_behind p (rules_then b.missed) k.table b.missed k.state.reader (Some v.claim)).report.announce ≡ Some u) guards by_claim)
 
     -- without one, from a hold at T(n)
     pub tick_guards_hold : (h : HoldValue) → vote_at k clock ≡ None → k.state.reader ≡ Locked h → IsSecond t n h.last → ((i : ℕ) (v : UtcSecond) → i ≤ b.missed → IsSecond t (n + i) v → KnowsEnd t k.table v.day) → IsSecond t (n + b.missed + 1) u
     tick_guards_hold h alone is at knows =
-        guards_missed t k.clock.reader_rules k.table sound n b.missed h u at knows
-        (subst (λ (x : State). (step_behind false k.clock.reader_rules k.table b.missed x None).report.announce ≡ Some u) is
-        (subst (λ (p : Bool). (step_behind p k.clock.reader_rules k.table b.missed k.state.reader None).report.announce ≡ Some u) guards (alone_says u alone says)))
+        guards_missed t (rules_then b.missed) k.table sound n b.missed h u at knows
+        (subst (λ (x : State). (step_behind false (rules_then b.missed) k.table b.missed x None).report.announce ≡ Some u) is
+        (subst (λ (p : Bool). (step_behind p (rules_then b.missed) k.table b.missed k.state.reader None).report.announce ≡ Some u) guards (alone_says u alone says)))
 
 -- ---- true votes do not speak against a true table
 

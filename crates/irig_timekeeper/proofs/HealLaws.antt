@@ -24,6 +24,8 @@ use Rattle.irig_reader.proofs.StepCases.{count_cases, vote_cases}
 use Rattle.irig_lines.specs.declared.lines.KeptClaim.{KeptClaim}
 use Rattle.irig_lines.specs.declared.lines.Lines.{Lines}
 use Rattle.irig_lines.specs.declared.lines.Vote.{Vote}
+use Rattle.irig_lines.specs.declared.pace.Pace.{Pace}
+use Rattle.irig_lines.proofs.WidthLaws.{reach_few}
 use Rattle.irig_timekeeper.specs.declared.clock.Beat.{Beat}
 use Rattle.irig_lines.specs.declared.setup.ClockRules.{ClockRules}
 use Rattle.irig_timekeeper.specs.declared.clock.ClockState.{ClockState}
@@ -32,7 +34,7 @@ use Rattle.irig_lines.specs.Widths.{reach_us, vote_us}
 use Rattle.irig_lines.specs.Counting.{edges_to_vote, edges_own}
 use Rattle.irig_timekeeper.specs.Rule.{missed, against_table, step_checked}
 use Rattle.irig_lines.specs.Steps.{is_pulse, line_at, claim_kept, all_kept, still_kept, settled, agreed, if_come}
-use Rattle.irig_timekeeper.specs.Clock.{bound_of, beat_by, step_to, after_vote, answer_to_vote, after_own, clock_by, answer_by, settled_at}
+use Rattle.irig_timekeeper.specs.Clock.{bound_of, beat_by, step_to, after_vote, answer_to_vote, after_own, clock_by, answer_by, settled_at, rules_on}
 use Rattle.irig_timekeeper.specs.Keeping.{Keeping, vote_at, after_tick, answer_at}
 use Rattle.irig_timekeeper.specs.Truth.{IsTrueVote, IsOnTrack, IsToldInHoldover, IsLaterSecond, IsDevice}
 use Rattle.irig_timekeeper.specs.Life.{Call, after_calls, pulses_on, last_tick, AreInOrder, AreTrueLately, AreTrueOver}
@@ -96,11 +98,15 @@ either_late true x y p q = p
 either_late false x y p q = q
 
 module _ (c : ClockRules) (table : TableValue) (s : ClockState) (late : IfHold s.reader HasHeardLate) where
+  -- the rules where so many seconds are counted
+  abbrev by : ℕ → ReaderRules
+  by n = rules_on c s.pace s.reader n
+
   late_own : (n : ℕ) → IfHold (after_own c table s n).reader HasHeardLate
-  late_own n = either_late (n == 0) s _ late (late_checked c.prefers_frames c.reader_rules table (missed c.prefers_frames c.reader_rules table (n - 1) s.reader) None (late_step c.reader_rules table (missed c.prefers_frames c.reader_rules table (n - 1) s.reader) None (late_missed c.prefers_frames c.reader_rules table (n - 1) s.reader late) tt))
+  late_own n = either_late (n == 0) s _ late (late_checked c.prefers_frames (by n) table (missed c.prefers_frames (by n) table (n - 1) s.reader) None (late_step (by n) table (missed c.prefers_frames (by n) table (n - 1) s.reader) None (late_missed c.prefers_frames (by n) table (n - 1) s.reader late) tt))
 
   late_voted : (v : Vote) (n : ℕ) → IsMarkedLate v.claim → IfHold (after_vote c table s v n).reader HasHeardLate
-  late_voted v n marked = either_late (n == 0) _ _ late (late_checked c.prefers_frames c.reader_rules table (missed c.prefers_frames c.reader_rules table (n - 1) s.reader) (Some v.claim) (late_step c.reader_rules table (missed c.prefers_frames c.reader_rules table (n - 1) s.reader) (Some v.claim) (late_missed c.prefers_frames c.reader_rules table (n - 1) s.reader late) marked))
+  late_voted v n marked = either_late (n == 0) _ _ late (late_checked c.prefers_frames (by n) table (missed c.prefers_frames (by n) table (n - 1) s.reader) (Some v.claim) (late_step (by n) table (missed c.prefers_frames (by n) table (n - 1) s.reader) (Some v.claim) (late_missed c.prefers_frames (by n) table (n - 1) s.reader late) marked))
 
 late_ticked : (k : Keeping) (clock : ℕ) → IfHold k.state.reader HasHeardLate → ((v : Vote) → vote_at k clock ≡ Some v → IsMarkedLate v.claim) → IfHold (after_tick k clock).state.reader HasHeardLate
 late_ticked k clock late marked = of (vote_at k clock) refl
@@ -134,14 +140,18 @@ says_voted prefers rules table s c u = checked_cases prefers rules table s (Some
     counts h count = count_cases Says rules h count (λ enough says. refl) (λ more says. absurd cc)
 
 -- it then stands at the truth, and what it announces is true
-pub record Mends (t : TimelineValue) (d : ℕ) (edges : ℕ → ℕ) (early late : ℕ) (rules : ReaderRules) (table : TableValue) (now : ℕ) (new : ClockState) (b : Beat) : Type 0 where
-  pub track : IsOnTrack t edges early late d 0 rules table now new.reader new.bound_us new.edge_us
-  pub told : (u : UtcSecond) → b.report.announce ≡ Some u → IsToldNewly t d edges early late 0 rules table now b u new.reader new.bound_us new.edge_us
+pub record Mends (t : TimelineValue) (d : ℕ) (edges : ℕ → ℕ) (early late : ℕ) (table : TableValue) (now : ℕ) (new : ClockState) (b : Beat) : Type 0 where
+  pub track : IsOnTrack t edges early late d 0 table now new.reader new.bound_us new.pace new.edge_us
+  pub told : (u : UtcSecond) → b.report.announce ≡ Some u → IsToldNewly t d edges early late 0 table now b u new.reader new.bound_us new.pace new.edge_us
 
 module _ (t : TimelineValue) (edges : ℕ → ℕ) (early late : ℕ) (c : ClockRules) (table : TableValue) (s : ClockState) (is : IsDevice t c.drift_us edges c.reader_rules table) (heard : IfHold s.reader HasHeardLate) (now : ℕ) (v : Vote) (vote : IsTrueVote t edges early late now v) where
-  stands : (n last : ℕ) → last ≤ vote.truth.second + 1 → IsOnTrack t edges early late c.drift_us last c.reader_rules table now (step_to c table s n (Some v.claim)).state v.bound_us (Some v.edge_us)
-  stands n last low =
-      let before = late_missed c.prefers_frames c.reader_rules table (n - 1) s.reader heard in
+  -- the rules where so many seconds are counted
+  abbrev rules_then : ℕ → ReaderRules
+  rules_then n = rules_on c s.pace s.reader n
+
+  stands : (n last : ℕ) (pace : Option Pace) → last ≤ vote.truth.second + 1 → IsOnTrack t edges early late c.drift_us last table now (step_to c table s n (Some v.claim)).state v.bound_us pace (Some v.edge_us)
+  stands n last pace low =
+      let before = late_missed c.prefers_frames (rules_then n) table (n - 1) s.reader heard in
       inr (
         vote.truth.second + 1,
         0,
@@ -150,17 +160,17 @@ module _ (t : TimelineValue) (edges : ℕ → ℕ) (early late : ℕ) (c : Clock
           at = record { clock = vote.clock; come = vote.come; soon = omega (arith, vote.soon) };
           near = record { least = omega (arith, vote.truth.near.least); most = omega (arith, vote.truth.near.most) };
           small = vote.small;
-          truth = mended_by_vote t c.reader_rules table is.sound c.prefers_frames vote.truth.second (missed c.prefers_frames c.reader_rules table (n - 1) s.reader) v.claim vote.truth.truth before;
-          young = omega arith;
+          truth = mended_by_vote t (rules_then n) table is.sound c.prefers_frames vote.truth.second (missed c.prefers_frames (rules_then n) table (n - 1) s.reader) v.claim vote.truth.truth before;
+          grown = omega arith;
           few = omega arith;
           behind = low;
         },
       )
 
-  says : (n : ℕ) (b : Beat) (u : UtcSecond) → beat_by c s (against_table table (Some v.claim)) (step_to c table s n (Some v.claim)) (n - 1) v.edge_us v.bound_us ≡ b → b.report.announce ≡ Some u
-      → IsToldNewly t c.drift_us edges early late 0 c.reader_rules table now b u (step_to c table s n (Some v.claim)).state v.bound_us (Some v.edge_us)
-  says n b u beat e =
-      let state = missed c.prefers_frames c.reader_rules table (n - 1) s.reader in
+  says : (n : ℕ) (pace : Option Pace) (b : Beat) (u : UtcSecond) → beat_by c s (against_table table (Some v.claim)) (step_to c table s n (Some v.claim)) (n - 1) v.edge_us v.bound_us ≡ b → b.report.announce ≡ Some u
+      → IsToldNewly t c.drift_us edges early late 0 table now b u (step_to c table s n (Some v.claim)).state v.bound_us pace (Some v.edge_us)
+  says n pace b u beat e =
+      let state = missed c.prefers_frames (rules_then n) table (n - 1) s.reader in
       let announces = ap (λ (x : Beat). x.report.announce) beat ∙ e in
       let bound : bound_of c.drift_us s.pace v.bound_us (step_to c table s n (Some v.claim)).report.lock ≡ b.bound_us = ap (λ (x : Beat). x.bound_us) beat in
       record {
@@ -171,24 +181,24 @@ module _ (t : TimelineValue) (edges : ℕ → ℕ) (early late : ℕ) (c : Clock
           near = record { least = omega (arith, vote.truth.near.least, bound); most = omega (arith, vote.truth.near.most, bound) };
           come = vote.come;
           soon = omega (arith, vote.soon);
-          truth = voted_second t vote.truth.second c.prefers_frames c.reader_rules table state v.claim u is.sound ((claim_is t vote.truth.second v.claim).1 vote.truth.truth) (says_voted c.prefers_frames c.reader_rules table state v.claim u announces) announces;
+          truth = voted_second t vote.truth.second c.prefers_frames (rules_then n) table state v.claim u is.sound ((claim_is t vote.truth.second v.claim).1 vote.truth.truth) (says_voted c.prefers_frames (rules_then n) table state v.claim u announces) announces;
         };
         later = omega arith;
-        track = stands n (vote.truth.second + 1) (omega arith);
+        track = stands n (vote.truth.second + 1) pace (omega arith);
       }
 
-  heals_by : (n : ℕ) (b : Beat) → answer_to_vote c table s v n ≡ Some b → Mends t c.drift_us edges early late c.reader_rules table now (after_vote c table s v n) b
-  heals_by n b e = elim (cases_Bool (n == 0)) [
+  heals_by : (n : ℕ) (pace : Option Pace) (b : Beat) → answer_to_vote c table s v n ≡ Some b → Mends t c.drift_us edges early late table now (record (after_vote c table s v n) { pace = pace }) b
+  heals_by n pace b e = elim (cases_Bool (n == 0)) [
     | inl none ↦ let both : None ≡ Some b = rw none at e in absurd cc
     | inr some ↦
         let beat : beat_by c s (against_table table (Some v.claim)) (step_to c table s n (Some v.claim)) (n - 1) v.edge_us v.bound_us ≡ b = let told : Some (beat_by c s (against_table table (Some v.claim)) (step_to c table s n (Some v.claim)) (n - 1) v.edge_us v.bound_us) ≡ Some b = rw some at e in cc in
-        rw some (record { track = stands n 0 (omega arith); told = λ u e. says n b u beat e })
+        rw some (record { track = stands n 0 pace (omega arith); told = λ u e. says n pace b u beat e })
   ]
 
 -- a tick at which it comes, by the setup that the device was made with
 module _ (t : TimelineValue) (edges : ℕ → ℕ) (early late : ℕ) (k : Keeping) (now : ℕ) (v : Vote) (b : Beat) where
   abbrev Heals : ClockRules → TableValue → Type 0
-  Heals c table = IsDevice t c.drift_us edges c.reader_rules table → Mends t c.drift_us edges early late c.reader_rules table now (after_tick k (now % 2 ^ 32)).state b
+  Heals c table = IsDevice t c.drift_us edges c.reader_rules table → Mends t c.drift_us edges early late table now (after_tick k (now % 2 ^ 32)).state b
 
   heals_here : IfHold k.state.reader HasHeardLate → IsTrueVote t edges early late now v → vote_at k (now % 2 ^ 32) ≡ Some v → answer_at k (now % 2 ^ 32) ≡ Some b → Heals k.clock k.table
   heals_here heard vote voted answer is = of (vote_at k (now % 2 ^ 32)) voted answer
@@ -197,11 +207,11 @@ module _ (t : TimelineValue) (edges : ℕ → ℕ) (early late : ℕ) (k : Keepi
       s = settled_at k.clock k.state (now % 2 ^ 32)
 
       of : (o : Option Vote) → o ≡ Some v → answer_by k.clock k.table s (now % 2 ^ 32) o ≡ Some b
-          → Mends t k.clock.drift_us edges early late k.clock.reader_rules k.table now (clock_by k.clock k.table s (now % 2 ^ 32) o) b
+          → Mends t k.clock.drift_us edges early late k.table now (clock_by k.clock k.table s (now % 2 ^ 32) o) b
       of None e answer = absurd cc
       of (Some x) e answer =
           let same : v ≡ x = cc in
-          let h = heals_by t edges early late k.clock k.table s is heard now x (subst (λ (y : Vote). IsTrueVote t edges early late now y) same vote) (edges_to_vote s.edge_us x.edge_us) b answer in
+          let h = heals_by t edges early late k.clock k.table s is heard now x (subst (λ (y : Vote). IsTrueVote t edges early late now y) same vote) (edges_to_vote s.edge_us x.edge_us) _ b answer in
           record { track = h.track; told = h.told }
 
   heals : (new : Keeping) → IsSameSetup new k → IfHold k.state.reader HasHeardLate → IsTrueVote t edges early late now v → vote_at k (now % 2 ^ 32) ≡ Some v → answer_at k (now % 2 ^ 32) ≡ Some b → Heals new.clock new.table
@@ -217,7 +227,7 @@ module _ (IsTrue : ℕ → List Pulse → Type 0) (t : TimelineValue) (edges : �
 
   pub mended : (earlier : List Call) (mend : ℕ) (v : Vote) (b : Beat) → AreInOrder start new.clock.redundancy (Tick mend ∷ earlier) → AreTrueLately IsTrue (f_of new.clock.redundancy) mend earlier
       → vote_at (after_calls new earlier) (mend % 2 ^ 32) ≡ Some v → answer_at (after_calls new earlier) (mend % 2 ^ 32) ≡ Some b
-      → Mends t new.clock.drift_us edges early late new.clock.reader_rules new.table mend (after_calls new (Tick mend ∷ earlier)).state b
+      → Mends t new.clock.drift_us edges early late new.table mend (after_calls new (Tick mend ∷ earlier)).state b
   mended earlier mend v b order lately voted answer =
       let l = lines_after new start begins earlier mend order in
       let k : Keeping = after_calls new earlier in
@@ -237,7 +247,7 @@ module _ (IsTrue : ℕ → List Pulse → Type 0) (t : TimelineValue) (edges : �
       let track = track_on IsTrue t edges early late new start begins is room truly 0 (Tick mend ∷ earlier) base later order.3 truth.1 (steps (later ++ (Tick mend ∷ earlier))) in
       let told = ((tick_in IsTrue t edges early late new start begins is room truly 0 (later ++ (Tick mend ∷ earlier)) now order truth.0 track (steps (Tick now ∷ (later ++ (Tick mend ∷ earlier)))).0).told then u answers says).told in
       let has = answer_bound new low (later ++ (Tick mend ∷ earlier)) (now % 2 ^ 32) in
-      record { told = told; bound = has.bound then answers; few = has.few then answers }
+      record { told = told; bound = has.bound then answers; few = has.few then answers; small = omega (arith, has.small then answers, is.steady.few, reach_few new.clock) }
 
   -- ---- since then
 
@@ -245,7 +255,7 @@ module _ (IsTrue : ℕ → List Pulse → Type 0) (t : TimelineValue) (edges : �
     -- what a later tick leaves and answers
     pub tick_since : (later : List Call) (now : ℕ) → AreInOrder start new.clock.redundancy (Tick now ∷ (later ++ (Tick mend ∷ earlier))) → AreTrueLately IsTrue (f_of new.clock.redundancy) now (later ++ (Tick mend ∷ earlier))
         → AreTrueOver IsTrue (f_of new.clock.redundancy) later (Tick mend ∷ earlier)
-        → KeepsTrue t new.clock.drift_us edges early late 0 new.clock.reader_rules new.table now (after_tick (after_calls new (later ++ (Tick mend ∷ earlier))) (now % 2 ^ 32)).state (answer_at (after_calls new (later ++ (Tick mend ∷ earlier))) (now % 2 ^ 32))
+        → KeepsTrue t new.clock.drift_us edges early late 0 new.table now (after_tick (after_calls new (later ++ (Tick mend ∷ earlier))) (now % 2 ^ 32)).state (answer_at (after_calls new (later ++ (Tick mend ∷ earlier))) (now % 2 ^ 32))
     tick_since later now order here truth =
         let ordered = order_before start new.clock.redundancy later (Tick mend ∷ earlier) order.3 in
         let base = (mended earlier mend v b ordered lately voted answer).track in
@@ -255,7 +265,7 @@ module _ (IsTrue : ℕ → List Pulse → Type 0) (t : TimelineValue) (edges : �
     abbrev Newly : ℕ → List Call → Type 0
     Newly now calls =
         AreInOrder start new.clock.redundancy (Tick now ∷ calls) → (x : Beat) (u : UtcSecond) → answer_at (after_calls new calls) (now % 2 ^ 32) ≡ Some x → x.report.announce ≡ Some u
-        → IsToldNewly t new.clock.drift_us edges early late 0 new.clock.reader_rules new.table now x u (after_calls new (Tick now ∷ calls)).state.reader (after_calls new (Tick now ∷ calls)).state.bound_us (after_calls new (Tick now ∷ calls)).state.edge_us
+        → IsToldNewly t new.clock.drift_us edges early late 0 new.table now x u (after_calls new (Tick now ∷ calls)).state.reader (after_calls new (Tick now ∷ calls)).state.bound_us (after_calls new (Tick now ∷ calls)).state.pace (after_calls new (Tick now ∷ calls)).state.edge_us
 
     pub newly : (later calls : List Call) (now : ℕ) → Tick now ∷ calls ≡ later ++ (Tick mend ∷ earlier) → AreTrueOver IsTrue (f_of new.clock.redundancy) later (Tick mend ∷ earlier) → Newly now calls
     newly [] calls now are truth =

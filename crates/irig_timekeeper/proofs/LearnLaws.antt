@@ -2,7 +2,7 @@
 -- should.
 use Rattle.std.specs.Prelude.{◌==◌}
 use Rattle.std.proofs.Common.{◌≡◌, ◌∙◌, ℕ, ◌+◌, ◌-◌, ◌*◌, ◌%◌, ◌^◌, ◌<◌, ◌≤◌, List, [], ◌∷◌, Option, Some, None, refl, sym, subst, arith, inl, inr}
-use Rattle.std.proofs.Math.Nat.{mul-le-mul_left, mul-le-mul_right}
+use Rattle.std.proofs.Math.Nat.{mul-le-mul_right}
 use Rattle.std.proofs.lemmas.Bool.{cases_Bool, cases_lt}
 use Rattle.irig_sync.specs.Lines.{Pulse}
 use Rattle.irig_time.specs.declared.rules.Rules.{Rules}
@@ -22,14 +22,14 @@ use Rattle.irig_lines.specs.Paces.{WandersAsSet, ahead_us, grown_us, learned, re
 use Rattle.irig_lines.specs.Steps.{is_pulse, line_at}
 use Rattle.irig_lines.proofs.CountingLaws.{apart, rises}
 use Rattle.irig_lines.proofs.LineLaws.{true_by_any}
-use Rattle.irig_lines.proofs.PaceLaws.{goes_on, near_drift, near_grown, near_learned}
+use Rattle.irig_lines.proofs.PaceLaws.{goes_on, near_grown, near_still}
 use Rattle.irig_timekeeper.specs.declared.clock.ClockState.{ClockState}
-use Rattle.irig_timekeeper.specs.Clock.{after_own, clock_by, is_unsteady, settled_at}
+use Rattle.irig_timekeeper.specs.Clock.{after_own, clock_by, is_unsteady, settled_at, age_of}
 use Rattle.irig_timekeeper.specs.Keeping.{Keeping, vote_at, after_pulse, after_tick}
 use Rattle.irig_timekeeper.specs.Learning.{IsLearned}
 use Rattle.irig_timekeeper.specs.Life.{Call, Made, after_calls, device_of, last_tick, AreInOrder, AreTrueAtTicks, LivesTruly, life_of}
 use Rattle.irig_timekeeper.specs.Life.Call.{Hear, Tick}
-use Rattle.irig_timekeeper.specs.Truth.{IsDevice, IsEdgeAt, age_of}
+use Rattle.irig_timekeeper.specs.Truth.{IsDevice, IsEdgeAt}
 use Rattle.irig_timekeeper.proofs.EvenLaws.{AreEvenAlways}
 use Rattle.irig_timekeeper.proofs.LifeLaws.{AreLinesAt, StepsIn, TellAlwaysTruly, begins, each_new}
 use Rattle.irig_timekeeper.proofs.StrayLaws.{IfEdge, IfLearned, KnowsTruly, even_lately, is_sound, knows, knows_on}
@@ -38,16 +38,13 @@ use Rattle.irig_timekeeper.proofs.TrackLaws.{KeepsPace, StepsAt}
 
 -- ---- by nothing that was learned
 
-pub plain_keeps : (edges : ℕ → ℕ) (early late d : ℕ) → IsQuartz d edges → (rules : ReaderRules) (edge voted age n : ℕ) → KeepsPace edges early late d rules None edge voted age n
-plain_keeps edges early late d quartz rules edge voted age n = record {
+pub plain_keeps : (edges : ℕ → ℕ) (early late d : ℕ) → IsQuartz d edges → (edge voted age n : ℕ) → KeepsPace edges early late d None edge voted age n
+plain_keeps edges early late d quartz edge voted age n = record {
   sound = λ p e. absurd cc;
-  near = λ w small near held some.
+  near = λ w more k small near grown few held some upto.
       let far = apart d edges quartz w n in
-      record { least = omega (arith, far.most, near.least); most = omega (arith, far.least, near.most) };
-  told = λ w k small near held some more.
-      let far = apart d edges quartz w n in
-      let grows = mul-le-mul_right d more in
-      record { least = omega (arith, far.most, near.least, grows); most = omega (arith, far.least, near.most, grows) };
+      let grows = mul-le-mul_right d upto in
+      record { least = omega (arith, far.most, near.least, grown, grows); most = omega (arith, far.least, near.most, grown, grows) };
 }
 
 -- a device that learns nothing
@@ -84,7 +81,7 @@ module _ (k : Keeping) (is : IsPlain k) where
   plain_at : (edges : ℕ → ℕ) (early late : ℕ) → IsQuartz k.clock.drift_us edges → (tick now : ℕ) → StepsAt edges early late k tick now
   plain_at edges early late quartz tick now alone e edge is_edge at =
       let none = plain_settled k is.none (now % 2 ^ 32) in
-      rw none (plain_keeps edges early late k.clock.drift_us quartz k.clock.reader_rules edge k.state.bound_us (age_of k.state.reader) _)
+      rw none (plain_keeps edges early late k.clock.drift_us quartz edge k.state.bound_us (age_of k.state.reader) _)
 
 -- its setup stays
 set_up : (new : Keeping) (calls : List Call) → (after_calls new calls).clock ≡ new.clock
@@ -108,42 +105,33 @@ plain_steps edges early late new start is quartz (Tick now ∷ calls) =
 
 -- ---- by what was learned
 
-module _ (c : ClockRules) (edges : ℕ → ℕ) (quartz : IsQuartz c.drift_us edges) (short : (c.reader_rules.holdover + 2) * c.drift_us ≤ 490000) (w age voted edge : ℕ) (known : Option Interval) where
-  keeps : (pace : Option Pace) → IfLearned edges c w age voted edge known pace → (n : ℕ) → (1 ≤ n → n ≤ 1803) → KeepsPace edges 0 0 c.drift_us c.reader_rules pace edge voted age n
-  keeps None h n few = plain_keeps edges 0 0 c.drift_us quartz c.reader_rules edge voted age n
+module _ (c : ClockRules) (edges : ℕ → ℕ) (quartz : IsQuartz c.drift_us edges) (w age voted edge : ℕ) (known : Option Interval) where
+  keeps : (pace : Option Pace) → IfLearned edges c w age voted edge known pace → (n : ℕ) → (1 ≤ n → n ≤ 1803) → KeepsPace edges 0 0 c.drift_us pace edge voted age n
+  keeps None h n few = plain_keeps edges 0 0 c.drift_us quartz edge voted age n
   keeps (Some p) h n few = record {
     sound = is_sound c edges quartz w age voted edge known (Some p) h;
-    near = λ w' small near held some.
-        let there = same_second w' small near held in
+    near = λ w' more k small near grown low held some upto.
+        let there = same_second w' more small near low (omega (arith, held)) in
         let on = goes_on edges (c.reader_rules.holdover + 2000) c.drift_us voted w h.a edge p h.paced n (omega (arith, h.few, few some)) in
-        let drifts = near_drift edges (c.reader_rules.holdover + 2000) c.drift_us voted (w + n) (h.a + n) (edge + ahead_us (Some p) n) (rest_on n p) on (omega (arith, some)) in
-        let grows = mul-le-mul_right c.drift_us (let more : h.a + n ≤ age + n = omega (arith, h.young) in more) in
-        subst (λ (i : ℕ). IsNear edges (0 + voted + (age + n) * c.drift_us) (0 + voted + (age + n) * c.drift_us) (i + n) (edge + ahead_us (Some p) n)) there (record { least = omega (arith, drifts.least, grows); most = omega (arith, drifts.most, grows) });
-    told = λ w' k small near held some more.
-        let there = same_second w' small near held in
-        let on = goes_on edges (c.reader_rules.holdover + 2000) c.drift_us voted w h.a edge p h.paced n (omega (arith, h.few, few some)) in
-        let grown = near_grown edges (c.reader_rules.holdover + 2000) c.drift_us voted (w + n) (h.a + n) (edge + ahead_us (Some p) n) (rest_on n p) on (omega (arith, some)) k (omega (arith, h.young, more)) in
-        subst (λ (i : ℕ). IsNear edges (0 + voted + grown_us c.drift_us (Some p) k) (0 + voted + grown_us c.drift_us (Some p) k) (i + n) (edge + ahead_us (Some p) n)) there (record { least = omega (arith, grown.least); most = omega (arith, grown.most) });
+        let then = near_grown edges (c.reader_rules.holdover + 2000) c.drift_us voted (w + n) (h.a + n) (edge + ahead_us (Some p) n) (rest_on n p) on (omega (arith, some)) k (omega (arith, h.young, upto)) in
+        subst (λ (i : ℕ). IsNear edges (0 + voted + grown_us c.drift_us (Some p) k) (0 + voted + grown_us c.drift_us (Some p) k) (i + n) (edge + ahead_us (Some p) n)) there (record { least = omega (arith, then.least); most = omega (arith, then.most) });
   }
     where
       -- there is one second so near
-      same_second : (i : ℕ) → voted ≤ 2899 → IsNear edges (0 + voted + age * c.drift_us) (0 + voted + age * c.drift_us) i edge → age ≤ c.reader_rules.holdover → w ≡ i
-      same_second i small near held =
-          let mine = near_learned edges (c.reader_rules.holdover + 2000) c.drift_us voted w h.a edge p h.paced in
-          let few_held = mul-le-mul_right c.drift_us (let l : h.a ≤ c.reader_rules.holdover + 2 = omega (arith, h.few) in l) in
-          let fine = mul-le-mul_left h.a h.paced.fit in
-          let drifts = mul-le-mul_right c.drift_us (let l : age ≤ c.reader_rules.holdover + 2 = omega (arith, held) in l) in
+      same_second : (i more : ℕ) → voted ≤ 2899 → IsNear edges (0 + voted + more) (0 + voted + more) i edge → more ≤ 490000 → grown_us c.drift_us (Some p) age ≤ 490000 → w ≡ i
+      same_second i more small near low held =
+          let mine = near_still edges (c.reader_rules.holdover + 2000) c.drift_us voted w h.a edge p h.paced age h.young in
           elim (cases_lt w i) [
             | inl less ↦
                 let there : w + (i - w) ≡ i = omega (arith, less) in
                 let rise = subst (λ (x : ℕ). edges w + (i - w) * 999900 ≤ edges x) there (rises c.drift_us edges quartz w (i - w)) in
-                absurd (omega (arith, rise, less, near.least, mine.most, small, few_held, fine, drifts, short))
-            | inr more ↦ elim (cases_lt i w) [
+                absurd (omega (arith, rise, less, near.least, mine.most, small, low, held))
+            | inr not_less ↦ elim (cases_lt i w) [
               | inl less ↦
                   let there : i + (w - i) ≡ w = omega (arith, less) in
                   let rise = subst (λ (x : ℕ). edges i + (w - i) * 999900 ≤ edges x) there (rises c.drift_us edges quartz i (w - i)) in
-                  absurd (omega (arith, rise, less, near.most, mine.least, small, few_held, fine, drifts, short))
-              | inr same ↦ omega (arith, more, same)
+                  absurd (omega (arith, rise, less, near.most, mine.least, small, low, held))
+              | inr same ↦ omega (arith, not_less, same)
             ]
           ]
 
@@ -152,7 +140,7 @@ module _ (t : TimelineValue) (edges : ℕ → ℕ) (new : Keeping) (start : ℕ)
   learned_at : (calls : List Call) (now : ℕ) → AreInOrder start new.clock.redundancy (Tick now ∷ calls) → AreTrueAtTicks IsTrue (f_of new.clock.redundancy) calls → StepsAt edges 0 0 (after_calls new calls) (last_tick start calls) now
   learned_at calls now order truth alone e edge is_edge at =
       elim (cases_Bool (is_unsteady k.clock k.state (now % 2 ^ 32))) [
-        | inl unsteady ↦ rw unsteady (plain_keeps edges 0 0 k.clock.drift_us quartz k.clock.reader_rules edge k.state.bound_us (age_of k.state.reader) _)
+        | inl unsteady ↦ rw unsteady (plain_keeps edges 0 0 k.clock.drift_us quartz edge k.state.bound_us (age_of k.state.reader) _)
         | inr steady ↦ rw steady (of k.state.edge_us h.known is_edge)
       ]
     where
@@ -165,9 +153,6 @@ module _ (t : TimelineValue) (edges : ℕ → ℕ) (new : Keeping) (start : ℕ)
       quartz : IsQuartz k.clock.drift_us edges
       quartz = subst (λ (c : ClockRules). IsQuartz c.drift_us edges) (sym same) is.steady
 
-      short : (k.clock.reader_rules.holdover + 2) * k.clock.drift_us ≤ 490000
-      short = subst (λ (c : ClockRules). (c.reader_rules.holdover + 2) * c.drift_us ≤ 490000) (sym same) is.short
-
       h : KnowsTruly edges (last_tick start calls) k.clock k.state
       h = knows_on t edges new start begins fresh is IsTrue truly evenly wanders from calls order.3 truth
 
@@ -175,7 +160,7 @@ module _ (t : TimelineValue) (edges : ℕ → ℕ) (new : Keeping) (start : ℕ)
       soon = omega (arith, order.1)
 
       of : (o : Option ℕ) → IfEdge edges k.clock (last_tick start calls) o k.state.interval k.state.anchors (age_of k.state.reader) k.state.bound_us k.state.pace → o ≡ Some e
-          → KeepsPace edges 0 0 k.clock.drift_us k.clock.reader_rules k.state.pace edge k.state.bound_us (age_of k.state.reader) (edges_own k.state.pace o (now % 2 ^ 32))
+          → KeepsPace edges 0 0 k.clock.drift_us k.state.pace edge k.state.bound_us (age_of k.state.reader) (edges_own k.state.pace o (now % 2 ^ 32))
       of None known is_edge = absurd cc
       of (Some e') known is_edge =
           let here : e' ≡ e = cc in
@@ -185,8 +170,8 @@ module _ (t : TimelineValue) (edges : ℕ → ℕ) (new : Keeping) (start : ℕ)
           let few : 1 ≤ n → n ≤ 1803 = λ some.
           let then = own_edge_at (last_tick start calls) now order.0 soon e' known.0 known.2 k.state.pace sound n (own_count (last_tick start calls) now order.0 soon e' known.0 known.2 k.state.pace) some in
           omega (arith, (lasts_so k.state.pace sound n).least, then.come, known.2.soon, soon) in
-          subst (λ (x : ℕ). KeepsPace edges 0 0 k.clock.drift_us k.clock.reader_rules k.state.pace x k.state.bound_us (age_of k.state.reader) n) there
-          (keeps k.clock edges quartz short known.1 (age_of k.state.reader) k.state.bound_us known.0 k.state.interval k.state.pace known.5 n few)
+          subst (λ (x : ℕ). KeepsPace edges 0 0 k.clock.drift_us k.state.pace x k.state.bound_us (age_of k.state.reader) n) there
+          (keeps k.clock edges quartz known.1 (age_of k.state.reader) k.state.bound_us known.0 k.state.interval k.state.pace known.5 n few)
 
   pub learned_steps : (calls : List Call) → AreInOrder start new.clock.redundancy calls → AreTrueAtTicks IsTrue (f_of new.clock.redundancy) calls → StepsIn edges 0 0 new start calls
   learned_steps [] order truth = tt

@@ -23,6 +23,7 @@ use Rattle.irig_lines.specs.declared.lines.KeptClaim.{KeptClaim}
 use Rattle.irig_lines.specs.declared.lines.Line.{Line}
 use Rattle.irig_lines.specs.declared.lines.Lines.{Lines}
 use Rattle.irig_lines.specs.declared.lines.Vote.{Vote}
+use Rattle.irig_lines.proofs.WidthLaws.{reach_few}
 use Rattle.irig_timekeeper.specs.declared.clock.Beat.{Beat}
 use Rattle.irig_lines.specs.declared.setup.ClockRules.{ClockRules}
 use Rattle.irig_timekeeper.specs.declared.clock.ClockState.{ClockState}
@@ -423,9 +424,9 @@ module _ (IsTrue : ℕ → List Pulse → Type 0) (t : TimelineValue) (edges : �
   module _ (new k : Keeping) (M tick now : ℕ) (pulses : ℕ → List Pulse) (order : tick ≤ now) (soon : now ≤ tick + 1800000000) (room : early + late ≤ 3002) where
     abbrev TicksTruly : ClockRules → TableValue → Rules → Type 0
     TicksTruly c table rules =
-        TellsTruly (IsTrue now) c rules t edges early late now → IsDevice t c.drift_us edges c.reader_rules table → IsOnTrack t edges early late c.drift_us M c.reader_rules table tick k.state.reader k.state.bound_us k.state.edge_us
+        TellsTruly (IsTrue now) c rules t edges early late now → IsDevice t c.drift_us edges c.reader_rules table → IsOnTrack t edges early late c.drift_us M table tick k.state.reader k.state.bound_us k.state.pace k.state.edge_us
         → AreHeardTruly (IsTrue now) c rules (f_of c.redundancy) now k.state.lines pulses
-        → StepsAt edges early late k tick now → KeepsTrue t c.drift_us edges early late M c.reader_rules table now (after_tick k (now % 2 ^ 32)).state (answer_at k (now % 2 ^ 32))
+        → StepsAt edges early late k tick now → KeepsTrue t c.drift_us edges early late M table now (after_tick k (now % 2 ^ 32)).state (answer_at k (now % 2 ^ 32))
 
     ticks_truly : IsSameSetup new k → TicksTruly new.clock new.table new.rules
     ticks_truly same =
@@ -452,12 +453,12 @@ module _ (IsTrue : ℕ → List Pulse → Type 0) (t : TimelineValue) (edges : �
         }
 
     abbrev pub IsTrack : ℕ → ℕ → Keeping → Type 0
-    IsTrack M tick k = IsOnTrack t edges early late new.clock.drift_us M new.clock.reader_rules new.table tick k.state.reader k.state.bound_us k.state.edge_us
+    IsTrack M tick k = IsOnTrack t edges early late new.clock.drift_us M new.table tick k.state.reader k.state.bound_us k.state.pace k.state.edge_us
 
     module _ (is : IsDevice t new.clock.drift_us edges new.clock.reader_rules new.table) (room : early + late ≤ 3002) (truly : TellAlwaysTruly IsTrue new.clock new.rules t edges early late) where
       -- what a tick answers in a life
       pub tick_in : (M : ℕ) (calls : List Call) (now : ℕ) → AreInOrder start new.clock.redundancy (Tick now ∷ calls) → AreTrueLately IsTrue (f_of new.clock.redundancy) now calls → IsTrack M (last_tick start calls) (after_calls new calls) → StepsAt edges early late (after_calls new calls) (last_tick start calls) now
-          → KeepsTrue t new.clock.drift_us edges early late M new.clock.reader_rules new.table now (after_tick (after_calls new calls) (now % 2 ^ 32)).state (answer_at (after_calls new calls) (now % 2 ^ 32))
+          → KeepsTrue t new.clock.drift_us edges early late M new.table now (after_tick (after_calls new calls) (now % 2 ^ 32)).state (answer_at (after_calls new calls) (now % 2 ^ 32))
       tick_in M calls now order lately track steps =
           let l = lines_after new start begins calls now order in
           ticks_truly new (after_calls new calls) M (last_tick start calls) now (λ i. pulses_on i calls) order.0 (omega (arith, order.1)) room l.same (truly now) is track (heard_truly calls now order lately) steps
@@ -541,7 +542,7 @@ module _ (rules : Rules) (clock : ClockRules) (table : TableValue) (lines : Line
   module _ (IsTrue : ℕ → List Pulse → Type 0) (t : TimelineValue) (edges : ℕ → ℕ) (early late : ℕ) (is : IsDevice t clock.drift_us edges clock.reader_rules table) (room : early + late ≤ 3002) (truly : TellAlwaysTruly IsTrue clock rules t edges early late) where
     -- where it stands, and what a tick answers
     pub ticks : (calls : List Call) (now : ℕ) → AreInOrder start clock.redundancy (Tick now ∷ calls) → AreTrueAtTicks IsTrue (f_of clock.redundancy) (Tick now ∷ calls) → StepsIn edges early late new start (Tick now ∷ calls)
-        → KeepsTrue t clock.drift_us edges early late 0 clock.reader_rules table now (after_tick (after_calls new calls) (now % 2 ^ 32)).state (answer_at (after_calls new calls) (now % 2 ^ 32))
+        → KeepsTrue t clock.drift_us edges early late 0 table now (after_tick (after_calls new calls) (now % 2 ^ 32)).state (answer_at (after_calls new calls) (now % 2 ^ 32))
     ticks calls now order truth steps =
         let none : calls ++ [] ≡ calls = append-nil calls in
         let all = subst (AreTrueAtTicks IsTrue (f_of clock.redundancy)) (sym none) truth.1 in
@@ -552,7 +553,7 @@ module _ (rules : Rules) (clock : ClockRules) (table : TableValue) (lines : Line
         → answer_at (after_calls new calls) (now % 2 ^ 32) ≡ Some b → b.report.announce ≡ Some u → IsToldInHoldover t edges early late clock now b u
     device_true calls now b u order truth steps answer says =
         let has = answer_bound new (omega arith) calls (now % 2 ^ 32) in
-        record { told = ((ticks calls now order truth steps).told b u answer says).told; bound = has.bound b answer; few = has.few b answer }
+        record { told = ((ticks calls now order truth steps).told b u answer says).told; bound = has.bound b answer; few = has.few b answer; small = omega (arith, has.small b answer, is.steady.few, reach_few clock) }
 
     pub device_calm : (calls : List Call) (now : ℕ) (b : Beat) → AreInOrder start clock.redundancy (Tick now ∷ calls) → AreTrueAtTicks IsTrue (f_of clock.redundancy) (Tick now ∷ calls) → StepsIn edges early late new start (Tick now ∷ calls)
         → answer_at (after_calls new calls) (now % 2 ^ 32) ≡ Some b → ¬ (b.report.cause ≡ cause.Jump)

@@ -1,5 +1,5 @@
 -- Beats are votes of irig_reader's rule, so that its laws of votes are laws of beats.
-use Rattle.std.proofs.Common.{◌≡◌, ◌∙◌, ℕ, zero, suc, ◌+◌, ◌≤◌, ◌-◌, List, [], ◌∷◌, Option, Some, None, ap, arith, Bool, true, refl, sym, inl}
+use Rattle.std.proofs.Common.{◌≡◌, ◌∙◌, ℕ, zero, suc, ◌+◌, ◌≤◌, ◌-◌, List, [], ◌∷◌, Option, Some, None, ap, arith, Bool, true, refl, subst, sym, inl, inr}
 use Rattle.irig_time.specs.declared.second.UtcSecond.{UtcSecond}
 use Rattle.irig_time.specs.declared.claim.Claim.{Claim}
 use Rattle.irig_time.specs.Tables.{TableValue}
@@ -16,11 +16,15 @@ use Rattle.irig_lines.specs.declared.lines.Vote.{Vote}
 use Rattle.irig_timekeeper.specs.Rule.{missed, step_behind, against_table, step_checked}
 use Rattle.irig_lines.specs.Paces.{grown_us}
 use Rattle.irig_lines.proofs.PaceLaws.{none_grown}
-use Rattle.irig_timekeeper.specs.Clock.{bound_of, answer_to_vote}
+use Rattle.irig_timekeeper.specs.Clock.{bound_of, answer_to_vote, rules_on}
 use Rattle.irig_lines.specs.Steps.{tells_of}
 use Rattle.irig_timekeeper.specs.Keeping.{Keeping}
 use Rattle.irig_timekeeper.proofs.CheckedSteps.{checked_cases, passes}
 use Rattle.irig_timekeeper.proofs.GuardLaws.{passes_truth}
+use Rattle.irig_timekeeper.proofs.SpentLaws.{either_rules, same_vote}
+use Rattle.irig_timekeeper.proofs.AgeLaws.{alone_step}
+use Rattle.irig_lines.specs.declared.pace.Pace.{Pace}
+use Rattle.irig_lines.specs.declared.setup.ClockRules.{ClockRules}
 use Rattle.irig_timekeeper.specs.Truth.{FollowsTruth}
 use Rattle.irig_reader.specs.declared.rule.Step.{Step}
 
@@ -51,6 +55,30 @@ module _ (rules : ReaderRules) (table : TableValue) where
   missed_led prefers zero s led = led
   missed_led prefers (suc n) s led = step_led prefers (missed prefers rules table n s) None (missed_led prefers n s led)
 
+-- where a holdover that is spent ends there, too
+pub led_on : (c : ClockRules) (pace : Option Pace) (reader : State) (n : ℕ) (prefers : Bool) (table : TableValue) (m : ℕ) (s : State) (vote : Option Claim) → IsLed c.reader_rules table s → IsLed c.reader_rules table (step_behind prefers (rules_on c pace reader n) table m s vote).state
+led_on c pace reader n prefers table m s vote led = elim (either_rules c pace reader n) [
+  | inr goes ↦ subst (λ (r : ReaderRules). IsLed c.reader_rules table (step_behind prefers r table m s vote).state) (sym goes.1) (step_led c.reader_rules table prefers (missed prefers c.reader_rules table m s) vote (missed_led c.reader_rules table prefers m s led))
+  | inl ended ↦ of ended.1 vote
+]
+  where
+    -- none is held
+    ends : (s : State) → (rules_on c pace reader n).holdover ≡ 0 → IsLed c.reader_rules table (step_checked prefers (rules_on c pace reader n) table s None).state
+    ends s none = elim (alone_step prefers (rules_on c pace reader n) table s) [
+      | inl stop ↦ record { votes = []; reads = stop.0 }
+      | inr older ↦ absurd (omega (arith, older.locked.older, older.locked.young, none))
+    ]
+
+    before : (rules_on c pace reader n).holdover ≡ 0 → (m : ℕ) → IsLed c.reader_rules table (missed prefers (rules_on c pace reader n) table m s)
+    before none zero = led
+    before none (suc m) = ends (missed prefers (rules_on c pace reader n) table m s) none
+
+    of : (rules_on c pace reader n).holdover ≡ 0 → (vote : Option Claim) → IsLed c.reader_rules table (step_checked prefers (rules_on c pace reader n) table (missed prefers (rules_on c pace reader n) table m s) vote).state
+    of none None = ends (missed prefers (rules_on c pace reader n) table m s) none
+    of none (Some v) =
+        subst (λ (x : Step). IsLed c.reader_rules table x.state) (sym (same_vote c pace reader n prefers table (missed prefers (rules_on c pace reader n) table m s) v))
+        (step_led c.reader_rules table prefers (missed prefers (rules_on c pace reader n) table m s) (Some v) (before none m))
+
 -- the newest of so many true votes
 newest : (t : TimelineValue) (n k : ℕ) → 1 ≤ k → (vote : Option Claim) (before earlier : List (Option Claim)) → vote ∷ before ≡ then_true t n k earlier → vote ≡ truth_at t (n + (k - 1))
 newest t n zero some vote before earlier are = absurd (omega (arith, some))
@@ -66,7 +94,7 @@ beats_lock t n k vote before earlier u sound follows some silent there stands ar
     let rules = k.clock.reader_rules in
     let reports : report_of rules k.table (Some vote.claim) before ≡ voted_report u = locked_by_true_votes t rules k.table sound some n (Some vote.claim) earlier before u silent there are in
     let head : Some vote.claim ≡ truth_at t (n + (rules.lock_after - 1)) = newest t n rules.lock_after some (Some vote.claim) before earlier are in
-    let passed = passes_truth t k.clock.prefers_frames rules k.table follows (n + (rules.lock_after - 1)) k.state.reader vote.claim (sym head) in
+    let passed = same_vote k.clock k.state.pace k.state.reader 1 k.clock.prefers_frames k.table k.state.reader vote.claim ∙ passes_truth t k.clock.prefers_frames rules k.table follows (n + (rules.lock_after - 1)) k.state.reader vote.claim (sym head) in
     let report = ap (λ (x : Step). x.report) passed ∙ ap (λ (s : State). (step_of rules k.table s (Some vote.claim)).report) stands ∙ reports in
     let bound : vote.bound_us + grown_us k.clock.drift_us k.state.pace 0 ≡ vote.bound_us = omega (arith, none_grown k.clock.drift_us k.state.pace) in
     ap (λ (r : Report). Some (record { report = r; told = tells_of k.state.lines; edge_us = vote.edge_us; bound_us = bound_of k.clock.drift_us k.state.pace vote.bound_us r.lock; missed = 0; moved = k.state.moved; against_table = against_table k.table (Some vote.claim) })) report

@@ -16,11 +16,11 @@ use Rattle.irig_lines.specs.Counting.{edges_own, edges_to_vote}
 use Rattle.irig_lines.specs.Intervals.{by_vote, carried_on, contradicts}
 use Rattle.irig_lines.specs.Rates.{no_anchors, anchors_on, mean_since, rate_of, serving}
 use Rattle.irig_lines.proofs.RateLaws.{AreRound, mean_is}
-use Rattle.irig_timekeeper.specs.Truth.{IsEdgeAt, age_of}
+use Rattle.irig_timekeeper.specs.Truth.{IsEdgeAt}
 use Rattle.irig_lines.specs.declared.setup.ClockRules.{ClockRules}
 use Rattle.irig_timekeeper.specs.Measures.{IsMeasured}
 use Rattle.irig_timekeeper.specs.declared.clock.ClockState.{ClockState}
-use Rattle.irig_timekeeper.specs.Clock.{after_own, clock_by, is_unsteady, known_at, settled_at}
+use Rattle.irig_timekeeper.specs.Clock.{after_own, clock_by, is_unsteady, known_at, settled_at, age_of}
 use Rattle.irig_timekeeper.specs.Keeping.{Keeping, vote_at, after_tick, rate_at}
 use Rattle.irig_timekeeper.specs.Life.{Call, Made, life_of, last_tick, LivesTruly}
 use Rattle.irig_timekeeper.proofs.AnchorLaws.{IfAnchored, is_served}

@@ -27,7 +27,7 @@ use Rattle.irig_lines.specs.Widths.{vote_us}
 use Rattle.irig_lines.specs.Counting.{edges_to_vote, edges_own}
 use Rattle.irig_timekeeper.specs.Rule.{missed, step_behind, against_table, step_checked}
 use Rattle.irig_lines.specs.Steps.{is_pulse}
-use Rattle.irig_timekeeper.specs.Clock.{lasted, beat_by, step_to, after_vote, answer_to_vote, after_own, answer_alone, own_edge, clock_by, answer_by, settled_at}
+use Rattle.irig_timekeeper.specs.Clock.{lasted, beat_by, step_to, after_vote, answer_to_vote, after_own, answer_alone, own_edge, clock_by, answer_by, settled_at, rules_on}
 use Rattle.irig_timekeeper.specs.Stamps.{next_us, stamp_by, first_stamp}
 use Rattle.irig_timekeeper.specs.Keeping.{Keeping, vote_at, after_tick, answer_at, stamp_at}
 use Rattle.irig_timekeeper.specs.Life.{Call, Made, after_calls, device_of, life_of}
@@ -140,12 +140,12 @@ module _ (c : ClockRules) (table : TableValue) (s : ClockState) (since : ℕ) (a
 
   tells : (n edge voted : ℕ) (vote : Option Claim) (new : ClockState) → (step_to c table s n vote).state ≡ new.reader → IsSinceTick since new (Some (beat_by c s (against_table table vote) (step_to c table s n vote) (n - 1) edge voted))
   tells n edge voted vote new same =
-      let is = behind c.prefers_frames c.reader_rules table since (n - 1) s.reader vote aged in
+      let is = behind c.prefers_frames (rules_on c s.pace s.reader n) table since (n - 1) s.reader vote aged in
       record {
         aged = subst (IsAged (unless_voted (step_to c table s n vote).report.cause (since + (n - 1) + 1))) same is.aged;
         lasts = λ b u e says.
             let beat : beat_by c s (against_table table vote) (step_to c table s n vote) (n - 1) edge voted ≡ b = cc in
-            ap (λ (x : Beat). lasted x.report.lock) (sym beat) ∙ is.lasts u (rule_announces s.doubt vote (step_behind c.prefers_frames c.reader_rules table (n - 1) s.reader vote).report.announce u (ap (λ (x : Beat). x.report.announce) beat ∙ says));
+            ap (λ (x : Beat). lasted x.report.lock) (sym beat) ∙ is.lasts u (rule_announces s.doubt vote (step_behind c.prefers_frames (rules_on c s.pace s.reader n) table (n - 1) s.reader vote).report.announce u (ap (λ (x : Beat). x.report.announce) beat ∙ says));
       }
 
   since_own : (n : ℕ) → IsSinceTick since (after_own c table s n) (answer_alone c table s n)

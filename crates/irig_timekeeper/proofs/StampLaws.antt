@@ -88,7 +88,7 @@ pub record IsToldSo (t : TimelineValue) (edges : ℕ → ℕ) (early late d edge
   pub clock : a.edge_us ≡ edge % 2 ^ 32
   pub near : IsNear edges (early + a.bound_us) (late + a.bound_us) m edge
   pub truth : IsSecond t m a.second
-  pub small : a.bound_us + 2 * d ≤ most_vote_us + most_held_us
+  pub small : a.bound_us ≤ most_vote_us + most_held_us
 
 pub kept_second : (edge bound : ℕ) (o : Option UtcSecond) (a : Announced) → announced_at edge bound o ≡ Some a → (u : UtcSecond) × (o ≡ Some u) × (a.second ≡ u) × (a.edge_us ≡ edge) × (a.bound_us ≡ bound)
 kept_second edge bound None a e = absurd cc
@@ -96,7 +96,7 @@ kept_second edge bound (Some u) a e =
     let same : record { second = u; edge_us = edge; bound_us = bound } ≡ a = cc in
     (u, refl, ap (λ (x : Announced). x.second) (sym same), ap (λ (x : Announced). x.edge_us) (sym same), ap (λ (x : Announced). x.bound_us) (sym same))
 
-told_so : (t : TimelineValue) (edges : ℕ → ℕ) (early late d now : ℕ) (b : Beat) (edge : ℕ) → b.bound_us + 2 * d ≤ most_vote_us + most_held_us
+told_so : (t : TimelineValue) (edges : ℕ → ℕ) (early late d now : ℕ) (b : Beat) (edge : ℕ) → b.bound_us ≤ most_vote_us + most_held_us
     → ((u : UtcSecond) → b.report.announce ≡ Some u → IsToldTruly t edges (early + b.bound_us) (late + b.bound_us) now b u) → IsEdgeAt b.edge_us edge now → (a : Announced) → announced_at b.edge_us b.bound_us b.report.announce ≡ Some a → IsToldSo t edges early late d edge a
 told_so t edges early late d now b edge small told at a e =
     let kept = kept_second b.edge_us b.bound_us b.report.announce a e in
@@ -423,12 +423,11 @@ module _ (rules : Rules) (clock : ClockRules) (table : TableValue) (lines : Line
 
   -- ---- what is told
 
-  -- its bound is no more than a vote's and the drift of the longest holdover
-  pub small_bound : (t : TimelineValue) (edges : ℕ → ℕ) → IsDevice t clock.drift_us edges clock.reader_rules table → (calls : List Call) (now : ℕ) (b : Beat) → answer_at (after_calls new calls) (now % 2 ^ 32) ≡ Some b → b.bound_us + 2 * clock.drift_us ≤ most_vote_us + most_held_us
+  -- its bound is no more than a vote's and what comes of the longest holdover
+  pub small_bound : (t : TimelineValue) (edges : ℕ → ℕ) → IsDevice t clock.drift_us edges clock.reader_rules table → (calls : List Call) (now : ℕ) (b : Beat) → answer_at (after_calls new calls) (now % 2 ^ 32) ≡ Some b → b.bound_us ≤ most_vote_us + most_held_us
   small_bound t edges is calls now b e =
       let has = answer_bound new (omega arith) calls (now % 2 ^ 32) in
-      let most = mul-le-mul_left clock.drift_us (let h : lasted b.report.lock + 2 ≤ clock.reader_rules.holdover + 2 = omega (arith, has.few b e) in h) in
-      omega (arith, has.bound b e, most, is.short, is.steady.few, reach_few clock)
+      omega (arith, has.small b e, is.steady.few, reach_few clock)
 
   -- whatever lines carry
   pub tells_anyhow : (t : TimelineValue) (edges : ℕ → ℕ) → IsDevice t clock.drift_us edges clock.reader_rules table → (calls : List Call) (now : ℕ) → TellsSo IsToldAnyhow calls now

@@ -14,13 +14,14 @@ use Rattle.irig_lines.specs.Edges.{IsQuartz, IsNear}
 use Rattle.irig_lines.specs.Counting.{edges_between, edges_to_vote, edges_own}
 use Rattle.irig_time.specs.Timelines.{TimelineValue}
 use Rattle.irig_lines.specs.Intervals.{LiesBetween, AreNear, by_vote, carried, carried_on, common_from, common, or_alone, cut, is_nothing, contradicts}
-use Rattle.irig_timekeeper.specs.Truth.{IsTrueVote, IsEdgeAt, IsDevice, age_of}
+use Rattle.irig_timekeeper.proofs.SpentLaws.{no_longer}
+use Rattle.irig_timekeeper.specs.Truth.{IsTrueVote, IsEdgeAt, IsDevice}
 use Rattle.irig_timekeeper.specs.declared.clock.ClockState.{ClockState}
 use Rattle.irig_lines.specs.declared.setup.ClockRules.{ClockRules}
 use Rattle.irig_sync.specs.Lines.{Pulse}
 use Rattle.irig_vote.specs.Vote.{f_of}
 use Rattle.irig_lines.specs.Lines.{IsTrueLately}
-use Rattle.irig_timekeeper.specs.Clock.{own_edge, after_own, after_vote, is_held, knowing, knowing_vote, learning, anchors_unless, doubted_s, clock_by, settled_at, is_unsteady}
+use Rattle.irig_timekeeper.specs.Clock.{own_edge, after_own, after_vote, is_held, knowing, knowing_vote, learning, anchors_unless, doubted_s, clock_by, settled_at, is_unsteady, age_of, rules_on}
 use Rattle.irig_lines.specs.Steps.{is_pulse, line_at, settled, agreed, if_come}
 use Rattle.irig_timekeeper.specs.Keeping.{Keeping, vote_at, after_pulse, after_tick}
 use Rattle.irig_timekeeper.specs.Life.{Call, Made, after_calls, device_of, life_of, last_tick, pulses_on, AreInOrder, AreTrueLately, AreTrueAtTicks, LivesTruly}
@@ -432,20 +433,20 @@ module _ (c : ClockRules) (edges : ℕ → ℕ) (quartz : IsQuartz c.drift_us ed
 
   -- it goes on while the reader does
   learned_on : (table : TableValue) (s : State) (w voted edge n : ℕ) (known : Option Interval) (pace : Option Pace) → IfLearned edges c w (age_of s) voted edge known pace → 1 ≤ n → n ≤ 1803
-      → IfLearned edges c (w + n) (age_of (step_behind c.prefers_frames c.reader_rules table (n - 1) s None).state) voted (edge + ahead_us pace n) (carried_on c.drift_us n known)
-      (pace_on (is_held (step_behind c.prefers_frames c.reader_rules table (n - 1) s None).state) n pace)
+      → IfLearned edges c (w + n) (age_of (step_behind c.prefers_frames (rules_on c pace s n) table (n - 1) s None).state) voted (edge + ahead_us pace n) (carried_on c.drift_us n known)
+      (pace_on (is_held (step_behind c.prefers_frames (rules_on c pace s n) table (n - 1) s None).state) n pace)
   learned_on table s w voted edge n known None h some few = tt
-  learned_on table s w voted edge n known (Some p) h some few = elim (gone c.prefers_frames c.reader_rules table (n - 1) s) [
-    | inl idle ↦ let ends : is_held (step_behind c.prefers_frames c.reader_rules table (n - 1) s None).state ≡ false = ap is_held idle in rw ends tt
+  learned_on table s w voted edge n known (Some p) h some few = elim (gone c.prefers_frames (rules_on c (Some p) s n) table (n - 1) s) [
+    | inl idle ↦ let ends : is_held (step_behind c.prefers_frames (rules_on c (Some p) s n) table (n - 1) s None).state ≡ false = ap is_held idle in rw ends tt
     | inr older ↦
-        let lasts : is_held (step_behind c.prefers_frames c.reader_rules table (n - 1) s None).state ≡ true = ap is_held older.is in
-        let age : age_of (step_behind c.prefers_frames c.reader_rules table (n - 1) s None).state ≡ older.h.age = ap age_of older.is in
+        let lasts : is_held (step_behind c.prefers_frames (rules_on c (Some p) s n) table (n - 1) s None).state ≡ true = ap is_held older.is in
+        let age : age_of (step_behind c.prefers_frames (rules_on c (Some p) s n) table (n - 1) s None).state ≡ older.h.age = ap age_of older.is in
         let one_more : n ≡ n - 1 + 1 = omega (arith, some) in
         let on = goes_on edges (c.reader_rules.holdover + 2000) c.drift_us voted w h.a edge p h.paced n (omega (arith, h.few, few)) in
-        let next : LearnedTruly edges c (w + n) (age_of (step_behind c.prefers_frames c.reader_rules table (n - 1) s None).state) voted (edge + ahead_us (Some p) n) (carried_on c.drift_us n known) (rest_on n p) = record {
+        let next : LearnedTruly edges c (w + n) (age_of (step_behind c.prefers_frames (rules_on c (Some p) s n) table (n - 1) s None).state) voted (edge + ahead_us (Some p) n) (carried_on c.drift_us n known) (rest_on n p) = record {
           a = h.a + n;
           young = omega (arith, age, older.older, h.young, one_more);
-          few = omega (arith, older.older, older.young, h.young, one_more);
+          few = omega (arith, older.older, older.young, no_longer c (Some p) s n, h.young, one_more);
           paced = on;
           fit = record { least = h.fit.least; most = h.fit.most; rest = omega arith };
           grown = grows known h.grown;
@@ -548,15 +549,15 @@ module _ (c : ClockRules) (edges : ℕ → ℕ) (quartz : IsQuartz c.drift_us ed
   d = c.drift_us
 
   -- where the reader and what was learned then stand
-  abbrev reader_on : TableValue → State → ℕ → State
-  reader_on table s n = (step_behind c.prefers_frames c.reader_rules table (n - 1) s None).state
+  abbrev reader_on : TableValue → Option Pace → State → ℕ → State
+  reader_on table pace s n = (step_behind c.prefers_frames (rules_on c pace s n) table (n - 1) s None).state
 
   abbrev pace_then : TableValue → State → ℕ → Option Pace → Option Pace
-  pace_then table s n pace = pace_on (is_held (reader_on table s n)) n pace
+  pace_then table s n pace = pace_on (is_held (reader_on table pace s n)) n pace
 
   -- without a vote
   own_edge_known : (table : TableValue) (s : State) (voted : ℕ) (pace : Option Pace) (o : Option ℕ) (known : Option Interval) (anchors : Anchors) → voted ≤ 2899 → IfEdge edges c tick o known anchors (age_of s) voted pace → (n : ℕ) → n ≡ edges_own pace o (now % 2 ^ 32)
-      → IfEdge edges c now (cond (n == 0) o (Some (own_edge pace o n))) (carried_on d n known) (anchors_on n (carried_on d n known) anchors) (age_of (cond (n == 0) s (reader_on table s n))) voted (cond (n == 0) pace (pace_then table s n pace))
+      → IfEdge edges c now (cond (n == 0) o (Some (own_edge pace o n))) (carried_on d n known) (anchors_on n (carried_on d n known) anchors) (age_of (cond (n == 0) s (reader_on table pace s n))) voted (cond (n == 0) pace (pace_then table s n pace))
   own_edge_known table s voted pace None known anchors small none n same = rw (same, none.0) (refl, none.1)
   own_edge_known table s voted pace (Some e) known anchors small h n same =
       let edge = h.0 in
@@ -606,24 +607,32 @@ module _ (c : ClockRules) (edges : ℕ → ℕ) (quartz : IsQuartz c.drift_us ed
     edge_now = record { clock = vote.clock; come = vote.come; soon = omega (arith, vote.soon) }
 
     -- one second later by what was learned
-    module _ (e : ℕ) (p : Pace) (x : Interval) (age before edge w : ℕ) (at : IsEdgeAt e edge tick) (h : KnowsEdge edges edge w x) (l : LearnedTruly edges c w age before edge (Some x) p) (small : before ≤ 2899) (limit : (c.reader_rules.holdover + 2) * d ≤ 490000) (one : 1 ≡ edges_between edge vote.edge) where
+    module _ (e : ℕ) (p : Pace) (x : Interval) (age before edge w : ℕ) (at : IsEdgeAt e edge tick) (h : KnowsEdge edges edge w x) (l : LearnedTruly edges c w age before edge (Some x) p) (small : before ≤ 2899) (one : 1 ≡ edges_between edge vote.edge) where
       slow : d ≤ 100
       slow = omega (arith, quartz.few)
 
       -- it lies near its true one
-      is_near : IsNear edges (2899 + (l.a * d + 1)) (2899 + (l.a * d + 1)) w edge
+      far : ℕ
+      far = l.a * d - l.a + 1
+
+      is_near : IsNear edges (2899 + far) (2899 + far) w edge
+      unfolding far
       is_near =
           let near = near_learned edges (c.reader_rules.holdover + 2000) d before w l.a edge p l.paced in
           let product = mul-le-mul_left l.a l.paced.fit in
           record { least = omega (arith, near.least, product, small); most = omega (arith, near.most, product, small) }
 
-      few : 2 * (l.a * d + 1) + 2 * (1 * d) ≤ 980000
+      few : 2 * far + 2 * (1 * d) ≤ 980000
+      unfolding far
       few =
-          let most = mul-le-mul_right d (let held : l.a + 2 ≤ c.reader_rules.holdover + 2 = omega (arith, l.few) in held) in
-          omega (arith, most, limit, l.paced.fit)
+          let known : 2 * (l.a * d) ≤ x.long_us = l.grown x refl in
+          elim (cases_lt d l.a) [
+            | inl more ↦ omega (arith, known, h.short, more)
+            | inr upto ↦ let product = mul-le-mul_right d (let hundred : l.a ≤ 100 = omega (arith, upto, slow) in hundred) in omega (arith, product, slow)
+          ]
 
       is_next : w + 1 ≡ vote.truth.second + 1
-      is_next = right d edges quartz t now v vote tick order soon edge w at.come at.soon (l.a * d + 1) is_near 1 one few
+      is_next = right d edges quartz t now v vote tick order soon edge w at.come at.soon far is_near 1 one few
 
       paced_cuts : KnowsOn d edges quartz t now v vote (paced p x)
       paced_cuts = elim (cases_lt (2 * 490000) (x.long_us + (longest_us p - shortest_us p))) [
@@ -666,36 +675,35 @@ module _ (c : ClockRules) (edges : ℕ → ℕ) (quartz : IsQuartz c.drift_us ed
         | inr short ↦ cuts d edges quartz t now v vote (edge + n * 1000000) (w + n) (carried d n x) (carries d edges quartz edge w n (edge + n * 1000000) x h (lies_near d edges quartz edge w n x h)) (λ y e. is_right (omega (arith, short)))
       ]
 
-    module _ (limit : (c.reader_rules.holdover + 2) * d ≤ 490000) where
-      -- the anchors serve on
-      anchored : (o : Option ℕ) (known : Option Interval) (anchors : Anchors) (age before : ℕ) (pace : Option Pace) → before ≤ 2899 → IfEdge edges c tick o known anchors age before pace → (n : ℕ) → n ≡ edges_to_vote o v.edge_us → AreAnchored edges (vote.truth.second + 1) (anchors_on n (carried_by d pace n known) anchors)
-      anchored None known anchors age before pace small none n same = rw none.0 (record { old = tt; young = tt })
-      anchored (Some e) None anchors age before pace small h n same = record { old = tt; young = tt }
-      anchored (Some e) (Some x) anchors age before None small h n same =
-          let count : n ≡ edges_between h.0 vote.edge = same ∙ voted_count tick now order soon e h.0 h.2 v.edge_us vote.edge edge_now vote.soon in
-          drift_anchored e h.0 h.1 h.2 x h.3 n count anchors h.4
-      anchored (Some e) (Some x) anchors age before (Some p) small h n same =
-          let count : n ≡ edges_between h.0 vote.edge = same ∙ voted_count tick now order soon e h.0 h.2 v.edge_us vote.edge edge_now vote.soon in
-          elim (cases_Bool (n == 1)) [
-            | inl is ↦
-                let one : n ≡ 1 = eqb-true n 1 is in
-                let on = paced_anchored e p x age before h.0 h.1 h.2 h.3 h.5 small limit (sym one ∙ count) anchors h.4 in
-                rw is (subst (λ (m : ℕ). AreAnchored edges (vote.truth.second + 1) (anchors_on m (paced p x) anchors)) (sym one) on)
-            | inr more ↦ rw more (drift_anchored e h.0 h.1 h.2 x h.3 n count anchors h.4)
-          ]
+    -- the anchors serve on
+    anchored : (o : Option ℕ) (known : Option Interval) (anchors : Anchors) (age before : ℕ) (pace : Option Pace) → before ≤ 2899 → IfEdge edges c tick o known anchors age before pace → (n : ℕ) → n ≡ edges_to_vote o v.edge_us → AreAnchored edges (vote.truth.second + 1) (anchors_on n (carried_by d pace n known) anchors)
+    anchored None known anchors age before pace small none n same = rw none.0 (record { old = tt; young = tt })
+    anchored (Some e) None anchors age before pace small h n same = record { old = tt; young = tt }
+    anchored (Some e) (Some x) anchors age before None small h n same =
+        let count : n ≡ edges_between h.0 vote.edge = same ∙ voted_count tick now order soon e h.0 h.2 v.edge_us vote.edge edge_now vote.soon in
+        drift_anchored e h.0 h.1 h.2 x h.3 n count anchors h.4
+    anchored (Some e) (Some x) anchors age before (Some p) small h n same =
+        let count : n ≡ edges_between h.0 vote.edge = same ∙ voted_count tick now order soon e h.0 h.2 v.edge_us vote.edge edge_now vote.soon in
+        elim (cases_Bool (n == 1)) [
+          | inl is ↦
+              let one : n ≡ 1 = eqb-true n 1 is in
+              let on = paced_anchored e p x age before h.0 h.1 h.2 h.3 h.5 small (sym one ∙ count) anchors h.4 in
+              rw is (subst (λ (m : ℕ). AreAnchored edges (vote.truth.second + 1) (anchors_on m (paced p x) anchors)) (sym one) on)
+          | inr more ↦ rw more (drift_anchored e h.0 h.1 h.2 x h.3 n count anchors h.4)
+        ]
 
-      voted : (o : Option ℕ) (known : Option Interval) (anchors : Anchors) (age before : ℕ) (pace : Option Pace) → before ≤ 2899 → IfEdge edges c tick o known anchors age before pace → (n : ℕ) → n ≡ edges_to_vote o v.edge_us → KnowsOn d edges quartz t now v vote (carried_by d pace n known)
-      voted None known anchors age before pace small none n same = rw none.0 (record { knows = knows_alone d edges quartz t now v vote; agrees = refl })
-      voted (Some e) None anchors age before pace small h n same = record { knows = knows_alone d edges quartz t now v vote; agrees = refl }
-      voted (Some e) (Some x) anchors age before None small h n same =
-          let count : n ≡ edges_between h.0 vote.edge = same ∙ voted_count tick now order soon e h.0 h.2 v.edge_us vote.edge edge_now vote.soon in
-          drift_cuts e h.0 h.1 h.2 x h.3 n count
-      voted (Some e) (Some x) anchors age before (Some p) small h n same =
-          let count : n ≡ edges_between h.0 vote.edge = same ∙ voted_count tick now order soon e h.0 h.2 v.edge_us vote.edge edge_now vote.soon in
-          elim (cases_Bool (n == 1)) [
-            | inl is ↦ let one : n ≡ 1 = eqb-true n 1 is in rw is (paced_cuts e p x age before h.0 h.1 h.2 h.3 h.5 small limit (sym one ∙ count))
-            | inr more ↦ rw more (drift_cuts e h.0 h.1 h.2 x h.3 n count)
-          ]
+    voted : (o : Option ℕ) (known : Option Interval) (anchors : Anchors) (age before : ℕ) (pace : Option Pace) → before ≤ 2899 → IfEdge edges c tick o known anchors age before pace → (n : ℕ) → n ≡ edges_to_vote o v.edge_us → KnowsOn d edges quartz t now v vote (carried_by d pace n known)
+    voted None known anchors age before pace small none n same = rw none.0 (record { knows = knows_alone d edges quartz t now v vote; agrees = refl })
+    voted (Some e) None anchors age before pace small h n same = record { knows = knows_alone d edges quartz t now v vote; agrees = refl }
+    voted (Some e) (Some x) anchors age before None small h n same =
+        let count : n ≡ edges_between h.0 vote.edge = same ∙ voted_count tick now order soon e h.0 h.2 v.edge_us vote.edge edge_now vote.soon in
+        drift_cuts e h.0 h.1 h.2 x h.3 n count
+    voted (Some e) (Some x) anchors age before (Some p) small h n same =
+        let count : n ≡ edges_between h.0 vote.edge = same ∙ voted_count tick now order soon e h.0 h.2 v.edge_us vote.edge edge_now vote.soon in
+        elim (cases_Bool (n == 1)) [
+          | inl is ↦ let one : n ≡ 1 = eqb-true n 1 is in rw is (paced_cuts e p x age before h.0 h.1 h.2 h.3 h.5 small (sym one ∙ count))
+          | inr more ↦ rw more (drift_cuts e h.0 h.1 h.2 x h.3 n count)
+        ]
 
 -- ---- a life
 
@@ -742,7 +750,7 @@ module _ (t : TimelineValue) (edges : ℕ → ℕ) (new : Keeping) (start : ℕ)
       known_then = rw steady h.known
 
       reader_then : ℕ → State
-      reader_then n = (step_behind k.clock.prefers_frames k.clock.reader_rules k.table (n - 1) k.state.reader None).state
+      reader_then n = (step_behind k.clock.prefers_frames (rules_on k.clock s.pace k.state.reader n) k.table (n - 1) k.state.reader None).state
 
       own : (n : ℕ) → n ≡ edges_own s.pace k.state.edge_us (now % 2 ^ 32) → KnowsTruly edges now k.clock (knowing k.clock s n (after_own k.clock k.table s n))
       own n count =
@@ -760,9 +768,8 @@ module _ (t : TimelineValue) (edges : ℕ → ℕ) (new : Keeping) (start : ℕ)
       by_true : (v : Vote) (vote : IsTrueVote t edges 0 0 now v) (n : ℕ) → n ≡ edges_to_vote k.state.edge_us v.edge_us → KnowsTruly edges now k.clock (learning k.clock (knowing_vote k.clock s v n (after_vote k.clock k.table s v n)))
       by_true v vote n count =
           let then = carried_by k.clock.drift_us s.pace n k.state.interval in
-          let limit = subst (λ (c : ClockRules). (c.reader_rules.holdover + 2) * c.drift_us ≤ 490000) (sym same) is.short in
-          let on = voted k.clock edges quartz (last_tick start calls) now order.0 soon t v vote limit k.state.edge_us k.state.interval s.anchors (age_of k.state.reader) k.state.bound_us s.pace h.small known_then n count in
-          let serve = anchored k.clock edges quartz (last_tick start calls) now order.0 soon t v vote limit k.state.edge_us k.state.interval s.anchors (age_of k.state.reader) k.state.bound_us s.pace h.small known_then n count in
+          let on = voted k.clock edges quartz (last_tick start calls) now order.0 soon t v vote k.state.edge_us k.state.interval s.anchors (age_of k.state.reader) k.state.bound_us s.pace h.small known_then n count in
+          let serve = anchored k.clock edges quartz (last_tick start calls) now order.0 soon t v vote k.state.edge_us k.state.interval s.anchors (age_of k.state.reader) k.state.bound_us s.pace h.small known_then n count in
           let both = cuts_on edges (vote.truth.second + 1) (cut then (by_vote v)) on.knows.begin on.knows.around.clock on.knows.around.least on.knows.around.most on.knows.short (anchors_on n then s.anchors) serve in
           let anchors : AreAnchored edges (vote.truth.second + 1) (anchors_cut (cut then (by_vote v)) (anchors_unless (contradicts then (by_vote v)) (anchors_on n then s.anchors))) = rw on.agrees both in
           let near : IsNear edges v.bound_us v.bound_us (vote.truth.second + 1) vote.edge = record { least = omega (arith, vote.truth.near.least); most = omega (arith, vote.truth.near.most) } in

@@ -32,7 +32,7 @@ use Rattle.irig_lines.specs.declared.setup.ClockRules.{ClockRules}
 use Rattle.irig_lines.specs.Edges.{IsQuartz}
 use Rattle.irig_lines.specs.Counting.{edges_to_vote, edges_own}
 use Rattle.irig_timekeeper.specs.Rule.{missed, against_table, step_checked}
-use Rattle.irig_timekeeper.specs.Clock.{bound_of, beat_by, step_to, own_edge, answer_by, settled_at}
+use Rattle.irig_timekeeper.specs.Clock.{bound_of, beat_by, step_to, own_edge, answer_by, settled_at, rules_on}
 use Rattle.irig_timekeeper.specs.declared.clock.ClockState.{ClockState}
 use Rattle.irig_timekeeper.specs.Keeping.{Keeping, answer_at, vote_at}
 use Rattle.irig_timekeeper.specs.Truth.{AreHeardTruly, IsToldTruly}
@@ -103,14 +103,14 @@ tick_voted_by IsTrue t edges k d early late room now pulses b u quartz truly sou
     by_own n true e answer = absurd cc
     by_own n false e answer =
         let beat : beat_by k.clock s false (step_to k.clock k.table s n None) (n - 1) (own_edge s.pace s.edge_us n) s.bound_us ≡ b = cc in
-        absurd (never_voted k.clock.reader_rules k.table k.clock.prefers_frames (missed k.clock.prefers_frames k.clock.reader_rules k.table (n - 1) k.state.reader) (ap (λ (x : Beat). x.report.cause) beat ∙ voted))
+        absurd (never_voted (rules_on k.clock s.pace k.state.reader n) k.table k.clock.prefers_frames (missed k.clock.prefers_frames (rules_on k.clock s.pace k.state.reader n) k.table (n - 1) k.state.reader) (ap (λ (x : Beat). x.report.cause) beat ∙ voted))
 
     by_vote : (v : Vote) → IsVoteNear k.clock d t edges early late now v → (n : ℕ) (test : Bool) → (n == 0) ≡ test → cond test None (Some (beat_by k.clock s (against_table k.table (Some v.claim)) (step_to k.clock k.table s n (Some v.claim)) (n - 1) v.edge_us v.bound_us)) ≡ Some b
         → IsToldBy k.clock d t edges early late now b u
     by_vote v vote n true e answer = absurd cc
     by_vote v vote n false e answer =
         let beat : beat_by k.clock s (against_table k.table (Some v.claim)) (step_to k.clock k.table s n (Some v.claim)) (n - 1) v.edge_us v.bound_us ≡ b = cc in
-        let state = missed k.clock.prefers_frames k.clock.reader_rules k.table (n - 1) k.state.reader in
+        let state = missed k.clock.prefers_frames (rules_on k.clock s.pace k.state.reader n) k.table (n - 1) k.state.reader in
         let truth : truth_at t vote.truth.second ≡ Some v.claim = (claim_is t vote.truth.second v.claim).1 vote.truth.truth in
         let lock : Lock = (step_to k.clock k.table s n (Some v.claim)).report.lock in
         let bound : b.bound_us ≡ bound_of k.clock.drift_us s.pace v.bound_us lock = ap (λ (x : Beat). x.bound_us) (sym beat) in
@@ -125,7 +125,7 @@ tick_voted_by IsTrue t edges k d early late room now pulses b u quartz truly sou
             near = vote.truth.near;
             come = vote.come;
             soon = omega (arith, vote.soon);
-            truth = voted_second t vote.truth.second k.clock.prefers_frames k.clock.reader_rules k.table state v.claim u sound truth (ap (λ (x : Beat). x.report.cause) beat ∙ voted) (ap (λ (x : Beat). x.report.announce) beat ∙ says);
+            truth = voted_second t vote.truth.second k.clock.prefers_frames (rules_on k.clock s.pace k.state.reader n) k.table state v.claim u sound truth (ap (λ (x : Beat). x.report.cause) beat ∙ voted) (ap (λ (x : Beat). x.report.announce) beat ∙ says);
           };
         }
 

@@ -9,6 +9,7 @@ use Rattle.irig_time.specs.Tables.{TableValue}
 use Rattle.irig_reader.specs.declared.report.Lock.{Lock}
 use Rattle.irig_reader.specs.declared.report.Lock.TheVariants as lock
 use Rattle.irig_reader.specs.declared.report.Report.{Report}
+use Rattle.irig_reader.specs.declared.rules.ReaderRules.{ReaderRules}
 use Rattle.irig_reader.specs.declared.rule.Step.{Step}
 use Rattle.irig_reader.specs.declared.rule.State.{State}
 use Rattle.irig_reader.specs.declared.rule.State.TheVariants.{Idle, Acquiring, Locked}
@@ -20,7 +21,7 @@ use Rattle.irig_lines.specs.declared.setup.ClockRules.{ClockRules}
 use Rattle.irig_timekeeper.specs.declared.clock.ClockState.{ClockState}
 use Rattle.irig_lines.specs.Counting.{edges_to_vote, edges_own}
 use Rattle.irig_lines.specs.declared.pace.Pace.{Pace}
-use Rattle.irig_lines.specs.Paces.{carried_by, edge_on, grown_us, learned, pace_on}
+use Rattle.irig_lines.specs.Paces.{carried_by, edge_on, grown_us, is_spent, learned, pace_on}
 use Rattle.irig_lines.specs.Steps.{settled, taken, tells_of, are_uneven, agreed, if_come, wait_by}
 use Rattle.irig_lines.specs.declared.interval.Interval.{Interval}
 use Rattle.irig_lines.specs.Intervals.{by_vote, carried_on, cut, contradicts}
@@ -38,6 +39,12 @@ lasted lock.Unlocked = 0
 lasted (lock.Acquiring count) = 0
 lasted lock.Locked = 0
 lasted (lock.Holdover edges) = edges
+
+-- the edges since a locked reader's last vote
+abbrev pub age_of : State → ℕ
+age_of Idle = 0
+age_of (Acquiring h count) = 0
+age_of (Locked h) = h.age
 
 -- its edge lies at most as far off as that of the last vote, and what comes of each second since
 abbrev pub bound_of : (drift : ℕ) → Option Pace → (voted : ℕ) → Lock → ℕ
@@ -131,11 +138,17 @@ beaten c s lines vote step missed edge voted = record {
   ended_before = if missed == 0 then s.ended else None;
 }
 
+-- the reader's rules where so many seconds are counted: a holdover that is spent ends there
+abbrev pub rules_on : ClockRules → Option Pace → State → (edges : ℕ) → ReaderRules
+rules_on c pace reader edges =
+    if is_spent c.drift_us pace (age_of reader) edges then record c.reader_rules { holdover = 0 }
+    else c.reader_rules
+
 -- the step at an edge to which so many seconds were counted, one or more
 abbrev pub step_to : ClockRules → TableValue → ClockState → ℕ → Option Claim → Step
 step_to c table s edges vote =
     counted_on s.doubt vote
-    (step_behind c.prefers_frames c.reader_rules table (edges - 1) s.reader vote)
+    (step_behind c.prefers_frames (rules_on c s.pace s.reader edges) table (edges - 1) s.reader vote)
 
 -- ---- lines agree on an edge
 

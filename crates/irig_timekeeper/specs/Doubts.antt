@@ -6,7 +6,7 @@ use Rattle.irig_lines.specs.declared.lines.Vote.{Vote}
 use Rattle.irig_timekeeper.specs.declared.clock.Beat.{Beat}
 use Rattle.irig_lines.specs.Counting.{edges_to_vote}
 use Rattle.irig_timekeeper.specs.Rule.{step_behind}
-use Rattle.irig_timekeeper.specs.Clock.{claim_voted}
+use Rattle.irig_timekeeper.specs.Clock.{claim_voted, rules_on, settled_at}
 use Rattle.irig_timekeeper.specs.Keeping.{Keeping, vote_at, after_tick}
 use Rattle.irig_timekeeper.specs.Life.{Call, after_calls}
 use Rattle.irig_timekeeper.specs.Life.Call.{Tick}
@@ -36,9 +36,10 @@ NoneStrays new (Tick now ∷ later) earlier =
 NoneStrays new (_ ∷ later) earlier = NoneStrays new later earlier
 
 -- a tick says of an edge what the reader's rule says behind as many as were missed, by its vote, where
--- the leap table guards it
+-- the leap table guards it, and a holdover that is spent ends
 abbrev pub SaysTheRule : Keeping → (clock : ℕ) → Beat → Type 0
 SaysTheRule k clock beat =
     beat.report
-    ≡ (step_behind k.clock.prefers_frames k.clock.reader_rules k.table beat.missed k.state.reader
-    (claim_voted (vote_at k clock))).report
+    ≡ (step_behind k.clock.prefers_frames
+    (rules_on k.clock (settled_at k.clock k.state clock).pace k.state.reader (beat.missed + 1)) k.table
+    beat.missed k.state.reader (claim_voted (vote_at k clock))).report

@@ -20,7 +20,9 @@ use Rattle.irig_timekeeper.specs.declared.clock.Beat.{Beat}
 use Rattle.irig_lines.specs.declared.lines.Vote.{Vote}
 use Rattle.irig_lines.specs.declared.lines.Lines.{Lines}
 use Rattle.irig_timekeeper.specs.declared.stamp.Stamp.{Stamp}
-use Rattle.irig_timekeeper.specs.Clock.{lasted}
+use Rattle.irig_lines.specs.declared.pace.Pace.{Pace}
+use Rattle.irig_lines.specs.Paces.{grown_us}
+use Rattle.irig_timekeeper.specs.Clock.{age_of, lasted}
 use Rattle.irig_lines.specs.Edges.{IsQuartz, IsNear, IsTrueNear}
 use Rattle.irig_lines.specs.Lines.{IfKept, IsInTurnOf}
 use Rattle.irig_lines.specs.Steps.{line_at, claim_kept}
@@ -52,12 +54,6 @@ pub record IsTrueVote (t : TimelineValue) (edges : ℕ → ℕ) (early late now 
 
 -- ---- where a device stands
 
--- the edges since a locked reader's last vote
-abbrev pub age_of : State → ℕ
-age_of Idle = 0
-age_of (Acquiring h count) = 0
-age_of (Locked h) = h.age
-
 -- a device's edge, by a clock of 32 bits, is that of the last tick, at this time: it lies at most
 -- 1.006 s back, and not ahead
 pub record IsEdgeAt (e edge tick : ℕ) : Type 0 where
@@ -84,29 +80,30 @@ StandsSurely t table n Idle = ⊤
 StandsSurely t table n (Acquiring h count) = IsSureAt t table n h
 StandsSurely t table n (Locked h) = IsSureAt t table n h
 
--- the reader stands at T(w), as which its edge is right but for the bound of the last vote and the
--- drift of a edges; what was announced last was T(last) at most
+-- the reader stands at T(w), as which its edge is right but for the bound of the last vote and so much
+-- more, no more than comes of the edges since; what was announced last was T(last) at most
 pub record StandsAt (t : TimelineValue) (edges : ℕ → ℕ) (early late d last : ℕ)
-    (rules : ReaderRules) (table : TableValue) (tick : ℕ) (stands : State) (voted e w a : ℕ)
+    (table : TableValue) (tick : ℕ) (stands : State) (voted : ℕ) (pace : Option Pace) (e w more : ℕ)
     : Type 0 where
   pub edge : ℕ
   pub at : IsEdgeAt e edge tick
-  pub near : IsNear edges (early + voted + a * d) (late + voted + a * d) w edge
+  pub near : IsNear edges (early + voted + more) (late + voted + more) w edge
   pub small : voted ≤ most_vote_us
   pub truth : StandsSurely t table w stands
-  pub young : a ≤ age_of stands
-  pub few : a ≤ rules.holdover
+  pub grown : more ≤ grown_us d pace (age_of stands)
+  pub few : more ≤ most_held_us
   pub behind : last ≤ w
 
 -- a device has nothing to go on, or stands at the truth; its votes lie no further from their edges than
 -- their bounds, that of the last one `voted`, and so much more before them and behind them
-abbrev pub IsOnTrack : TimelineValue → (ℕ → ℕ) → (early late d last : ℕ) → ReaderRules → TableValue
-    → ℕ → State → (voted : ℕ) → Option ℕ → Type 0
-IsOnTrack t edges early late d last rules table tick state voted None = (state ≡ Idle) × (last ≡ 0)
-IsOnTrack t edges early late d last rules table tick state voted (Some e) =
+abbrev pub IsOnTrack : TimelineValue → (ℕ → ℕ) → (early late d last : ℕ) → TableValue → ℕ → State
+    → (voted : ℕ) → Option Pace → Option ℕ → Type 0
+IsOnTrack t edges early late d last table tick state voted pace None = (state ≡ Idle) × (last ≡ 0)
+IsOnTrack t edges early late d last table tick state voted pace (Some e) =
     ((state ≡ Idle)
     × ((edge : ℕ) × IsEdgeAt e edge tick × (edges last + late + most_vote_us < edge + 500000)))
-    ⊎ ((w : ℕ) × (a : ℕ) × StandsAt t edges early late d last rules table tick state voted e w a)
+    ⊎ ((w : ℕ) × (more : ℕ)
+    × StandsAt t edges early late d last table tick state voted pace e w more)
 
 -- ---- what a device tells
 
@@ -124,21 +121,20 @@ pub record IsToldTruly (t : TimelineValue) (edges : ℕ → ℕ) (before behind 
 
 -- the same, no further from the edge than the bound that is told, and so much more before it and
 -- behind it; the bound is at most that of a vote and the drift of as many edges as the holdover has
--- lasted
+-- lasted, and never above 492,899 us
 pub record IsToldInHoldover (t : TimelineValue) (edges : ℕ → ℕ)
     (early late : ℕ) (c : ClockRules) (now : ℕ) (beat : Beat) (u : UtcSecond) : Type 0 where
   pub told : IsToldTruly t edges (early + beat.bound_us) (late + beat.bound_us) now beat u
   pub bound : beat.bound_us ≤ vote_us c c.drift_us + lasted beat.report.lock * c.drift_us
   pub few : lasted beat.report.lock ≤ c.reader_rules.holdover
+  pub small : beat.bound_us ≤ most_vote_us + most_held_us
 
--- what is true of a device: its counter, the timeline, its leap table if it needs one, and its setup
--- is not refused
+-- what is true of a device: its counter, the timeline, and its leap table if it needs one
 pub record IsDevice (t : TimelineValue) (d : ℕ) (edges : ℕ → ℕ) (rules : ReaderRules)
     (table : TableValue) : Type 0 where
   pub steady : IsQuartz d edges
   pub sound : IsTimeline t
   pub knows : KnowsMonthEnds t rules table
-  pub short : (rules.holdover + 2) * d ≤ most_held_us
 
 -- a leap table does not keep a device from the truth that frames tell: it yields to them, or is true
 abbrev pub FollowsTruth : TimelineValue → (prefers_frames : Bool) → TableValue → Type 0

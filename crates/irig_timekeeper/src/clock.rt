@@ -8,9 +8,9 @@ ghost use Rattle.irig_timekeeper.specs.Rule.{against_table, missed, step_behind}
 ghost use Rattle.irig_lines.specs.Steps.{AreKeptOfUtc, AreNewLines};
 ghost use Rattle.irig_timekeeper.specs.Keeping.{new_state};
 ghost use Rattle.irig_lines.specs.Intervals.{IsShort};
-ghost use Rattle.irig_lines.specs.Paces.{IsSound};
+ghost use Rattle.irig_lines.specs.Paces.{IsSound, grown_us};
 ghost use Rattle.irig_lines.specs.Rates.{rate_of, serving};
-ghost use Rattle.irig_timekeeper.specs.Clock.{knowing, knowing_vote, learning, is_held, lasted, bound_of, announced_at, still_serves, beat_by, beaten, step_to, after_vote, answer_to_vote, after_own, answer_alone, doubted_s, settled_at, vote_of_lines, clock_after, clock_answer, clock_vote, clock_wait, held_second, second_ended, unless_doubted, SaysOfUtc, AnnouncedOfUtc, AreSmall};
+ghost use Rattle.irig_timekeeper.specs.Clock.{age_of, rules_on, knowing, knowing_vote, learning, is_held, lasted, bound_of, announced_at, still_serves, beat_by, beaten, step_to, after_vote, answer_to_vote, after_own, answer_alone, doubted_s, settled_at, vote_of_lines, clock_after, clock_answer, clock_vote, clock_wait, held_second, second_ended, unless_doubted, SaysOfUtc, AnnouncedOfUtc, AreSmall};
 ghost use Rattle.irig_lines.specs.Exactness.{most_drift_us, most_vote_us, most_held_us};
 
 use crate::check::{against_table, step_checked};
@@ -18,10 +18,10 @@ use crate::stamp::Announced;
 use irig_lines::{
     Anchors, ClockRules, Interval, Lines, NO_ANCHORS, Pace, Vote, agreed, anchors_cut, anchors_on,
     are_uneven, by_vote, carried_by, carried_on, contradicts, cut, edge_on, edges_own,
-    edges_to_vote, grown_us, if_come, learned, lines_of_nothing, pace_on, rate_of, settle, take,
-    tells_of, wait_by,
+    edges_to_vote, grown_us, if_come, is_spent, learned, lines_of_nothing, pace_on, rate_of,
+    settle, take, tells_of, wait_by,
 };
-use irig_reader::{Lock, Report, State, Step};
+use irig_reader::{Lock, ReaderRules, Report, State, Step};
 use irig_time::{Claim, Leaps, UtcSecond};
 use irig_vote::Tells;
 use std::mem;
@@ -116,12 +116,11 @@ pub fn clock_of_nothing() -> ClockState
 /// A tick: what is said of a second, if an edge has come since the last one. It may come at any
 /// time.
 ///
-/// The rules have no [`fault`](irig_lines::clock_fault), each claim that a line keeps is of a
+/// The counter is at most 100 us a second wrong by the rules, each claim that a line keeps is of a
 /// [`valid`](irig_time::valid) second, a reader that is acquiring had fewer votes than it locks
 /// after, the bound of the last vote is at most 2,899 us, and the interval at most 980,000 us long.
 pub fn tick<T: Leaps>(rules: &ClockRules, table: &T, state: &mut ClockState, now_us: u32) -> Ticked
     requires steady { rules.now.drift_us ≤ most_drift_us }
-    requires short { (rules.now.reader_rules.holdover + 2) * rules.now.drift_us ≤ most_held_us }
     requires counting { count_of state.old.reader < rules.now.reader_rules.lock_after }
     requires small { state.old.bound_us ≤ most_vote_us }
     requires known { IsShort state.old.interval }
@@ -157,7 +156,6 @@ fn tick_by_vote<T: Leaps>(
     requires known { IsShort state.old.interval }
     requires paced { IsSound state.old.pace }
     requires ended { AreSmall state.old }
-    requires short { (rules.now.reader_rules.holdover + 2) * rules.now.drift_us ≤ most_held_us }
     requires small { vote.bound_us ≤ most_vote_us }
     requires counting { count_of state.old.reader < rules.now.reader_rules.lock_after }
     requires valid { IsValid vote.claim.at }
@@ -206,7 +204,6 @@ fn tick_alone<T: Leaps>(
     requires known { IsShort state.old.interval }
     requires paced { IsSound state.old.pace }
     requires ended { AreSmall state.old }
-    requires short { (rules.now.reader_rules.holdover + 2) * rules.now.drift_us ≤ most_held_us }
     requires counting { count_of state.old.reader < rules.now.reader_rules.lock_after }
     requires small { state.old.bound_us ≤ most_vote_us }
     requires valid { AreKeptOfUtc state.old.lines }
@@ -304,7 +301,7 @@ fn beat_at<T: Leaps>(
     vote: Option<Claim>,
     edge_us: u32,
 ) -> Beat
-    requires short { (rules.now.reader_rules.holdover + 2) * rules.now.drift_us ≤ most_held_us }
+    requires steady { rules.now.drift_us ≤ most_drift_us }
     requires counting { count_of state.old.reader < rules.now.reader_rules.lock_after }
     requires small { state.old.bound_us ≤ most_vote_us }
     requires valid { IfSome vote (λ claim. IsValid claim.at) }
@@ -326,7 +323,7 @@ fn beat_at<T: Leaps>(
 {
     let reader = mem::replace(&mut state.reader, State::Idle);
     let held = held_second(&reader);
-    let step = step_behind(rules, table, edges - 1, reader, vote);
+    let step = step_to(rules, state.pace, table, edges, reader, vote);
     let beat = Beat {
         report: unless_doubted(state.doubt, vote, step.report),
         told: tells_of(&state.lines),
@@ -350,27 +347,82 @@ fn beat_at<T: Leaps>(
     beat
 }
 
+// What the rule says where so many seconds are counted, one or more.
+fn step_to<T: Leaps>(
+    rules: &ClockRules,
+    pace: Option<Pace>,
+    table: &T,
+    edges: u32,
+    reader: State,
+    vote: Option<Claim>,
+) -> Step
+    requires steady { rules.now.drift_us ≤ most_drift_us }
+    requires some { 1 ≤ edges }
+    requires valid { IfSome vote (λ claim. IsValid claim.at) }
+    requires counting { count_of reader < rules.now.reader_rules.lock_after }
+    ensures step { result ≡ step_behind rules.now.prefers_frames
+        (rules_on rules.now pace reader edges) (T.says table.now) (edges - 1) reader vote }
+    ensures counting { count_of result.state < rules.now.reader_rules.lock_after }
+    ensures held { grown_us rules.now.drift_us pace (lasted result.report.lock) ≤ most_held_us }
+    ensures valid { IfSome result.report.announce IsValid }
+{
+    let reader_rules = rules_on(rules, pace, &reader, edges);
+    step_behind(
+        rules.prefers_frames,
+        reader_rules,
+        table,
+        edges - 1,
+        reader,
+        vote,
+    )
+}
+
+// The rules by which so many seconds are counted: a holdover that is spent ends.
+fn rules_on(rules: &ClockRules, pace: Option<Pace>, reader: &State, edges: u32) -> ReaderRules
+    requires steady { rules.now.drift_us ≤ most_drift_us }
+    ensures value { result ≡ rules_on rules.now pace reader.now edges }
+    ensures locks { result.lock_after ≡ rules.now.reader_rules.lock_after }
+{
+    if is_spent(rules.drift_us, pace, age_of(reader), edges) {
+        return ReaderRules {
+            holdover: 0,
+            ..rules.reader_rules
+        };
+    }
+    rules.reader_rules
+}
+
+// How many edges a locked reader has held over.
+fn age_of(reader: &State) -> u32
+    ensures { result ≡ age_of reader.now }
+{
+    match reader {
+        State::Locked(hold) => hold.age(),
+        _ => 0,
+    }
+}
+
 // The rule over edges that were missed, and one more.
 fn step_behind<T: Leaps>(
-    rules: &ClockRules,
+    prefers_frames: bool,
+    reader_rules: ReaderRules,
     table: &T,
     edges: u32,
     state: State,
     vote: Option<Claim>,
 ) -> Step
     requires valid { IfSome vote (λ claim. IsValid claim.at) }
-    requires counting { count_of state < rules.now.reader_rules.lock_after }
-    ensures step { result ≡ step_behind rules.now.prefers_frames rules.now.reader_rules
-        (T.says table.now) edges state vote }
-    ensures counting { count_of result.state < rules.now.reader_rules.lock_after }
-    ensures lasted { lasted result.report.lock ≤ rules.now.reader_rules.holdover }
+    requires counting { count_of state < reader_rules.lock_after }
+    ensures step { result ≡ step_behind prefers_frames reader_rules (T.says table.now) edges state
+        vote }
+    ensures counting { count_of result.state < reader_rules.lock_after }
     ensures valid { IfSome result.report.announce IsValid }
 {
     let mut state = state;
     for gone in 0..edges {
-        state = step_checked(rules.prefers_frames, rules.reader_rules, table, state, None).state;
+        state = step_checked(prefers_frames, reader_rules, table, state, None).state;
     }
-    step_checked(rules.prefers_frames, rules.reader_rules, table, state, vote)
+    step_checked(prefers_frames, reader_rules, table, state, vote)
 }
 
 // Whether a reader is locked.
@@ -438,12 +490,12 @@ fn still_serves(
 
 // How far an edge may lie off, if that of the last vote lay so far off at most.
 fn bound_of(rules: &ClockRules, pace: Option<Pace>, voted_us: u32, lock: Lock) -> u32
-    requires short { (rules.now.reader_rules.holdover + 2) * rules.now.drift_us ≤ most_held_us }
+    requires held { grown_us rules.now.drift_us pace (lasted lock) ≤ most_held_us }
+    requires steady { rules.now.drift_us ≤ most_drift_us }
     requires small { voted_us ≤ most_vote_us }
-    requires lasted { lasted lock ≤ rules.now.reader_rules.holdover }
     ensures { result ≡ bound_of rules.now.drift_us pace voted_us lock }
 {
-    voted_us + grown_us(rules.drift_us, pace, lasted(lock))
+    voted_us + grown_us(rules.drift_us, pace, lasted(lock)) as u32
 }
 
 // What is kept of a second that is announced.

@@ -42,7 +42,6 @@ pub struct Timekeeper<P: Port> {
     pub(crate) table: LeapTable,
     pub(crate) state: ClockState,
     ghost steady: { clock.drift_us ≤ most_drift_us },
-    ghost short: { (clock.reader_rules.holdover + 2) * clock.drift_us ≤ most_held_us },
     ghost counting: { count_of state.reader < clock.reader_rules.lock_after },
     ghost small: { state.bound_us ≤ most_vote_us },
     ghost known: { IsShort state.interval },
@@ -77,16 +76,16 @@ impl<P: Port> Timekeeper<P> {
     pub fn new(rules: Rules, clock: ClockRules, table: LeapTable) -> Result<Self, ClockFault>
         requires { IsReaderRules clock.reader_rules }
         ensures new { MatchResult result
-            (λ keeper. (clock_fault clock.reader_rules clock.drift_us ≡ None)
+            (λ keeper. (clock_fault clock.reader_rules clock.drift_us clock.wander_ppb ≡ None)
             × IsNew keeper rules clock table)
-            (λ fault. clock_fault clock.reader_rules clock.drift_us ≡ Some fault) }
+            (λ fault. clock_fault clock.reader_rules clock.drift_us clock.wander_ppb ≡ Some fault) }
         ensures lived { IfOk result (λ keeper. HasLived keeper (record {
           rules = rules;
           clock = clock;
           table = table;
         }) []) }
     {
-        if let Some(fault) = clock_fault(clock.reader_rules, clock.drift_us) {
+        if let Some(fault) = clock_fault(clock.reader_rules, clock.drift_us, clock.wander_ppb) {
             return Err(fault);
         }
         Ok(Timekeeper {

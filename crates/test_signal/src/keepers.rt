@@ -309,17 +309,19 @@ fn lines_are_within_1_to_450_us(rt: HostRuntime) {
 #[test]
 fn no_holdover_is_longer_than_the_counter_can_count(rt: HostRuntime) {
     let rows = [
-        (4_898, 100, None),
-        (4_899, 100, Some(ClockFault::Holdover)),
-        (1_000_000, 1, Some(ClockFault::Holdover)),
-        (1_000_000, 0, None),
-        (0, 101, Some(ClockFault::Drift)),
+        (4_898, 100, 0, None),
+        (4_899, 100, 0, Some(ClockFault::Holdover)),
+        (1_000_000, 1, 0, Some(ClockFault::Holdover)),
+        (1_000_000, 0, 0, None),
+        (0, 101, 0, Some(ClockFault::Drift)),
+        (1_000_000, 100, 1, None),
+        (0, 101, 1, Some(ClockFault::Drift)),
     ];
-    for (holdover, drift_us, fault) in rows {
+    for (holdover, drift_us, wander_ppb, fault) in rows {
         let rules = ReaderRules {
             lock_after: 1,
             holdover,
         };
-        assert!(rt; clock_fault(rules, drift_us) == fault);
+        assert!(rt; clock_fault(rules, drift_us, wander_ppb) == fault);
     }
 }

@@ -260,9 +260,9 @@ static MEANINGS: [Meaning; 36] = [
     // 35
     Meaning {
         name: "Drift",
-        cause: "a holdover longer than a timekeeper's counter can count: (holdover + 2) * drift_us is above 490,000",
+        cause: "a holdover longer than a timekeeper's counter can count: (holdover + 2) * drift_us is above 490,000, and wander_ppb is 0",
         example: "a holdover of a day by a counter that is 50 microseconds a second wrong",
-        cure: "ask for a shorter holdover, or use a better oscillator",
+        cure: "ask for a shorter holdover, use a better oscillator, or let the timekeeper learn it by a wander_ppb",
     },
     // 36
     Meaning {

@@ -1,4 +1,4 @@
-use Rattle.std.proofs.Common.{rules, ◌≡◌, ◌∙◌, false, is_some, Option, Some, None, sym, ap, subst, refl, arith, inl}
+use Rattle.std.proofs.Common.{rules, ℕ, ◌≡◌, ◌∙◌, false, is_some, Option, Some, None, sym, ap, subst, refl, arith, inl}
 use Rattle.irig_reader.specs.declared.rules.ReaderRules.{ReaderRules}
 use Rattle.irig_lines.specs.declared.setup.ClockFault.{ClockFault}
 use Rattle.irig_timekeeper.specs.Keeping.{new_state}
@@ -28,7 +28,7 @@ returns-clause-fresh c done =
     let new = c.forget.ensures in
     let is_setup : IsKeeperSetup c.args.setup.now = search rules in
     let wires : AreWires c.args.wires.now = search rules in
-    let steady : clock_fault (reader_rules_in c.args.setup.now) c.args.wires.now.drift_us ≡ None = sym (c.clock_fault.ensures ∙ (ap (λ (r : ReaderRules). clock_fault r c.from.result) c.reader_rules_of.ensures ∙ ap (clock_fault (reader_rules_in c.args.setup.now)) c.from.ensures)) ∙ none_of c.clock_fault.result (sym c.is_some.ensures ∙ c.if-is_some.false) in
+    let steady : clock_fault (reader_rules_in c.args.setup.now) c.args.wires.now.drift_us c.args.wires.now.wander_ppb ≡ None = sym (c.clock_fault.ensures ∙ (ap (λ (r : ReaderRules). clock_fault r c.from.result c.args.wires.now.wander_ppb) c.reader_rules_of.ensures ∙ ap (λ (d : ℕ). clock_fault (reader_rules_in c.args.setup.now) d c.args.wires.now.wander_ppb) c.from.ensures)) ∙ none_of c.clock_fault.result (sym c.is_some.ensures ∙ c.if-is_some.false) in
     record {
       rules = ap (λ (s : IrigSetup). rules_in s) new.setup;
       clock = refl;
@@ -38,8 +38,8 @@ returns-clause-fresh c done =
       accepted = record {
         setup = subst (λ (s : IrigSetup). IsKeeperSetup s) (sym new.setup) is_setup;
         wires = subst AreWires (sym new.wires) wires;
-        steady = ap (λ (s : IrigSetup). clock_fault (reader_rules_in s) q.wires.drift_us) new.setup
-            ∙ (ap (λ (w : IrigWires). clock_fault (reader_rules_in c.args.setup.now) w.drift_us) new.wires ∙ steady);
+        steady = ap (λ (s : IrigSetup). clock_fault (reader_rules_in s) q.wires.drift_us q.wires.wander_ppb) new.setup
+            ∙ (ap (λ (w : IrigWires). clock_fault (reader_rules_in c.args.setup.now) w.drift_us w.wander_ppb) new.wires ∙ steady);
         bound = omega (arith, new.bound);
         known = record { interval = inl new.interval; pace = inl new.pace };
         is_state = inl (ap (λ (s : IrigState). s.kind) new.is_state);

@@ -1,11 +1,11 @@
 use Rattle.std.proofs.Common.{◌+◌, ◌≤◌, ◌∷◌, ◌++◌, arith}
 use Rattle.irig_timekeeper.specs.Life.Call.{Tick}
-use Rattle.std.proofs.Math.Nat.{mul-le-mul_left}
 use Rattle.irig_lines.specs.Clocks.{IsTrueByItsClock}
 use Rattle.irig_timekeeper.proofs.LearnLaws.{steps_plainly}
 use Rattle.irig_timekeeper.proofs.LifeLaws.{device_true, device_calm, device_in_order}
 use Rattle.irig_timekeeper.proofs.ClockLines.{clocks_are_true, clocks_tell_truly, right_clock}
 use Rattle.irig_timekeeper.proofs.StampLaws.{stamped}
+use Rattle.irig_lives.proofs.SetupLaws.{bound_small}
 use Rattle.irig_lives.proofs.laws_of_clocks.clocks_off_tell_truly.Goals as goal
 
 pub returns-clause-kept : goal.returns-clause-kept
@@ -32,9 +32,7 @@ returns-clause-stamps _ t edges made off start time now calls stamp few plain is
     (clocks_tell_truly off made.clock made.rules t edges) calls time now order truth (steps_plainly t edges made start (calls) off off plain is) past young stamp e
 
 pub returns-clause-half : goal.returns-clause-half
-returns-clause-half _ t d off edges rules table far few is low =
-    let most = mul-le-mul_left d (let h : far ≤ rules.holdover + 2 = omega (arith, low) in h) in
-    omega (arith, most, few, is.short)
+returns-clause-half _ made off now calls beat few slow answer = omega (arith, few, bound_small made now calls beat slow answer)
 
 pub returns-clause-right : goal.returns-clause-right
 returns-clause-right _ off d within rules t edges now pulses steady is = right_clock off within.us d rules t edges steady now pulses is

@@ -1,12 +1,12 @@
 use Rattle.std.proofs.Common.{◌+◌, ◌≤◌, ◌∷◌, ◌++◌, arith}
 use Rattle.irig_timekeeper.specs.Life.Call.{Tick}
-use Rattle.std.proofs.Math.Nat.{mul-le-mul_left}
 use Rattle.irig_lines.specs.Lines.{IsTrueButForFaults, IsTrueOrFaulty}
 use Rattle.irig_lines.specs.Exactness.{fault_early_us, fault_late_us}
 use Rattle.irig_timekeeper.proofs.LearnLaws.{steps_plainly}
 use Rattle.irig_timekeeper.proofs.LifeLaws.{device_true, device_calm, device_in_order}
 use Rattle.irig_timekeeper.proofs.FaultLines.{fault_small, faults_are_true, faults_tell_truly, either_tells_truly, whole_is_true}
 use Rattle.irig_gen.proofs.GenLaws.{true_frames}
+use Rattle.irig_lives.proofs.SetupLaws.{bound_small}
 use Rattle.irig_lives.proofs.SentLines.{sent_is_checked, checked_is_line}
 use Rattle.irig_timekeeper.proofs.RowLaws.{in_a_row}
 use Rattle.irig_timekeeper.proofs.StampLaws.{stamped}
@@ -45,10 +45,7 @@ pub returns-clause-most : goal.returns-clause-most
 returns-clause-most _ within d few = fault_small within d few
 
 pub returns-clause-half : goal.returns-clause-half
-returns-clause-half _ t within d edges rules table far is few =
-    let small = fault_small within d is.steady.few in
-    let most = mul-le-mul_left d (let h : far ≤ rules.holdover + 2 = omega (arith, few) in h) in
-    omega (arith, most, small.0, is.short)
+returns-clause-half _ made now calls beat few answer = omega (arith, (fault_small made.clock.within made.clock.drift_us few).0, bound_small made now calls beat few answer)
 
 pub returns-clause-lines : goal.returns-clause-lines
 returns-clause-lines _ = sent_is_checked

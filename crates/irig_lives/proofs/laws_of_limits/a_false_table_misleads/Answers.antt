@@ -5,5 +5,5 @@ use Rattle.irig_lives.proofs.laws_of_limits.a_false_table_misleads.Goals as goal
 
 pub returns : goal.returns
 returns _ = λ rules clock range plain sound long some late.
-    let fits = setup_is clock.reader_rules clock.drift_us sound in
-    (truth rules clock range fits.0 fits.1 plain long some late, made rules clock range fits.0 fits.1 plain long some late, refl, refl, table_misleads rules clock range fits.0 fits.1 plain long some late)
+    let fits = setup_is clock.reader_rules clock.drift_us clock.wander_ppb sound in
+    (truth rules clock range fits.0 plain long some late, made rules clock range fits.0 plain long some late, refl, refl, table_misleads rules clock range fits.0 plain long some late)

@@ -5,5 +5,5 @@ use Rattle.irig_lives.proofs.laws_of_limits.a_majority_misleads.Goals as goal
 
 pub returns : goal.returns
 returns _ = λ rules clock range sound some late.
-    let fits = setup_is clock.reader_rules clock.drift_us sound in
-    (truth, made rules clock range fits.0 fits.1 some late, refl, refl, inl (true_table 43201), lines_mislead rules clock range fits.0 fits.1 some late)
+    let fits = setup_is clock.reader_rules clock.drift_us clock.wander_ppb sound in
+    (truth, made rules clock range fits.0 some late, refl, refl, inl (true_table 43201), lines_mislead rules clock range fits.0 some late)

@@ -5,6 +5,6 @@ use Rattle.irig_timekeeper.proofs.clock.step_behind.Given as goal
 
 abbrev pub invariant-loop-gone : goal.invariant-loop-gone
 invariant-loop-gone g l = record {
-  state : l.state ≡ missed l.rules.prefers_frames l.rules.reader_rules (g.T.Leaps.says l.table) l.gone l.fn.state;
-  counting : count_of l.state < l.rules.reader_rules.lock_after;
+  state : l.state ≡ missed l.prefers_frames l.reader_rules (g.T.Leaps.says l.table) l.gone l.fn.state;
+  counting : count_of l.state < l.reader_rules.lock_after;
 }
