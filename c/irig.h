@@ -715,8 +715,9 @@ uint32_t irig_reader_port(const irig_reader *reader, uint8_t port, irig_told *to
 /* Makes a timekeeper to which nothing has happened, with such wires. Setup, table and wires must not
  * be those in it. IRIG_FAULT_VALUE, also if `poor_from` is above 8, or a number of the wires is out
  * of its range; IRIG_FAULT_TABLE_END to IRIG_FAULT_TABLE_TWICE; IRIG_FAULT_DRIFT if
- * (holdover + 2) * drift_us is above 490,000, as the counter could be half a second wrong by then.
- * At 100 us a holdover may be 4,898 seconds, at 10 us 48,998, at 1 us 489,998. */
+ * (holdover + 2) * drift_us is above 490,000 and `wander_ppb` is 0, as the counter could be half a
+ * second wrong by then. At 100 us a holdover may be 4,898 seconds, at 10 us 48,998, at 1 us 489,998.
+ * By a `wander_ppb` above 0 it may be any: it ends by itself before that (docs/COUNTER.md). */
 uint32_t irig_timekeeper_init(irig_timekeeper *timekeeper, const irig_setup *setup,
                               const irig_table *table, const irig_wires *wires);
 
@@ -759,9 +760,9 @@ uint8_t irig_timekeeper_hear(irig_timekeeper *timekeeper, uint8_t line, uint32_t
  * (three of five; not the one line) were untrue in the last 1.2 s, the counter is as steady as
  * `drift_us` says and, if that is above 0, `wander_ppb`, calls were in order, and the table is
  * right, which it need not be at a `holdover` of up to 57. Its `bound_us` is that of the last vote,
- * and `drift_us` more for each of `lock_count` seconds, or less once the counter is learned. Its
- * true edge lies no further than that from `edge_us`. On these conditions
- * each second that is announced is later than the one before, and no cause is IRIG_CAUSE_JUMP.
+ * and `drift_us` more for each of `lock_count` seconds, or less once the counter is learned, and
+ * never above 492,899: a holdover ends before that, with the cause IRIG_CAUSE_EXPIRED. Its true edge
+ * lies no further than that from `edge_us`. On these conditions each second that is announced is later than the one before, and no cause is IRIG_CAUSE_JUMP.
  *
  * If lines were untrue before, and `wander_ppb` is 0, all this holds again once a tick has told a second with
  * `report.agreed` above 0, provided that no two of three lines were untrue at that tick and at each

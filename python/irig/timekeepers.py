@@ -166,11 +166,12 @@ class Timekeeper(Ruled):
         microseconds from its place, by the counter, 1 to 450. Enough lines have to end within
         2 * (within_us - 1) for a vote, or further apart by what their clocks say of themselves
     drift_us: the most by which its counter is wrong, in microseconds a second, 0 to 100; then
-        (holdover + 2) * drift_us may be 490,000 at most
+        (holdover + 2) * drift_us may be 490,000 at most, if wander_ppb is 0
     wander_ppb: how many nanoseconds the length of one second by its oscillator, before the counter cuts
         it to microseconds, may differ from that of any other one that lies no more than the holdover
         and 4,000 seconds from it, 0 to 100,000 (docs/COUNTER.md). By 0 it learns nothing of its
-        counter, and holds over by drift_us alone
+        counter, and holds over by drift_us alone. Else any holdover may be asked for, and ends by
+        itself before a second could lie 490 ms further off than at its last vote
     delay_us: how many microseconds later than at its clock each line's pulses rise here, -4,000 to
         4,000, below 0 if it is early: this is taken off
     prefers_frames: whether it follows the frames where they contradict its leap table on a leap second.

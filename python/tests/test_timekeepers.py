@@ -409,11 +409,13 @@ class Refusals(unittest.TestCase):
     def test_a_holdover_that_is_too_long(self) -> None:
         says = (
             "35 Drift: a holdover longer than a timekeeper's counter can count:"
-            " (holdover + 2) * drift_us is above 490,000"
+            " (holdover + 2) * drift_us is above 490,000, and wander_ppb is 0"
         )
         for drift_us, most in ((100, 4_898), (40, 12_248), (10, 48_998), (1, 489_998)):
             self.assertEqual(Timekeeper(2, most, drift_us=drift_us).holdover, most)
             self.says(says, 35, holdover=most + 1, drift_us=drift_us)
+            learns = Timekeeper(2, most + 1, drift_us=drift_us, wander_ppb=1)
+            self.assertEqual(learns.holdover, most + 1)
 
     def test_calls(self) -> None:
         keeper, most = Timekeeper(drift_us=10), "0 to 4294967295 may stand here"

@@ -367,11 +367,12 @@ fn step_to<T: Leaps>(
     ensures valid { IfSome result.report.announce IsValid }
 {
     let reader_rules = rules_on(rules, pace, &reader, edges);
+    let missed = edges - 1;
     step_behind(
         rules.prefers_frames,
         reader_rules,
         table,
-        edges - 1,
+        missed,
         reader,
         vote,
     )
