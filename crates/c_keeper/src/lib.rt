@@ -29,6 +29,6 @@ pub use said::{IrigLineSaid, said_of};
 pub use second::{IrigSecond, nothing_told, second_of};
 pub use stamp::{IrigStamp, stamp_for_c};
 pub use timekeeper::{
-    IrigDelays, IrigTimekeeper, IrigWires, are_wires, clock_rules_of, delay_of, forget,
+    IrigDelays, IrigTimekeeper, IrigWires, are_wires, clock_rules_of, delay_of, fault_of, forget,
     is_accepted, keep, restart, stamp_at, unread_state_of,
 };

@@ -38,7 +38,7 @@ use c_numbers::{
     redundancy_of, rules_of, state_for_c, state_of,
 };
 use irig_lines::{
-    ClockRules, Delays, Interval, KeptFrame, VoteLimits, clock_fault, nearest_limits,
+    ClockFault, ClockRules, Delays, Interval, KeptFrame, VoteLimits, clock_fault, nearest_limits,
     nearest_within,
 };
 use irig_reader::State;
@@ -216,12 +216,19 @@ fn is_set_up(timekeeper: &IrigTimekeeper) -> bool
 {
     is_keeper_setup(&timekeeper.setup)
         && are_wires(&timekeeper.wires)
-        && clock_fault(
-            reader_rules_of(&timekeeper.setup),
-            u32::from(timekeeper.wires.drift_us),
-            timekeeper.wires.wander_ppb,
-        )
-        .is_none()
+        && fault_of(&timekeeper.setup, &timekeeper.wires).is_none()
+}
+
+/// The first fault of a setup and wires of which each number has a meaning.
+pub fn fault_of(setup: &IrigSetup, wires: &IrigWires) -> Option<ClockFault>
+    ensures { result ≡ clock_fault (reader_rules_in setup.now) wires.now.drift_us
+        wires.now.wander_ppb }
+{
+    clock_fault(
+        reader_rules_of(setup),
+        u32::from(wires.drift_us),
+        wires.wander_ppb,
+    )
 }
 
 // Whether setup, wires and the seconds that it announced have a meaning, lines that it has not keep

@@ -30,7 +30,7 @@ ghost use Rattle.irig_timekeeper.specs.Lived.{MadeOf, LivesWell};
 ghost use Rattle.irig_lines.specs.Lines.{IsTrueLately, IsTrueOrFaulty};
 ghost use Rattle.irig_timekeeper.specs.Loops.{AreMadeInTurn, AreToldInTime, TicksEach};
 ghost use Rattle.irig_timekeeper.specs.Keeping.{Keeping, new_keeping, place_told, one_pulse_more, after_pulse, after_tick, answer_at, wait_at, stamp_at, rate_at, restarted};
-ghost use Rattle.irig_lines.specs.Refusals.{clock_fault, within_of};
+ghost use Rattle.irig_lines.specs.Refusals.{clock_fault};
 ghost use Rattle.irig_lines.specs.Steps.{is_pulse, AreNewLines};
 ghost use Rattle.irig_timekeeper.specs.Truth.{FollowsTruth, KnowsEnd, IsToldTruly, IsToldInHoldover, IsLaterSecond, IsEdgeAt, IsInstant, IsStampedTruly, AreApartBeats};
 ghost use Rattle.c_numbers.specs.LeapTables.{table_in, HasKinds, IsTable, code_of_table};
@@ -60,15 +60,16 @@ ghost use Rattle.irig_lines.specs.Delays.{corrected, delay_at};
 use crate::line::NO_PORT;
 use c_keeper::{
     IrigLineSaid, IrigRate, IrigSecond, IrigStamp, IrigTimekeeper, IrigWires, are_wires, check_of,
-    clock_rules_of, delay_of, forget, hear, is_accepted, is_quiet, keep, nothing_told, rate_at,
-    rate_for_c, restart, said_of, second_of, set_line, stamp_at, stamp_for_c, unread_state_of,
+    clock_rules_of, delay_of, fault_of, forget, hear, is_accepted, is_quiet, keep, nothing_told,
+    rate_at, rate_for_c, restart, said_of, second_of, set_line, stamp_at, stamp_for_c,
+    unread_state_of,
 };
 use c_lines::line_at;
 use c_numbers::{
     IrigSetup, IrigTable, OUT_OF_RANGE, fixed_sum, has_kinds, held_by, is_keeper_setup, is_port,
-    reader_rules_of, table_fault,
+    table_fault,
 };
-use irig_lines::{clock_fault, corrected, is_pulse};
+use irig_lines::{corrected, is_pulse};
 use irig_timekeeper::{tick, wait_of};
 
 /// The holdover is longer than the device's counter can count.
@@ -76,8 +77,7 @@ const DRIFT: u32 = 35;
 
 /// Makes a timekeeper of these, to which nothing has happened. 26 if a number of the setup or of the
 /// wires has no meaning or is out of its range, or a leap that counts has another kind; then 31 to 34
-/// for the first fault of the table; then 35 if the holdover is longer than its counter can count and
-/// nothing is to be learned of it.
+/// for the first fault of the table; then 35 if the holdover is longer than it can count.
 #[unsafe(no_mangle)]
 pub extern "C" fn irig_c_timekeeper_init(
     timekeeper: &mut IrigTimekeeper,
@@ -92,7 +92,8 @@ pub extern "C" fn irig_c_timekeeper_init(
         → (IsTable table.now → ⊥) → result ≡ code_of_table table.now }
     ensures drift { IsKeeperSetup setup.now → HasKinds table.now → AreWires wires.now
         → IsTable table.now
-        → (clock_fault (reader_rules_in setup.now) wires.now.drift_us wires.now.wander_ppb ≡ None → ⊥) → result ≡ 35 }
+        → (clock_fault (reader_rules_in setup.now) wires.now.drift_us wires.now.wander_ppb ≡ None → ⊥)
+        → result ≡ 35 }
     ensures range { (IsKeeperSetup setup.now → HasKinds table.now → AreWires wires.now → ⊥)
         → result ≡ 26 }
     ensures refused { (result ≡ 0 → ⊥) → timekeeper.new ≡ timekeeper.old }
@@ -100,16 +101,8 @@ pub extern "C" fn irig_c_timekeeper_init(
         (clock_in timekeeper.new) (table_in table.now)
         (lines_in (Some (vote_limits_in setup.now).limits) (rules_in setup.now)
         timekeeper.new.lines)) }
-    ensures clock { result ≡ 0 → clock_in timekeeper.new ≡ record {
-      reader_rules = reader_rules_in setup.now;
-      redundancy = redundancy_in setup.now;
-      within = within_of wires.now.within_us;
-      limits = vote_limits_in setup.now;
-      drift_us = wires.now.drift_us;
-      wander_ppb = wires.now.wander_ppb;
-      delays = delays_in wires.now.delays;
-      prefers_frames = not (wires.now.prefers_frames == 0);
-    } }
+    ensures clock { result ≡ 0
+        → clock_in timekeeper.new ≡ (made_in setup.now table.now wires.now).clock }
     ensures exact { result ≡ 0
         → ((clock_in timekeeper.new).within.us ≡ wires.now.within_us)
         × ((clock_in timekeeper.new).limits.limits ≡ keeper_limits_in setup.now) }
@@ -126,13 +119,7 @@ pub extern "C" fn irig_c_timekeeper_init(
     if fault != 0 {
         return fault;
     }
-    if clock_fault(
-        reader_rules_of(setup),
-        u32::from(wires.drift_us),
-        wires.wander_ppb,
-    )
-    .is_some()
-    {
+    if fault_of(setup, wires).is_some() {
         return DRIFT;
     }
     timekeeper.setup = *setup;
@@ -258,9 +245,8 @@ pub extern "C" fn irig_c_timekeeper_tick(
         → (beat : Beat) × IsToldOf second.new beat
         × IsToldTruly t edges (vote_us (clock_in timekeeper.old) d)
         (vote_us (clock_in timekeeper.old) d) now beat u }
-    // By a vote for the true second T(n) it announces T(n + 1), if any, whatever frames say of a leap, if
-    // the table knows how the day of T(n) ends and frames are not preferred (the law
-    // `a_right_table_guards_its_leaps`).
+    // By a vote for the true T(n) it announces T(n + 1), if any, whatever frames say of a leap, if the table
+    // knows how that day ends and frames are not preferred (law `a_right_table_guards_its_leaps`).
     ensures guarded { (t : TimelineValue) (n : ℕ) (claim : Claim) (u : UtcSecond)
         → result ≡ 0 → IsTimeline t → timekeeper.old.wires.prefers_frames ≡ 0
         → vote_in timekeeper.old now_us ≡ Some claim → IsSecond t n claim.at
@@ -349,10 +335,8 @@ pub extern "C" fn irig_c_timekeeper_tick(
         (beat_in second.new) u }
     ensures faulty_order { (t : TimelineValue) (edges : ℕ → ℕ) (made : MadeOf)
         (start before now : ℕ) (earlier later : List Moment) (first : IrigSecond)
-        (u v : UtcSecond)
-        → HasLived timekeeper.old made (later ++ (Ticked before first ∷ earlier))
-        → now_us ≡ now % 2 ^ 32
-        → made.clock.wander_ppb ≡ 0
+        (u v : UtcSecond) → HasLived timekeeper.old made (later ++ (Ticked before first ∷ earlier))
+        → now_us ≡ now % 2 ^ 32 → made.clock.wander_ppb ≡ 0
         → GoesOnTruly (IsTrueOrFaulty made.clock.within.us) t edges made start now later (Ticked before first ∷ earlier)
         → (report_in first.report).announce ≡ Some u
         → (report_in second.new.report).announce ≡ Some v → IsLaterSecond t u v }
@@ -365,8 +349,7 @@ pub extern "C" fn irig_c_timekeeper_tick(
     // the bound and `off`, and so in order (the law `clocks_off_tell_truly`).
     ensures clocks_off { (t : TimelineValue) (edges : ℕ → ℕ) (made : MadeOf) (off start now : ℕ)
         (past : List Moment) (u : UtcSecond) → off ≤ 1000 → HasLived timekeeper.old made past
-        → now_us ≡ now % 2 ^ 32
-        → made.clock.wander_ppb ≡ 0
+        → now_us ≡ now % 2 ^ 32 → made.clock.wander_ppb ≡ 0
         → GoesOnTruly (IsTrueByItsClock off made.clock.within.us made.clock.drift_us) t edges made
         start now [] past
         → (report_in second.new.report).announce ≡ Some u
@@ -375,8 +358,7 @@ pub extern "C" fn irig_c_timekeeper_tick(
         (off start before now : ℕ) (earlier later : List Moment) (first : IrigSecond)
         (u v : UtcSecond) → off ≤ 1000
         → HasLived timekeeper.old made (later ++ (Ticked before first ∷ earlier))
-        → now_us ≡ now % 2 ^ 32
-        → made.clock.wander_ppb ≡ 0
+        → now_us ≡ now % 2 ^ 32 → made.clock.wander_ppb ≡ 0
         → GoesOnTruly (IsTrueByItsClock off made.clock.within.us made.clock.drift_us) t edges made
         start now later (Ticked before first ∷ earlier)
         → (report_in first.report).announce ≡ Some u
@@ -398,8 +380,7 @@ pub extern "C" fn irig_c_timekeeper_tick(
         → IsToldInHoldover t edges 0 0 made.clock now (beat_in second.new) u }
     ensures quality_order { (t : TimelineValue) (edges : ℕ → ℕ) (made : MadeOf)
         (start before now : ℕ) (earlier later : List Moment) (first : IrigSecond)
-        (u v : UtcSecond)
-        → HasLived timekeeper.old made (later ++ (Ticked before first ∷ earlier))
+        (u v : UtcSecond) → HasLived timekeeper.old made (later ++ (Ticked before first ∷ earlier))
         → now_us ≡ now % 2 ^ 32
         → GoesOnTruly (IsTrueByItsQuality made.clock) t edges made start now later
         (Ticked before first ∷ earlier)

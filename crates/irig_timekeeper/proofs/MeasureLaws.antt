@@ -24,7 +24,8 @@ use Rattle.irig_timekeeper.specs.Clock.{after_own, clock_by, is_unsteady, known_
 use Rattle.irig_timekeeper.specs.Keeping.{Keeping, vote_at, after_tick, rate_at}
 use Rattle.irig_timekeeper.specs.Life.{Call, Made, life_of, last_tick, LivesTruly}
 use Rattle.irig_timekeeper.proofs.AnchorLaws.{IfAnchored, is_served}
-use Rattle.irig_timekeeper.proofs.StrayLaws.{IsAround, KnowsEdge, IfEdge, knows}
+use Rattle.irig_timekeeper.proofs.IntervalLaws.{IsAround}
+use Rattle.irig_timekeeper.proofs.StrayLaws.{KnowsEdge, IfEdge, knows}
 
 module _ (d : ℕ) (edges : ℕ → ℕ) (quartz : IsQuartz d edges) (tick : ℕ) (rate : Rate) where
   module _ (e edge w : ℕ) (at : IsEdgeAt e edge tick) (x : Interval) (h : KnowsEdge edges edge w x) where

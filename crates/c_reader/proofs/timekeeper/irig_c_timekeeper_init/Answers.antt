@@ -1,5 +1,4 @@
 use Rattle.std.proofs.Common.{rules, ℕ, ◌≡◌, ◌∙◌, false, is_some, Option, Some, None, sym, ap, subst, refl, arith, inl}
-use Rattle.irig_reader.specs.declared.rules.ReaderRules.{ReaderRules}
 use Rattle.irig_lines.specs.declared.setup.ClockFault.{ClockFault}
 use Rattle.irig_timekeeper.specs.Keeping.{new_state}
 use Rattle.irig_lines.specs.Refusals.{clock_fault}
@@ -28,7 +27,7 @@ returns-clause-fresh c done =
     let new = c.forget.ensures in
     let is_setup : IsKeeperSetup c.args.setup.now = search rules in
     let wires : AreWires c.args.wires.now = search rules in
-    let steady : clock_fault (reader_rules_in c.args.setup.now) c.args.wires.now.drift_us c.args.wires.now.wander_ppb ≡ None = sym (c.clock_fault.ensures ∙ (ap (λ (r : ReaderRules). clock_fault r c.from.result c.args.wires.now.wander_ppb) c.reader_rules_of.ensures ∙ ap (λ (d : ℕ). clock_fault (reader_rules_in c.args.setup.now) d c.args.wires.now.wander_ppb) c.from.ensures)) ∙ none_of c.clock_fault.result (sym c.is_some.ensures ∙ c.if-is_some.false) in
+    let steady : clock_fault (reader_rules_in c.args.setup.now) c.args.wires.now.drift_us c.args.wires.now.wander_ppb ≡ None = sym c.fault_of.ensures ∙ none_of c.fault_of.result (sym c.is_some.ensures ∙ c.if-is_some.false) in
     record {
       rules = ap (λ (s : IrigSetup). rules_in s) new.setup;
       clock = refl;

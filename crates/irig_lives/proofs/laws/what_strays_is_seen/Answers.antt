@@ -3,7 +3,7 @@ use Rattle.std.proofs.Common.{◌≡◌, ◌∙◌, ℕ, ◌+◌, ◌-◌, ◌*�
 use Rattle.irig_lines.specs.Paces.{longest_us, shortest_us}
 use Rattle.irig_lines.specs.declared.interval.Interval.{Interval}
 use Rattle.irig_lines.specs.Intervals.{LiesBetween, common, is_nothing, or_alone}
-use Rattle.irig_timekeeper.proofs.StrayLaws.{apart_contradicts, carried_lies, lies_in_both, vote_lies}
+use Rattle.irig_timekeeper.proofs.IntervalLaws.{apart_contradicts, carried_lies, lies_in_both, vote_lies}
 use Rattle.irig_lives.proofs.laws.what_strays_is_seen.Goals as goal
 
 pub returns-clause-vote : goal.returns-clause-vote
