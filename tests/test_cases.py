@@ -7,21 +7,13 @@ import sys
 import tempfile
 import unittest
 from dataclasses import replace
-from importlib.machinery import SourceFileLoader
-from importlib.util import module_from_spec, spec_from_loader
 from pathlib import Path
 
+from as_module import loaded
 from case_files import NOTHING, ROOT, Case, all_cases, over_whole_ports, standard_error
 
 # Of /bin/echo, which prints its words.
 ECHO = Case("cases/echo", [b"a", b"\xff"], NOTHING, 0, b"a \xff\n")
-
-
-def loaded():
-    loader = SourceFileLoader("cases", str(ROOT / "tests/cases"))
-    module = module_from_spec(spec_from_loader("cases", loader))
-    loader.exec_module(module)
-    return module
 
 
 class Cases(unittest.TestCase):
@@ -44,7 +36,7 @@ class Cases(unittest.TestCase):
             self.assertEqual(standard_error(folder, 3, log), b"a text\n")
 
     def test_what_is_wrong(self) -> None:
-        wrong_in = loaded().wrong_in
+        wrong_in = loaded(ROOT / "tests/cases").wrong_in
         self.assertEqual(wrong_in(ECHO, "/bin/echo"), [])
         for what in ({"status": 1}, {"stdout": b"a \xff"}, {"stdout": b""}, {"stderr": b"a\n"}):
             with self.subTest(what):

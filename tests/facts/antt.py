@@ -1,13 +1,13 @@
 """How questions to definitions are written in antt: facts, and the modules that they stand in."""
 
-import importlib.machinery
-import importlib.util
 import re
 from collections.abc import Callable, Iterator
 from dataclasses import dataclass
 from functools import cache
 from pathlib import Path
 from random import Random
+
+from as_module import loaded
 
 ROOT = Path(__file__).resolve().parents[2]
 IN_A_FACT = 20  # answers: with more of them a failure names too many inputs
@@ -31,15 +31,7 @@ use lib.Ieee.{round}
 Names = tuple[tuple[str, str], ...]  # definitions, by crate and name
 
 
-def load_believe():
-    """The module that tools/repo/believe is."""
-    loader = importlib.machinery.SourceFileLoader("believe", str(ROOT / "tools/repo/believe"))
-    module = importlib.util.module_from_spec(importlib.util.spec_from_loader("believe", loader))
-    loader.exec_module(module)
-    return module
-
-
-believe = load_believe()
+believe = loaded(ROOT / "tools/repo/believe")
 definitions = cache(believe.modules)
 
 

@@ -7,23 +7,12 @@ import subprocess
 import sys
 import tempfile
 import unittest
-from importlib.machinery import SourceFileLoader
-from importlib.util import module_from_spec, spec_from_loader
 from pathlib import Path
-from types import ModuleType
 
 ROOT = Path(__file__).resolve().parents[2]
 sys.path[:0] = [str(ROOT / "tools"), str(ROOT / "tests"), str(ROOT / "python")]
 
-
-def loaded(path: Path) -> ModuleType:
-    """A command of Python, whose name has no ending, as a module."""
-    spec = spec_from_loader(path.name, SourceFileLoader(path.name, str(path)))
-    assert spec and spec.loader
-    module = module_from_spec(spec)
-    sys.modules[path.name] = module  # where its dataclasses look for it
-    spec.loader.exec_module(module)
-    return module
+from as_module import loaded  # noqa: E402, F401
 
 
 def peak(*words: object) -> tuple[str, int]:
