@@ -1,7 +1,7 @@
 #!/usr/bin/env python3
-"""Tests of `make install`, `make uninstall`, `make deb` and packaging/release: which files stand where, that
-what was put there runs with an empty environment, as on a machine without the toolchain, and that it is
-proved. tests/test_packaging.py has what packages are beyond their programs, and what is refused."""
+"""Tests of `make install`, `make uninstall`, `make deb` and packaging/release: which files stand where, and that
+what was put there runs with an empty environment, as on a machine without the toolchain.
+tests/test_packaging.py has what packages are beyond their programs, that they are proved, and what is refused."""
 import gzip
 import hashlib
 import json
@@ -18,7 +18,7 @@ ROOT = Path(__file__).resolve().parent.parent
 sys.path.insert(0, str(ROOT / "tools/tests"))
 
 import browser  # noqa: E402
-from stand_ins import files_below, write  # noqa: E402
+from stand_ins import files_below  # noqa: E402
 
 # docs/QUICKSTART.md: the first frame of the page.
 FRAME = (
@@ -319,78 +319,6 @@ class Release(unittest.TestCase):
             told = {one["relatedSpdxElement"] for one in bill["relationships"]
                     if (one["spdxElementId"], one["relationshipType"]) == (identity, "STATIC_LINK")}
             self.assertLessEqual({"SPDXRef-" + re.sub("_", "-", crate) for crate in others}, told)
-
-
-BUILD = """#!/bin/bash
-[[ $# == 0 && ! -e refused ]] || exit 1
-printf '#!/bin/bash\necho irig 2.0.0 proved\n' > crates/irig_main/out/irig_main
-chmod +x crates/irig_main/out/irig_main
-"""
-
-
-class NothingUnproved(unittest.TestCase):
-    """What `make` takes, in a copy of the repository whose ./build needs no kit: never what ./irig has
-    kept, and a program that is older than a source only after ./build."""
-
-    def setUp(self) -> None:
-        if not shutil.which("make"):
-            print("skipped: what `make` takes; Debian's package make is missing")
-            self.skipTest("make")
-        folder = tempfile.TemporaryDirectory()
-        self.addCleanup(folder.cleanup)
-        self.root = Path(folder.name)
-        for name in ("Makefile", "crates.txt", "README.md", "CHANGELOG.md", "LICENSE-MIT", "docs",
-                     "examples", "packaging"):
-            copy = shutil.copytree if (ROOT / name).is_dir() else shutil.copyfile
-            copy(ROOT / name, self.root / name)
-        shutil.copymode(ROOT / "packaging/deb", self.root / "packaging/deb")
-        self.source = self.root / "crates/irig_main/src/main.rt"
-        self.program = self.root / "crates/irig_main/out/irig_main"
-        write(self.source, "")
-        self.program.parent.mkdir(parents=True)
-        write(self.root / "build", BUILD)
-        write(self.root / "out/irig_unproved", "#!/bin/bash\necho irig 2.0.0 unproved\n")
-
-    def make_older(self) -> None:
-        """A program that was proved before its source was changed."""
-        write(self.program, "#!/bin/bash\necho irig 2.0.0 old\n")
-        os.utime(self.program, (0, 0))
-
-    def installed(self, *words: str | Path) -> str | None:
-        """What the installed program says, if one was installed."""
-        to = self.root / "to/usr/local/bin/irig"
-        subprocess.run(words, cwd=self.root, capture_output=True, timeout=60)
-        return subprocess.check_output([to], text=True) if to.exists() else None
-
-    def test_no_program(self) -> None:
-        self.assertEqual(self.installed("make", "install", "DESTDIR=to"), "irig 2.0.0 proved\n")
-
-    def test_a_source_that_is_newer(self) -> None:
-        self.make_older()
-        self.assertEqual(self.installed("make", "install", "DESTDIR=to"), "irig 2.0.0 proved\n")
-
-    def test_what_cannot_be_proved(self) -> None:
-        (self.root / "refused").touch()
-        for make_ready in (lambda: None, self.make_older):
-            make_ready()
-            self.assertIsNone(self.installed("make", "install", "DESTDIR=to"))
-
-    def test_a_current_program(self) -> None:
-        write(self.program, "#!/bin/bash\necho irig 2.0.0 current\n")
-        self.assertEqual(self.installed("make", "install", "DESTDIR=to"), "irig 2.0.0 current\n")
-
-    def test_a_package(self) -> None:
-        """The script alone begins with `make` too; it ends where `strip` meets the script of this test."""
-        if not shutil.which("dpkg-shlibdeps"):
-            self.skipTest("dpkg-dev")
-        self.make_older()
-        subprocess.run([self.root / "packaging/deb", "to"], capture_output=True, timeout=60)
-        self.assertEqual(subprocess.check_output([self.program], text=True), "irig 2.0.0 proved\n")
-        (self.root / "refused").touch()
-        self.make_older()
-        ran = subprocess.run([self.root / "packaging/deb", "to"], capture_output=True, timeout=60)
-        self.assertNotEqual(ran.returncode, 0)
-        self.assertEqual(list((self.root / "to").glob("*.deb")), [])
 
 
 if __name__ == "__main__":

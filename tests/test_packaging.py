@@ -1,6 +1,6 @@
 #!/usr/bin/env python3
-"""Tests of packaging/deb, packaging/release and packaging/verify in a repository of their own, where scripts stand
-for ./build, c/Makefile and the like, and small programs for what is proved. tests/test_install.py tries what is
+"""Tests of `make install`, packaging/deb, packaging/release and packaging/verify in a repository of their own, where
+scripts stand for ./build, c/Makefile and the like, and small programs for what is proved. tests/test_install.py tries what is
 made of the real ones."""
 from __future__ import annotations
 
@@ -32,6 +32,7 @@ RT = """#!/bin/bash
 echo a-kit logic 0
 """
 BUILD = """#!/bin/bash
+[[ ! -e refused ]] || exit 1
 kit=$(dirname "$(rt doc)")
 case $* in
     "--target aarch64-unknown-linux-gnu irig_main") to=aarch64-unknown-linux-gnu/ made=irig_aarch64 ;;
@@ -181,6 +182,58 @@ class Packages(InAFolder):
         ran = subprocess.run(words, cwd=folder, env=self.environment, user=another, group=another, umask=0o077,
                              capture_output=True, text=True, timeout=60)
         self.assertEqual(ran.returncode, 0, ran.stdout + ran.stderr)
+
+
+class NothingUnproved(Packages):
+    """What `make` takes: never what ./irig has kept, and a program that is older than a source only after ./build."""
+
+    PROVED = "irig 2.0.0\n"
+
+    def setUp(self) -> None:
+        super().setUp()
+        self.program = self.root / "crates/irig_main/out/irig_main"
+        self.make_say(self.root / "out/irig_unproved", "unproved")
+
+    def make_say(self, path: Path, word: str) -> None:
+        write(path, f"#!/bin/bash\necho irig 2.0.0 {word}\n")
+
+    def make_older(self) -> None:
+        """A program that was proved before its source was changed."""
+        self.make_say(self.program, "old")
+        os.utime(self.program, (0, 0))
+
+    def installed(self) -> str | None:
+        """What the installed program says, if one was installed."""
+        self.run_here("make", "install", "DESTDIR=to")
+        to = self.root / "to/usr/local/bin/irig"
+        return subprocess.check_output([to], text=True) if to.exists() else None
+
+    def test_no_program(self) -> None:
+        self.assertEqual(self.installed(), self.PROVED)
+
+    def test_a_source_that_is_newer(self) -> None:
+        self.make_older()
+        self.assertEqual(self.installed(), self.PROVED)
+
+    def test_what_cannot_be_proved(self) -> None:
+        (self.root / "refused").touch()
+        for make_ready in (lambda: None, self.make_older):
+            make_ready()
+            self.assertIsNone(self.installed())
+
+    def test_a_current_program(self) -> None:
+        self.make_say(self.program, "current")
+        self.assertEqual(self.installed(), "irig 2.0.0 current\n")
+
+    def test_a_package(self) -> None:
+        """The script alone begins with `make` too."""
+        self.make_older()
+        self.assertEqual(self.run_here("packaging/deb", "to").returncode, 0)
+        self.assertEqual(subprocess.check_output([self.program], text=True), self.PROVED)
+        (self.root / "refused").touch()
+        self.make_older()
+        self.assertNotEqual(self.run_here("packaging/deb", "other").returncode, 0)
+        self.assertEqual(list((self.root / "other").glob("*.deb")), [])
 
 
 class Deb(Packages):
