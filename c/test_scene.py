@@ -6,7 +6,6 @@ from __future__ import annotations
 
 import ctypes
 import re
-import subprocess
 import sys
 import unittest
 from collections.abc import Iterator, Sequence
@@ -17,7 +16,7 @@ from pathlib import Path
 ROOT = Path(__file__).resolve().parent.parent
 sys.path[:0] = [str(ROOT / "tests"), str(ROOT / "python")]
 
-from case_files import scenarios  # noqa: E402
+from case_files import answer, scenarios  # noqa: E402
 import irig  # noqa: E402
 from irig import _library, scenes  # noqa: E402
 from irig._library import Entry, FrameOptions, Refusal, Verdict  # noqa: E402
@@ -38,8 +37,8 @@ _library.run_entries = RUN_ENTRIES  # which the package calls then
 
 def printed(*words: str, given: bytes = b"") -> tuple[int, bytes, str]:
     """The status of the program, and what it writes."""
-    ran = subprocess.run([PROGRAM, *words], input=given, capture_output=True)
-    return ran.returncode, ran.stdout, ran.stderr.decode()
+    status, log, told = answer(*words, given=given, program=PROGRAM)
+    return status, log, told.decode()
 
 
 class Room:

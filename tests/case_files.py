@@ -1,4 +1,4 @@
-"""The one reader of cases and examples: what the program is asked, and what it has to answer.
+"""The one reader of cases and examples: what the program is asked, and what it has to answer. And what it does.
 
 A case is a folder of cases/: `args` (one word a line, SCENARIO standing for its `scenario.jsonl`),
 `stdin` where it reads any, `stdout` (each byte), `stderr` where anything is written there, and
@@ -8,10 +8,12 @@ reason behind it. An example is NAME.jsonl of examples/ with its log NAME.log, a
 further words for `run` where there are any."""
 from __future__ import annotations
 
+import subprocess
 from dataclasses import dataclass
 from pathlib import Path
 
 ROOT = Path(__file__).resolve().parent.parent
+PROGRAM = ROOT / "crates/irig_main/out/irig_main"  # that was proved
 NOTHING = "/dev/null"
 
 
@@ -39,6 +41,12 @@ class Case:
             return told == self.stderr
         begin, told = wanted.removesuffix(b".."), told.rstrip(b"\n")
         return told.startswith(begin) and len(told) > len(begin)
+
+
+def answer(*words: str, given: bytes = b"", program: str | Path = PROGRAM) -> tuple[int, bytes, bytes]:
+    """The status of the program, and what it writes on the standard output and error."""
+    ran = subprocess.run([program, *words], input=given, capture_output=True, timeout=60)
+    return ran.returncode, ran.stdout, ran.stderr
 
 
 def words_in(path: Path) -> list[bytes]:

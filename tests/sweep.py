@@ -11,9 +11,8 @@ from contextlib import contextmanager
 from multiprocessing import Pool
 from typing import NamedTuple
 
-from case_files import NOTHING, ROOT, all_cases, examples
+from case_files import NOTHING, PROGRAM, ROOT, all_cases, examples
 
-PROGRAM = ROOT / "crates/irig_main/out/irig_main"
 SECONDS = 30
 
 FURTHER = (

@@ -4,19 +4,17 @@ and example, the limits that docs/SCENARIOS.md has, and lines that are changed a
 the program that was built says if they are refused."""
 import json
 import re
-import subprocess
 import unittest
 from collections.abc import Iterator
 from pathlib import Path
 
-from case_files import NOTHING, ROOT, all_cases
+from case_files import NOTHING, ROOT, all_cases, answer
 
 try:
     from jsonschema import Draft202012Validator
 except ImportError:
     Draft202012Validator = None
 
-PROGRAM = ROOT / "crates/irig_main/out/irig_main"
 SCHEMA = json.loads((ROOT / "docs/scenario.schema.json").read_text())
 
 # The refused lines of cases that a schema has to accept, by what it cannot say.
@@ -151,8 +149,7 @@ def changed(value: object) -> Iterator[object]:
 def refused(values: list[object]) -> int | None:
     """The number with which the program refuses the last of these lines, none if it takes them all."""
     text = "".join(f"{json.dumps(value)}\n" for value in values)
-    ran = subprocess.run([PROGRAM], input=text, capture_output=True, text=True, timeout=60)
-    found = refusal_in(ran.stdout)
+    found = refusal_in(answer(given=text.encode())[1].decode())
     if found and found[0] != len(values):
         raise AssertionError(f"line {found[0]} of {text}")
     return found[1] if found else None

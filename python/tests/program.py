@@ -1,7 +1,6 @@
 """The program that was built, and what cases and examples of the repository expect of it."""
 from __future__ import annotations
 
-import subprocess
 import sys
 from pathlib import Path
 from typing import Iterator, List, NamedTuple, Optional, Tuple
@@ -9,9 +8,7 @@ from typing import Iterator, List, NamedTuple, Optional, Tuple
 ROOT = Path(__file__).resolve().parent.parent.parent
 sys.path.insert(0, str(ROOT / "tests"))
 
-from case_files import all_cases  # noqa: E402,F401
-
-PROGRAM = ROOT / "crates/irig_main/out/irig_main"
+from case_files import all_cases, answer  # noqa: E402,F401
 
 
 class Case(NamedTuple):
@@ -33,11 +30,10 @@ def cases(command: str) -> Iterator[Case]:
 
 def printed(*words: str, text: str = "") -> str:
     """What the program prints, with this on its standard input."""
-    ran = subprocess.run([PROGRAM, *words], input=text, capture_output=True, text=True, timeout=60)
-    return ran.stdout
+    return answer(*words, given=text.encode())[1].decode()
 
 
 def told(*words: str) -> Tuple[int, str]:
     """The program's status, and what it says on the standard error."""
-    ran = subprocess.run([PROGRAM, *words], input="", capture_output=True, text=True, timeout=60)
-    return ran.returncode, ran.stderr
+    status, _, error = answer(*words)
+    return status, error.decode()
