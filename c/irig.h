@@ -54,10 +54,10 @@ typedef uint64_t irig_count;
 IRIG_ASSERT(sizeof(irig_count) == 8u);
 
 /* The version that this header is of; irig_version() says that of the library. */
-#define IRIG_VERSION_MAJOR 2
+#define IRIG_VERSION_MAJOR 3
 #define IRIG_VERSION_MINOR 0
 #define IRIG_VERSION_PATCH 0
-#define IRIG_VERSION "2.0.0"
+#define IRIG_VERSION "3.0.0"
 
 /* The number of the layout: of the structures, and of what calls take and answer. The linker finds it
  * in the name of each call but irig_version, so that no program is linked with a library of another

@@ -35,7 +35,7 @@ from .seconds import Claim, Leap, Second
 from .stretches import Stretch
 from .timekeepers import Beat, Line, Pace, Rate, Stamp, Timekeeper, quality_of
 
-__version__ = "2.0.0"
+__version__ = "3.0.0"
 
 __all__ = [
     "Announced", "Beat", "Claim", "Coded", "Control", "Entry", "Fault", "Faulty", "Leap", "Line", "Log",

@@ -208,7 +208,7 @@ fn with_command<'a>(
 
 fn described_program<'a>(alloc: Global) -> Result<Command<'a>, AllocError> {
     let program = described(alloc, "irig", ABOUT, AFTER)
-        .version("2.0.0")
+        .version("3.0.0")
         .override_usage(USAGE)
         .subcommand_required(true);
     program.bin_name("irig")
