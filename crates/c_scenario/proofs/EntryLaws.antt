@@ -224,7 +224,7 @@ kept_lines text items es more at same heard noted last =
 -- without a failure it is known what was heard
 heard_whole : (answer : Result Outcome SceneFault) (listener : Option EntryLog) (notes : List ℕ) (bytes : List ℕ) → HeardFor HoldsEntries true answer listener notes (lines bytes) 1 None → HasWholeLog (status_of answer) → HasHeard HoldsEntries true listener notes (lines bytes) 1 None
 heard_whole (Ok o) listener notes bytes h whole = h
-heard_whole (Err (Refused line number)) listener notes bytes h whole = h
+heard_whole (Err (Refused line refusal)) listener notes bytes h whole = h
 heard_whole (Err Read) listener notes bytes h (inl none) = absurd (omega (arith, none))
 heard_whole (Err Read) listener notes bytes h (inr none) = absurd (omega (arith, none))
 heard_whole (Err Write) listener notes bytes h (inl none) = absurd (omega (arith, none))

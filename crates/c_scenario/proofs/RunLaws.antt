@@ -29,7 +29,7 @@ of_known x shown log bytes same front = subst (λ known. IsFront log (output_sho
 
 pub front_ran : (r : Result Outcome SceneFault) (x : List ℕ) (shown : Shown) (left : Option (List ℕ)) (log : List ℕ) → RanShown r shown (Some x) left (Some []) (Some log) → IsFront log (output_shown x shown)
 front_ran (Ok o) x shown left log ran = of_known x shown log ran.bytes ran.of_input (all_of log (output_shown ran.bytes shown) ran.ran.0)
-front_ran (Err (Refused line number)) x shown left log ran = of_known x shown log ran.bytes ran.of_input (all_of log (output_shown ran.bytes shown) ran.ran.0)
+front_ran (Err (Refused line refusal)) x shown left log ran = of_known x shown log ran.bytes ran.of_input (all_of log (output_shown ran.bytes shown) ran.ran.0)
 front_ran (Err Read) x shown left log ran = of_known x shown log ran.bytes ran.of_input (part_of log (output_shown ran.bytes shown) ran.ran.0)
 front_ran (Err Write) x shown left log ran = of_known x shown log ran.bytes ran.of_input (part_of log (output_shown ran.bytes shown) ran.ran.0)
 front_ran (Err Memory) x shown left log ran = of_known x shown log ran.bytes ran.of_input (part_of log (output_shown ran.bytes shown) ran.ran.0)

@@ -29,12 +29,12 @@ IsStatus status = HasWholeLog status ⊎ ((4 ≤ status) × (status ≤ 6))
 
 -- the line that is refused, or 0
 abbrev pub line_of : Result Outcome SceneFault → ℕ
-line_of (Err (Refused line number)) = line
+line_of (Err (Refused line refusal)) = line
 line_of _ = 0
 
 -- the number of its refusal, or 0
 abbrev pub number_of : Result Outcome SceneFault → ℕ
-number_of (Err (Refused line number)) = number
+number_of (Err (Refused line refusal)) = refusals.number_of refusal
 number_of _ = 0
 
 -- the line and the number are those of a refusal, and zeros if there is none

@@ -56,7 +56,7 @@ fn number_of(answer: &Result<Outcome, SceneFault>) -> u8
     ensures { result ≡ number_of answer.now }
 {
     match answer {
-        Err(SceneFault::Refused { number, .. }) => *number,
+        Err(SceneFault::Refused { refusal, .. }) => refusal.number(),
         _ => 0,
     }
 }

@@ -24,7 +24,7 @@ status_of Memory = 6
 
 -- the fault of the program by which the run of a scenario ended
 abbrev pub fault_of : SceneFault → Fault
-fault_of (scene.Refused line number) = Refused
+fault_of (scene.Refused line refusal) = Refused
 fault_of scene.Read = Read
 fault_of scene.Write = Write
 fault_of scene.Memory = Memory

@@ -14,9 +14,9 @@ pub(crate) fn tell_refusal<R: Eprint + AllocGlobal>(
     fault: SceneFault,
     refused: &Option<RefusedLine>,
 ) {
-    if let SceneFault::Refused { line, number } = fault
+    if let SceneFault::Refused { line, refusal } = fault
         && let Some(refused) = refused
-        && let Ok(text) = refusal_text(rt.alloc(), line, number, refused)
+        && let Ok(text) = refusal_text(rt.alloc(), line, refusal.number(), refused)
     {
         let _ = rt.eprintln(&text);
     }

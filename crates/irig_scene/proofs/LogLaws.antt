@@ -94,7 +94,7 @@ module _ (shown : Shown) where
 
   run_is : (r : Result Outcome SceneFault) (x : List ℕ) (was left old new : Option (List ℕ)) → RunFor (log_texts shown) r x was left old new → RanOn r x shown was left old new
   run_is (Ok o) x was left old new h = (subst (Appends old new) (all_is x) h.0, h.1, h.2)
-  run_is (Err (Refused line number)) x was left old new h = (subst (Appends old new) (all_is x) h.0, h.1, h.2)
+  run_is (Err (Refused line refusal)) x was left old new h = (subst (Appends old new) (all_is x) h.0, h.1, h.2)
   run_is (Err Read) x was left old new h = (subst (AppendsPart old new) (all_is x) h.0, reading_is x was left old new h.1)
   run_is (Err Write) x was left old new h = (subst (AppendsPart old new) (all_is x) h.0, in_line_is x was left old new h.1)
   run_is (Err Memory) x was left old new h = (subst (AppendsPart old new) (all_is x) h.0, in_line_is x was left old new h.1)

@@ -28,7 +28,7 @@ use Rattle.irig_scene.proofs.TakenLaws.{TextFront, front_of_meaning}
 
 -- it is this line's
 of_line : (e : SceneFault) (n : ℕ) (k : Refusal) (closing : List ℕ) (old new : Option (List ℕ)) → WroteStop e n k closing old new → IsOfLine n e
-of_line (fault.Refused line number) n k closing old new h = h.0
+of_line (fault.Refused line refusal) n k closing old new h = h.0
 of_line fault.Read n k closing old new h = tt
 of_line fault.Write n k closing old new h = tt
 of_line fault.Memory n k closing old new h = tt
@@ -39,7 +39,7 @@ of_failure failure.Memory n = tt
 
 -- nothing else is left to be written
 pub stop_alone : (e : SceneFault) (n : ℕ) (k : Refusal) (old new : Option (List ℕ)) → WroteRefusal e n k old new → WroteStop e n k [] old new
-stop_alone (fault.Refused line number) n k old new h = h
+stop_alone (fault.Refused line refusal) n k old new h = h
 stop_alone fault.Read n k old new h = h
 stop_alone fault.Write n k old new h = h
 stop_alone fault.Memory n k old new h = h
@@ -54,7 +54,7 @@ then_part a b o0 o1 o2 h k = record {
 
 -- what is left was written, and then the refusal
 pub stop_then : (e : SceneFault) (n : ℕ) (k : Refusal) (closing : List ℕ) (o0 o1 o2 : Option (List ℕ)) → Appends o0 o1 closing → WroteRefusal e n k o1 o2 → WroteStop e n k closing o0 o2
-stop_then (fault.Refused line number) n k closing o0 o1 o2 h l = (l.0, l.1, Appends-trans o0 o1 o2 _ _ h l.2)
+stop_then (fault.Refused line refusal) n k closing o0 o1 o2 h l = (l.0, l.1, Appends-trans o0 o1 o2 _ _ h l.2)
 stop_then fault.Read n k closing o0 o1 o2 h l = absurd l
 stop_then fault.Write n k closing o0 o1 o2 h l = then_part closing (refusal_text n k) o0 o1 o2 h l
 stop_then fault.Memory n k closing o0 o1 o2 h l = then_part closing (refusal_text n k) o0 o1 o2 h l
@@ -96,7 +96,7 @@ module _ (texts : Texts) where
   pub rest_on : (r : Result Outcome SceneFault) (m : Meaning) (count : ℕ) (first : List ℕ) (from at : Option Scene) (o0 o1 o2 : Option (List ℕ))
       → TextMore texts first from at o0 o1 → RestFor texts r m count first at o1 o2 → RestFor texts r m count first from o0 o2
   rest_on (Ok o) m count first from at o0 o1 o2 h l = (l.0, wrote_on first from at m o0 o1 o2 h l.1)
-  rest_on (Err (fault.Refused line number)) m count first from at o0 o1 o2 h l = (l.0, wrote_on first from at m o0 o1 o2 h l.1)
+  rest_on (Err (fault.Refused line refusal)) m count first from at o0 o1 o2 h l = (l.0, wrote_on first from at m o0 o1 o2 h l.1)
   rest_on (Err fault.Read) m count first from at o0 o1 o2 h l = absurd l
   rest_on (Err fault.Write) m count first from at o0 o1 o2 h l = part_on first from at m o0 o1 o2 h l
   rest_on (Err fault.Memory) m count first from at o0 o1 o2 h l = part_on first from at m o0 o1 o2 h l
@@ -122,12 +122,8 @@ module _ (texts : Texts) where
   -- a line's refusal, and what was written of it
   pub refused_rest : (e : SceneFault) (first : List ℕ) (at : Option Scene) (m : Meaning) (count n : ℕ) (k : Refusal) (old new : Option (List ℕ)) → m ≡ meaning at (Some (refusal_at n k))
       → WroteStop e n k (closing_of texts at) old new → RestFor texts (Err e) m count first at old new
-  refused_rest (fault.Refused line number) first at m count n k old new e tells = (
-    record {
-      refusal = k;
-      first = ap (λ (w : Meaning). w.refused) e ∙ ap (λ l. Some (refusal_at l k)) (sym tells.0);
-      numbered = tells.1;
-    },
+  refused_rest (fault.Refused line refusal) first at m count n k old new e tells = (
+    ap (λ (w : Meaning). w.refused) e ∙ ap (λ l. Some (refusal_at l k)) (sym tells.0) ∙ ap (λ r. Some (refusal_at line r)) (sym tells.1),
     record { rest = closing_of texts at ++ refusal_text n k; is = ap (meaning_text texts first) e; wrote = tells.2 },
   )
   refused_rest fault.Read first at m count n k old new e tells = absurd tells
@@ -163,7 +159,7 @@ module _ (texts : Texts) where
 
   pub no_read_failed : (r : Result Outcome SceneFault) (m : Meaning) (count : ℕ) (first : List ℕ) (at : Option Scene) (old new : Option (List ℕ)) (failed : Bool) → RestFor texts r m count first at old new → failed ≡ false → (r ≡ Err fault.Read) ↔ (failed ≡ true)
   no_read_failed (Ok done) m count first at old new failed ran none = (λ is. absurd cc, λ is. absurd cc)
-  no_read_failed (Err (fault.Refused line number)) m count first at old new failed ran none = (λ is. absurd cc, λ is. absurd cc)
+  no_read_failed (Err (fault.Refused line refusal)) m count first at old new failed ran none = (λ is. absurd cc, λ is. absurd cc)
   no_read_failed (Err fault.Read) m count first at old new failed ran none = absurd ran
   no_read_failed (Err fault.Write) m count first at old new failed ran none = (λ is. absurd cc, λ is. absurd cc)
   no_read_failed (Err fault.Memory) m count first at old new failed ran none = (λ is. absurd cc, λ is. absurd cc)

@@ -6,6 +6,7 @@ use Rattle.std.specs.Fmt.{digits}
 use Rattle.std.specs.Str.{is_utf8, chars}
 use Rattle.std.specs.Prelude.{◌^◌, slice_get, unwrap_or, reverse, take, Ok, Err}
 use Rattle.std.proofs.lemmas.List.Elements.{recursion_from_All, All-from_recursion}
+use Rattle.std.proofs.lemmas.Option.{same_Some, none-some}
 use Rattle.std.proofs.lemmas.List.{append_cancel_left, length-append, reverse-append}
 use Rattle.irig_control.specs.declared.parity.Parity.TheVariants.{Even}
 use Rattle.irig_time.specs.declared.second.UtcSecond.{UtcSecond}
@@ -29,8 +30,7 @@ use Rattle.irig_plant.specs.declared.audit.Audit.TheVariants.{Kept, Broken}
 use Rattle.irig_plant.proofs.KeptLaws.{empty_true}
 use Rattle.irig_device.specs.Lines.{HasNoNewline}
 use Rattle.text_faults.specs.declared.refusal.Refusal.{Refusal}
-use Rattle.text_faults.specs.declared.refusal.Refusal.TheVariants.{Json, NoPlant}
-use Rattle.text_faults.specs.Refusals.{number_of}
+use Rattle.text_faults.specs.declared.refusal.Refusal.TheVariants.{Json, NoPlant, Shape}
 use Rattle.scenario_values.specs.Names.{are_names, is_name}
 use Rattle.scenario_line.specs.PlantLine.{plan_in_line}
 use Rattle.scenario_json.specs.Json.{json_of}
@@ -297,23 +297,22 @@ module _ (x : Scene) (kept : audit_in x ≡ Kept) where
       absurd cc
 
 module _ (at : Option Scene) where
-  refused : IsRefused (meaning at (Some (refusal_at 3 Json))) 3 24
-  refused = record { refusal = Json; first = refl; numbered = refl }
+  refused : IsRefused (meaning at (Some (refusal_at 3 Json))) 3 Json
+  refused = refl
 
-  not_other_line : ¬ IsRefused (meaning at (Some (refusal_at 3 Json))) 4 24
+  not_other_line : ¬ IsRefused (meaning at (Some (refusal_at 3 Json))) 4 Json
   not_other_line h =
-      let is : Some (refusal_at 3 Json) ≡ Some (refusal_at 4 h.refusal) = h.first in
-      let same : refusal_at 3 Json ≡ refusal_at 4 h.refusal = cc in
+      let same : refusal_at 3 Json ≡ refusal_at 4 Json = same_Some (refusal_at 3 Json) (refusal_at 4 Json) h in
       omega (arith, ap (λ (k : Refused). k.line) same)
 
-  not_other_number : ¬ IsRefused (meaning at (Some (refusal_at 3 Json))) 3 25
-  not_other_number h =
-      let is : Some (refusal_at 3 Json) ≡ Some (refusal_at 3 h.refusal) = h.first in
-      let same : refusal_at 3 h.refusal ≡ refusal_at 3 Json = cc in
-      omega (arith, h.numbered ∙ ap (λ (k : Refused). number_of k.refusal) same)
+  not_other_refusal : ¬ IsRefused (meaning at (Some (refusal_at 3 Json))) 3 Shape
+  not_other_refusal h =
+      let same : refusal_at 3 Json ≡ refusal_at 3 Shape = same_Some (refusal_at 3 Json) (refusal_at 3 Shape) h in
+      let refusals : Json ≡ Shape = ap (λ (k : Refused). k.refusal) same in
+      absurd cc
 
-  not_accepted : ¬ IsRefused (meaning at None) 3 24
-  not_accepted h = let none : None ≡ Some (refusal_at 3 h.refusal) = h.first in absurd cc
+  not_accepted : ¬ IsRefused (meaning at None) 3 Json
+  not_accepted h = absurd (none-some (refusal_at 3 Json) h)
 
 -- ---- what is read
 
@@ -422,9 +421,9 @@ module _ (l : List ℕ) (unlined : HasNoNewline l) (log : log_text (entries_alon
 -- ---- runs
 
 -- no bytes are refused for want of a plant
-no_plant : Ran (Err (fault.Refused 1 29)) true (Some []) (Some []) (Some (codes "a")) (Some (codes "arefused: line 1: 29 NoPlant\n"))
+no_plant : Ran (Err (fault.Refused 1 NoPlant)) true (Some []) (Some []) (Some (codes "a")) (Some (codes "arefused: line 1: 29 NoPlant\n"))
 unfolding meaning_from step lines refusal_text digits first_lines after_lines
-no_plant = record { bytes = []; of_input = refl; ran = (refl, record { refusal = NoPlant; first = refl; numbered = refl }, refl) }
+no_plant = record { bytes = []; of_input = refl; ran = (refl, refl, refl) }
 
 -- they are not run
 not_run : (o : Outcome) (new : List ℕ) → ¬ Ran (Ok o) true (Some []) (Some []) (Some []) (Some new)
@@ -438,11 +437,11 @@ no_json : plan_in_line (255 ∷ []) ≡ Err Json
 unfolding plan_in_line json_of is_utf8 chars
 no_json = refl
 
-stops : Ran (Err (fault.Refused 1 24)) true (Some (255 ∷ codes "\nx")) (Some (codes "x")) (Some []) (Some (codes "refused: line 1: 24 Json\n"))
+stops : Ran (Err (fault.Refused 1 Json)) true (Some (255 ∷ codes "\nx")) (Some (codes "x")) (Some []) (Some (codes "refused: line 1: 24 Json\n"))
 unfolding meaning_from step lines refusal_text digits first_lines after_lines
-stops = record { bytes = 255 ∷ codes "\nx"; of_input = refl; ran = rw no_json (refl, record { refusal = Json; first = refl; numbered = refl }, refl) }
+stops = record { bytes = 255 ∷ codes "\nx"; of_input = refl; ran = rw no_json (refl, refl, refl) }
 
-not_all_read : ¬ Ran (Err (fault.Refused 1 24)) true (Some (255 ∷ codes "\nx")) (Some []) (Some []) (Some (codes "refused: line 1: 24 Json\n"))
+not_all_read : ¬ Ran (Err (fault.Refused 1 Json)) true (Some (255 ∷ codes "\nx")) (Some []) (Some []) (Some (codes "refused: line 1: 24 Json\n"))
 unfolding meaning_from step lines first_lines after_lines
 not_all_read h =
     let first : (meaning_of h.bytes).refused ≡ Some (refusal_at 1 Json) = ap (λ bs. (meaning_of bs).refused) h.of_input ∙ rw no_json refl in
@@ -450,9 +449,9 @@ not_all_read h =
     omega (arith, ap length (h.ran.2 ∙ ap (λ bs. bs ++ []) read))
 
 -- another line is not what was refused
-not_line_2 : ¬ Ran (Err (fault.Refused 2 24)) true (Some (255 ∷ codes "\nx")) (Some (codes "x")) (Some []) (Some (codes "refused: line 1: 24 Json\n"))
+not_line_2 : ¬ Ran (Err (fault.Refused 2 Json)) true (Some (255 ∷ codes "\nx")) (Some (codes "x")) (Some []) (Some (codes "refused: line 1: 24 Json\n"))
 unfolding meaning_from step lines
 not_line_2 h =
-    let is : Some (refusal_at 1 Json) ≡ Some (refusal_at 2 h.ran.1.refusal) = sym (ap (λ bs. (meaning_of bs).refused) h.of_input ∙ rw no_json refl) ∙ h.ran.1.first in
-    let same : refusal_at 1 Json ≡ refusal_at 2 h.ran.1.refusal = cc in
+    let is : Some (refusal_at 1 Json) ≡ Some (refusal_at 2 Json) = sym (ap (λ bs. (meaning_of bs).refused) h.of_input ∙ rw no_json refl) ∙ h.ran.1 in
+    let same : refusal_at 1 Json ≡ refusal_at 2 Json = same_Some (refusal_at 1 Json) (refusal_at 2 Json) is in
     omega (arith, ap (λ (k : Refused). k.line) same)

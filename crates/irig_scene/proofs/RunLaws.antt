@@ -145,13 +145,13 @@ ended_scene n (Some x) = refl
 -- what is read for an answer: as much as the bytes ask for, or a part of one line
 abbrev ReadsFor : Result Outcome SceneFault → List ℕ → List ℕ → List ℕ → Type 0
 ReadsFor (Ok o) x read spelled = read_of (meaning_of x).refused x ≡ read
-ReadsFor (Err (Refused line number)) x read spelled = read_of (meaning_of x).refused x ≡ read
+ReadsFor (Err (Refused line refusal)) x read spelled = read_of (meaning_of x).refused x ≡ read
 ReadsFor (Err Read) x read spelled = ⊤
 ReadsFor (Err Write) x read spelled = IsOfOneLine spelled
 ReadsFor (Err Memory) x read spelled = IsOfOneLine spelled
 
 reads_refused : (e : SceneFault) (x read spelled : List ℕ) (n : ℕ) (k : Refusal) → (meaning_of x).refused ≡ Some (refusal_at n k) → shown_by n x ≡ read → IsOfOneLine spelled → ReadsFor (Err e) x read spelled
-reads_refused (Refused line number) x read spelled n k is shown one = ap (λ refused. read_of refused x) is ∙ shown
+reads_refused (Refused line refusal) x read spelled n k is shown one = ap (λ refused. read_of refused x) is ∙ shown
 reads_refused Read x read spelled n k is shown one = tt
 reads_refused Write x read spelled n k is shown one = one
 reads_refused Memory x read spelled n k is shown one = one
@@ -183,8 +183,8 @@ module _ (texts : Texts) where
   conclude (Ok o) x rest first was left out0 out1 out2 past spelled at lined taken of_bytes took grew so e means here reads =
       let h = rest_on texts (Ok o) (meaning_of x) (length (lines x)) first None at out0 out1 out2 so here in
       (subst (Appends out0 out2) (sym (ap (λ f. meaning_text texts f (meaning_of x)) (sym e) ∙ h.1.is)) h.1.wrote, h.0, subst (Consumes was left) (sym reads) took)
-  conclude (Err (Refused line number)) x rest first was left out0 out1 out2 past spelled at lined taken of_bytes took grew so e means here reads =
-      let h = rest_on texts (Err (Refused line number)) (meaning_of x) (length (lines x)) first None at out0 out1 out2 so here in
+  conclude (Err (Refused line refusal)) x rest first was left out0 out1 out2 past spelled at lined taken of_bytes took grew so e means here reads =
+      let h = rest_on texts (Err (Refused line refusal)) (meaning_of x) (length (lines x)) first None at out0 out1 out2 so here in
       (subst (Appends out0 out2) (sym (ap (λ f. meaning_text texts f (meaning_of x)) (sym e) ∙ h.1.is)) h.1.wrote, h.0, subst (Consumes was left) (sym reads) took)
   conclude (Err Read) x rest first was left out0 out1 out2 past spelled at lined taken of_bytes took grew so e means here reads = absurd here
   conclude (Err Write) x rest first was left out0 out1 out2 past spelled at lined taken of_bytes took grew so e means here reads =
@@ -296,7 +296,7 @@ module _ {A : Type 0} (stands_for : A → Scene → Type 0) (counts : Bool) (tex
 
   heard_of_all : (r : Result Outcome SceneFault) (p : Option A) (all ls : List (List ℕ)) → all ≡ run.past ++ ls → HeardFor stands_for counts r p (noted_at counts run.at) ls n run.at → HeardFor stands_for counts r p more all 1 None
   heard_of_all (Ok o) p all ls are h = has_heard p all ls are h
-  heard_of_all (Err (Refused line number)) p all ls are h = has_heard p all ls are h
+  heard_of_all (Err (Refused line refusal)) p all ls are h = has_heard p all ls are h
   heard_of_all (Err Read) p all ls are h = tt
   heard_of_all (Err Write) p all ls are h = tt
   heard_of_all (Err Memory) p all ls are h = tt
@@ -327,8 +327,8 @@ module _ {A : Type 0} (stands_for : A → Scene → Type 0) (counts : Bool) (tex
   -- line n ended the run
   reads_ended : (e : SceneFault) (y l first : List ℕ) (ls : List (List ℕ)) (count : ℕ) (out2 : Option (List ℕ)) (read spelled : List ℕ) → lines y ≡ l ∷ ls → IsOfLine n e → RestFor texts (Err e) (meaning_from (l ∷ ls) n run.at) count first run.at out1 out2
       → shown_by n (unlines run.past ++ y) ≡ read → IsOfOneLine spelled → ReadsFor (Err e) (unlines run.past ++ y) read spelled
-  reads_ended (Refused line number) y l first ls count out2 read spelled is here ran shows one =
-      ap (λ refused. read_of refused (unlines run.past ++ y)) (ap (λ (m : Meaning). m.refused) (left_means y ∙ ap (λ ls. meaning_from ls n run.at) is) ∙ ran.0.first ∙ ap (λ n. Some (refusal_at n ran.0.refusal)) here) ∙ shows
+  reads_ended (Refused line refusal) y l first ls count out2 read spelled is here ran shows one =
+      ap (λ refused. read_of refused (unlines run.past ++ y)) (ap (λ (m : Meaning). m.refused) (left_means y ∙ ap (λ ls. meaning_from ls n run.at) is) ∙ ran.0 ∙ ap (λ n. Some (refusal_at n refusal)) here) ∙ shows
   reads_ended Read y l first ls count out2 read spelled is here ran shows one = tt
   reads_ended Write y l first ls count out2 read spelled is here ran shows one = one
   reads_ended Memory y l first ls count out2 read spelled is here ran shows one = one
@@ -379,9 +379,9 @@ module _ {A : Type 0} (stands_for : A → Scene → Type 0) (counts : Bool) (tex
 
   reads_last : (r : Result Outcome SceneFault) (l first : List ℕ) (count : ℕ) (out2 : Option (List ℕ)) → HasNoNewline l → length l ≤ limit_of n → RestFor texts r (meaning_from (lines l) n run.at) count first run.at out1 out2 → ReadsFor r (unlines run.past ++ l) (unlines run.past ++ l) l
   reads_last (Ok o) l first count out2 h short tells = ap (λ refused. read_of refused (unlines run.past ++ l)) (ap (λ (m : Meaning). m.refused) (left_means l) ∙ tells.0.accepted)
-  reads_last (Err (Refused line number)) l first count out2 h short tells =
-      ap (λ refused. read_of refused (unlines run.past ++ l)) (ap (λ (m : Meaning). m.refused) (left_means l) ∙ tells.0.first)
-      ∙ shown_at_end run.past n l line run.whole run.count h short (refused_later (lines l) n run.at line tells.0.refusal tells.0.first)
+  reads_last (Err (Refused line refusal)) l first count out2 h short tells =
+      ap (λ refused. read_of refused (unlines run.past ++ l)) (ap (λ (m : Meaning). m.refused) (left_means l) ∙ tells.0)
+      ∙ shown_at_end run.past n l line run.whole run.count h short (refused_later (lines l) n run.at line refusal tells.0)
   reads_last (Err Read) l first count out2 h short tells = tt
   reads_last (Err Write) l first count out2 h short tells = record { line = l; unlined = h; is = inl refl }
   reads_last (Err Memory) l first count out2 h short tells = record { line = l; unlined = h; is = inl refl }
@@ -407,7 +407,7 @@ module _ {A : Type 0} (stands_for : A → Scene → Type 0) (counts : Bool) (tex
   -- ---- a failed read
 
   pub left_read : (e : SceneFault) (in2 : Option (List ℕ)) → IsFaultOfReading e → GivesPart in1 in2 → RanTo stands_for counts texts (Err e) f more in0 in2 out0 out1
-  left_read (Refused line number) in2 kind got = absurd kind
+  left_read (Refused line refusal) in2 kind got = absurd kind
   left_read Read in2 kind got =
       let known = known_rest in1 in2 got.part got.taken in
       let y = got.part ++ known.0 in
@@ -461,7 +461,7 @@ module _ {A B : Type 0} (stands_for : A → Scene → Type 0) (heard_by : B → 
 
   heard_by_it : (counts : Bool) (r : Result Outcome SceneFault) (notes : List ℕ) (ls : List (List ℕ)) (n : ℕ) (at : Option Scene) → HeardFor stands_for counts r p notes ls n at → HeardFor heard_by counts r l notes ls n at
   heard_by_it counts (Ok o) notes ls n at h = of_listener counts notes ls n at h
-  heard_by_it counts (Err (Refused line number)) notes ls n at h = of_listener counts notes ls n at h
+  heard_by_it counts (Err (Refused line refusal)) notes ls n at h = of_listener counts notes ls n at h
   heard_by_it counts (Err Read) notes ls n at h = tt
   heard_by_it counts (Err Write) notes ls n at h = tt
   heard_by_it counts (Err Memory) notes ls n at h = tt

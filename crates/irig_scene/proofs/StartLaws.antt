@@ -50,7 +50,7 @@ ended_scene n (Some x) = ap (λ (m : Meaning). m.scene) (meaning_ends n (Some x)
 
 module _ {A : Type 0} (stands_for : A → Scene → Type 0) where
   pub leaves_at : (e : SceneFault) (p : Option A) (s : Step) (k : Refusal) → s.refusal ≡ Some k → IsAt stands_for p s.scene → LeavesFor stands_for e p s
-  leaves_at (Refused line number) p s k refused stands = record { refusal = k; refused = refused; stands = stands }
+  leaves_at (Refused line refusal) p s k refused stands = record { refusal = k; refused = refused; stands = stands }
   leaves_at Read p s k refused stands = tt
   leaves_at Write p s k refused stands = tt
   leaves_at Memory p s k refused stands = tt
@@ -70,14 +70,14 @@ module _ {A : Type 0} (stands_for : A → Scene → Type 0) where
 module _ {A : Type 0} (stands_for : A → Scene → Type 0) (counts : Bool) where
   for_any : (r : Result Outcome SceneFault) (p : Option A) (notes : List ℕ) (ls : List (List ℕ)) (n : ℕ) (at : Option Scene) → HasHeard stands_for counts p notes ls n at → HeardFor stands_for counts r p notes ls n at
   for_any (Ok o) p notes ls n at h = h
-  for_any (Err (Refused line number)) p notes ls n at h = h
+  for_any (Err (Refused line refusal)) p notes ls n at h = h
   for_any (Err Read) p notes ls n at h = tt
   for_any (Err Write) p notes ls n at h = tt
   for_any (Err Memory) p notes ls n at h = tt
 
   -- a line was refused
   pub heard_refused : (e : SceneFault) (p : Option A) (l : List ℕ) (ls : List (List ℕ)) (n : ℕ) (at : Option Scene) → LeavesFor stands_for e p (step n at l) → HeardFor stands_for counts (Err e) p (noted_at counts at) (l ∷ ls) n at
-  heard_refused (Refused line number) p l ls n at h = record {
+  heard_refused (Refused line refusal) p l ls n at h = record {
     stands = subst (λ (m : Meaning). IsAt stands_for p m.scene) (sym (meaning_stops l ls n at h.refusal h.refused)) h.stands;
     more = [];
     noted = sym (starts_stops counts l ls n at h.refusal h.refused) ∙ sym (append-nil (starts_from counts (l ∷ ls) n at));

@@ -26,7 +26,7 @@ whole_part old new text wrote = record { front = text; rest = []; whole = sym (a
 
 front_written : (r : Result Outcome SceneFault) (x : List ℕ) (shown : Shown) (was left old new : Option (List ℕ)) → RanOn r x shown was left old new → AppendsPart old new (output_shown x shown)
 front_written (Ok o) x shown was left old new ran = whole_part old new (output_shown x shown) ran.0
-front_written (Err (Refused line number)) x shown was left old new ran = whole_part old new (output_shown x shown) ran.0
+front_written (Err (Refused line refusal)) x shown was left old new ran = whole_part old new (output_shown x shown) ran.0
 front_written (Err Read) x shown was left old new ran = ran.0
 front_written (Err Write) x shown was left old new ran = ran.0
 front_written (Err Memory) x shown was left old new ran = ran.0

@@ -10,7 +10,6 @@ use Rattle.irig_scene.specs.declared.stop.Failure.TheVariants as failure
 use Rattle.irig_scene.specs.declared.stop.Stop.{Stop}
 use Rattle.irig_scene.specs.declared.stop.Stop.TheVariants as stop
 use Rattle.text_faults.specs.declared.refusal.Refusal.{Refusal}
-use Rattle.text_faults.specs.Refusals.{number_of}
 use Rattle.irig_plant.specs.declared.fault.PlantFault.{PlantFault}
 use Rattle.report_log.specs.Text.{refusal_text}
 use Rattle.irig_scene.specs.Scene.{refusal_as}
@@ -19,7 +18,7 @@ use Rattle.text_faults.specs.declared.refusal.LineFault.TheVariants as line_faul
 
 -- the input failed, or there was no memory
 abbrev pub IsFaultOfReading : SceneFault → Type 0
-IsFaultOfReading (Refused line number) = ⊥
+IsFaultOfReading (Refused line refusal) = ⊥
 IsFaultOfReading Read = ⊤
 IsFaultOfReading Write = ⊥
 IsFaultOfReading Memory = ⊤
@@ -52,7 +51,7 @@ stopped_write (Err (stop.Failed f)) = is_of_output f
 
 -- whether the output failed
 abbrev pub is_write_fault : SceneFault → Bool
-is_write_fault (Refused line number) = false
+is_write_fault (Refused line refusal) = false
 is_write_fault Read = false
 is_write_fault Write = true
 is_write_fault Memory = false
@@ -64,7 +63,7 @@ says_write (Err fault) = is_write_fault fault
 
 -- whether the input failed
 abbrev pub is_read_fault : SceneFault → Bool
-is_read_fault (Refused line number) = false
+is_read_fault (Refused line refusal) = false
 is_read_fault Read = true
 is_read_fault Write = false
 is_read_fault Memory = false
@@ -81,15 +80,15 @@ WroteText (Err f) old new text = AppendsPart old new text
 
 -- the line was refused, and that was written
 abbrev pub WroteRefusal : SceneFault → ℕ → Refusal → Bytes → Bytes → Type 0
-WroteRefusal (Refused line number) n k old new =
-    (line ≡ n) × (number ≡ number_of k) × Appends old new (refusal_text n k)
+WroteRefusal (Refused line refusal) n k old new =
+    (line ≡ n) × (refusal ≡ k) × Appends old new (refusal_text n k)
 WroteRefusal Read n k old new = ⊥
 WroteRefusal Write n k old new = AppendsPart old new (refusal_text n k)
 WroteRefusal Memory n k old new = AppendsPart old new (refusal_text n k)
 
 -- if a line was refused, it is this one
 abbrev pub IsOfLine : ℕ → SceneFault → Type 0
-IsOfLine n (Refused line number) = line ≡ n
+IsOfLine n (Refused line refusal) = line ≡ n
 IsOfLine n Read = ⊤
 IsOfLine n Write = ⊤
 IsOfLine n Memory = ⊤

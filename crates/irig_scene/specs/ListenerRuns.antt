@@ -8,7 +8,6 @@ use Rattle.irig_plant.specs.History.{HasPlantHistory}
 use Rattle.irig_device.specs.Lines.{Bytes, HasNoNewline}
 use Rattle.irig_device.specs.Watched.{AppendsPart}
 use Rattle.text_faults.specs.declared.refusal.Refusal.{Refusal}
-use Rattle.text_faults.specs.Refusals.{number_of}
 use Rattle.report_log.specs.Text.{refusal_text, texts_of}
 use Rattle.scenario_line.specs.EventLine.{command_in_line}
 use Rattle.scenario_line.specs.PlantLine.{Plan, plan_in_line}
@@ -197,8 +196,8 @@ Begins stands_for t line (Err (Failed f)) old new =
 
 -- a line was refused, and what is open was written and that, or a prefix of it
 abbrev pub WroteStop : SceneFault → ℕ → Refusal → List ℕ → Bytes → Bytes → Type 0
-WroteStop (fault.Refused line number) n k closing old new =
-    (line ≡ n) × (number ≡ number_of k) × Appends old new (closing ++ refusal_text n k)
+WroteStop (fault.Refused line refusal) n k closing old new =
+    (line ≡ n) × (refusal ≡ k) × Appends old new (closing ++ refusal_text n k)
 WroteStop fault.Read n k closing old new = ⊥
 WroteStop fault.Write n k closing old new = AppendsPart old new (closing ++ refusal_text n k)
 WroteStop fault.Memory n k closing old new = AppendsPart old new (closing ++ refusal_text n k)
@@ -222,8 +221,8 @@ abbrev pub RestFor : Texts → Result Outcome SceneFault → Meaning → ℕ →
     → Bytes → Bytes → Type 0
 RestFor t (Ok o) m count first from old new =
     IsDone m count o × WroteRest t first from m old new
-RestFor t (Err (fault.Refused line number)) m count first from old new =
-    IsRefused m line number × WroteRest t first from m old new
+RestFor t (Err (fault.Refused line refusal)) m count first from old new =
+    IsRefused m line refusal × WroteRest t first from m old new
 RestFor t (Err fault.Read) m count first from old new = ⊥
 RestFor t (Err fault.Write) m count first from old new = WrotePart t first from m old new
 RestFor t (Err fault.Memory) m count first from old new = WrotePart t first from m old new
@@ -249,7 +248,7 @@ pub record HasHeard {A : Type 0} (stands_for : A → Scene → Type 0) (counts :
 abbrev pub HeardFor : {A : Type 0} → (A → Scene → Type 0) → Bool → Result Outcome SceneFault
     → Option A → List ℕ → List (List ℕ) → ℕ → Option Scene → Type 0
 HeardFor stands_for counts (Ok o) r notes ls n at = HasHeard stands_for counts r notes ls n at
-HeardFor stands_for counts (Err (fault.Refused line number)) r notes ls n at =
+HeardFor stands_for counts (Err (fault.Refused line refusal)) r notes ls n at =
     HasHeard stands_for counts r notes ls n at
 HeardFor stands_for counts (Err fault.Read) r notes ls n at = ⊤
 HeardFor stands_for counts (Err fault.Write) r notes ls n at = ⊤
@@ -264,7 +263,7 @@ pub record LeftBy {A : Type 0} (stands_for : A → Scene → Type 0) (r : Option
 
 -- so if a refusal ended the run
 abbrev pub LeavesFor : {A : Type 0} → (A → Scene → Type 0) → SceneFault → Option A → Step → Type 0
-LeavesFor stands_for (fault.Refused line number) r step = LeftBy stands_for r step
+LeavesFor stands_for (fault.Refused line refusal) r step = LeftBy stands_for r step
 LeavesFor stands_for fault.Read r step = ⊤
 LeavesFor stands_for fault.Write r step = ⊤
 LeavesFor stands_for fault.Memory r step = ⊤
@@ -318,8 +317,8 @@ abbrev pub RunFor : Texts → Result Outcome SceneFault → List ℕ → Bytes �
 RunFor t (Ok o) x was left old new =
     Appends old new (whole_text t x) × IsDone (meaning_of x) (length (lines x)) o
     × Consumes was left (read_of (meaning_of x).refused x)
-RunFor t (Err (fault.Refused line number)) x was left old new =
-    Appends old new (whole_text t x) × IsRefused (meaning_of x) line number
+RunFor t (Err (fault.Refused line refusal)) x was left old new =
+    Appends old new (whole_text t x) × IsRefused (meaning_of x) line refusal
     × Consumes was left (read_of (meaning_of x).refused x)
 RunFor t (Err fault.Read) x was left old new =
     AppendsPart old new (whole_text t x) × StoppedReading t x was left old new

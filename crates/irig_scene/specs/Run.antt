@@ -6,7 +6,6 @@ use Rattle.irig_scene.specs.declared.outcome.Outcome.{Outcome}
 use Rattle.irig_scene.specs.declared.fault.SceneFault.{SceneFault}
 use Rattle.irig_scene.specs.declared.fault.SceneFault.TheVariants.{Refused, Read, Write, Memory}
 use Rattle.text_faults.specs.declared.refusal.Refusal.{Refusal}
-use Rattle.text_faults.specs.Refusals.{number_of}
 use Rattle.irig_device.specs.Watched.{AppendsPart}
 use Rattle.irig_device.specs.Lines.{Bytes, HasNoNewline}
 use Rattle.irig_scene.specs.Lines.{lines, unlines, shown_by}
@@ -24,11 +23,9 @@ pub record IsDone (m : Meaning) (count : ℕ) (o : Outcome) : Type 0 where
   pub left : m.scene ≡ Some scene
   pub audit : o.audit ≡ audit_in scene
 
--- with the refusal of this line
-pub record IsRefused (m : Meaning) (line number : ℕ) : Type 0 where
-  pub refusal : Refusal
-  pub first : m.refused ≡ Some (refusal_at line refusal)
-  pub numbered : number ≡ number_of refusal
+-- with this refusal of this line
+abbrev pub IsRefused : Meaning → ℕ → Refusal → Type 0
+IsRefused m line refusal = m.refused ≡ Some (refusal_at line refusal)
 
 -- none of these lines is refused, from number n on after some scene
 abbrev pub AreTaken : List (List ℕ) → ℕ → Option Scene → Type 0
@@ -80,8 +77,8 @@ abbrev pub RanOn : Result Outcome SceneFault → List ℕ → Shown → Bytes �
 RanOn (Ok o) x shown was left old new =
     Appends old new (output_shown x shown) × IsDone (meaning_of x) (length (lines x)) o
     × Consumes was left (read_of (meaning_of x).refused x)
-RanOn (Err (Refused line number)) x shown was left old new =
-    Appends old new (output_shown x shown) × IsRefused (meaning_of x) line number
+RanOn (Err (Refused line refusal)) x shown was left old new =
+    Appends old new (output_shown x shown) × IsRefused (meaning_of x) line refusal
     × Consumes was left (read_of (meaning_of x).refused x)
 RanOn (Err Read) x shown was left old new =
     AppendsPart old new (output_shown x shown) × StoppedReading x shown was left old new

@@ -6,7 +6,7 @@ use Rattle.irig_scene.specs.declared.fault.SceneFault.TheVariants.{Refused, Read
 
 -- 3 for a refused line, else 4, 5 or 6
 abbrev pub status_of : SceneFault → ℕ
-status_of (Refused line number) = 3
+status_of (Refused line refusal) = 3
 status_of Read = 4
 status_of Write = 5
 status_of Memory = 6

@@ -3,6 +3,7 @@
 ghost use Rattle.std.specs.Prelude.{◌≡◌};
 ghost use Rattle.irig_scene.specs.Statuses.{status_of};
 
+use text_faults::Refusal;
 use thiserror::Error;
 
 /// The exit status of a program whose scenario was refused.
@@ -20,9 +21,9 @@ pub const OUT_OF_MEMORY: u8 = 6;
 /// Why a run of a scenario ended early.
 #[derive(Clone, Copy, Debug, PartialEq, Eq, Error)]
 pub enum SceneFault {
-    /// A line was refused: its number, from 1, and the number of the refusal, 11 to 16 or 19 to 34.
+    /// A line was refused: its number, from 1, and why.
     #[error("scenario refused")]
-    Refused { line: u64, number: u8 },
+    Refused { line: u64, refusal: Refusal },
     /// The input failed.
     #[error("read failed")]
     Read,

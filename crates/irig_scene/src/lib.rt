@@ -27,3 +27,4 @@ pub use read::{MAX_LINES, is_blank, limit_of, read_line, too_long};
 pub use refused_line::RefusedLine;
 pub use report_log::Shown;
 pub use run::{Run, run_listening, run_to};
+pub use text_faults::Refusal;

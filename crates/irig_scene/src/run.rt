@@ -114,7 +114,7 @@ fn refusal_of(answer: &Result<Outcome, SceneFault>) -> Option<Refusal>
     ensures { result ≡ refusal_said answer.now }
 {
     match answer {
-        Err(SceneFault::Refused { number, .. }) => Refusal::of_number(*number),
+        Err(SceneFault::Refused { refusal, .. }) => Some(*refusal),
         _ => None,
     }
 }

@@ -27,7 +27,7 @@ pub fn refuse<W: Write>(
     match write_refusal(alloc, number, refusal, output) {
         Ok(()) => SceneFault::Refused {
             line: number,
-            number: refusal.number(),
+            refusal,
         },
         Err(failure) => SceneFault::from(failure),
     }

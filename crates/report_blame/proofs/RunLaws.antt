@@ -34,7 +34,7 @@ ran_blame names r was left old new ran = record { bytes = ran.bytes; of_input = 
   where
     of_run : (r : Result Outcome SceneFault) → RunFor (blame_texts names) r ran.bytes was left old new → BlameRun names r ran.bytes old new
     of_run (Ok o) h = (h.1.accepted, subst (Appends old new) (same_text names ran.bytes) h.0)
-    of_run (Err (Refused line number)) h = (h.1, subst (Appends old new) (same_text names ran.bytes) h.0)
+    of_run (Err (Refused line refusal)) h = (h.1, subst (Appends old new) (same_text names ran.bytes) h.0)
     of_run (Err Read) h = subst (AppendsPart old new) (same_text names ran.bytes) h.0
     of_run (Err Write) h = subst (AppendsPart old new) (same_text names ran.bytes) h.0
     of_run (Err Memory) h = subst (AppendsPart old new) (same_text names ran.bytes) h.0

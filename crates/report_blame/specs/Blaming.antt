@@ -30,8 +30,8 @@ pub record IsObserverAt (o : Observer) (x : Scene) : Type 0 where
 -- all of the text was written, or a prefix of it
 abbrev pub BlameRun : List ℕ → Result Outcome SceneFault → List ℕ → Bytes → Bytes → Type 0
 BlameRun lines (Ok o) x old new = ((meaning_of x).refused ≡ None) × Appends old new (blame_text lines x)
-BlameRun lines (Err (fault.Refused line number)) x old new =
-    IsRefused (meaning_of x) line number × Appends old new (blame_text lines x)
+BlameRun lines (Err (fault.Refused line refusal)) x old new =
+    IsRefused (meaning_of x) line refusal × Appends old new (blame_text lines x)
 BlameRun lines (Err fault.Read) x old new = AppendsPart old new (blame_text lines x)
 BlameRun lines (Err fault.Write) x old new = AppendsPart old new (blame_text lines x)
 BlameRun lines (Err fault.Memory) x old new = AppendsPart old new (blame_text lines x)

@@ -51,7 +51,7 @@ ran_flat r was left old new ran = record { bytes = ran.bytes; of_input = ran.of_
   where
     of_run : (r : Result Outcome SceneFault) → RunFor flat_texts r ran.bytes was left old new → FlatRun r ran.bytes old new
     of_run (Ok o) h = (h.1.accepted, subst (Appends old new) (same_text ran.bytes) h.0)
-    of_run (Err (Refused line number)) h = (h.1, subst (Appends old new) (same_text ran.bytes) h.0)
+    of_run (Err (Refused line refusal)) h = (h.1, subst (Appends old new) (same_text ran.bytes) h.0)
     of_run (Err Read) h = subst (AppendsPart old new) (same_text ran.bytes) h.0
     of_run (Err Write) h = subst (AppendsPart old new) (same_text ran.bytes) h.0
     of_run (Err Memory) h = subst (AppendsPart old new) (same_text ran.bytes) h.0

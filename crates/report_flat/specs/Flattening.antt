@@ -16,8 +16,8 @@ use Rattle.report_flat.specs.FlatText.{flat_text, flat_texts}
 -- all of the text was written, or a prefix of it
 abbrev pub FlatRun : Result Outcome SceneFault → List ℕ → Bytes → Bytes → Type 0
 FlatRun (Ok o) x old new = ((meaning_of x).refused ≡ None) × Appends old new (flat_text x)
-FlatRun (Err (fault.Refused line number)) x old new =
-    IsRefused (meaning_of x) line number × Appends old new (flat_text x)
+FlatRun (Err (fault.Refused line refusal)) x old new =
+    IsRefused (meaning_of x) line refusal × Appends old new (flat_text x)
 FlatRun (Err fault.Read) x old new = AppendsPart old new (flat_text x)
 FlatRun (Err fault.Write) x old new = AppendsPart old new (flat_text x)
 FlatRun (Err fault.Memory) x old new = AppendsPart old new (flat_text x)

@@ -1,5 +1,5 @@
 use irig_device::Watched;
-use irig_scene::{SceneFault, Shown, run_scene, run_scene_shown};
+use irig_scene::{Refusal, SceneFault, Shown, run_scene, run_scene_shown};
 use std::alloc::Global;
 use std::io;
 use std::io::{BufReader, Write};
@@ -42,7 +42,7 @@ fn a_refused_line_is_handed_back(rt: HostRuntime) -> Result<(), Fail> {
     let answer = run_scene_shown(rt.alloc(), &mut input, &mut output, shown, &mut refused);
     let fault = SceneFault::Refused {
         line: 4,
-        number: 19,
+        refusal: Refusal::NoSuchReader,
     };
     assert!(rt; answer == Err(fault));
     assert!(rt; output.into_inner().as_slice() == WHOLE.as_bytes());

@@ -39,33 +39,6 @@ number_of TableLong = 32
 number_of TableDay = 33
 number_of TableTwice = 34
 
--- the refusal of a number
-abbrev pub refusal_numbered : ℕ → Option Refusal
-refusal_numbered n =
-    if n == 11 then Some BadStart
-    else (if n == 12 then Some LeapNotMonthEnd
-    else (if n == 13 then Some LeapTwice
-    else (if n == 14 then Some OutOfYears
-    else (if n == 15 then Some Offset
-    else (if n == 16 then Some Changes
-    else (if n == 19 then Some NoSuchReader
-    else (if n == 20 then Some NoSuchGenerator
-    else (if n == 21 then Some FutureReplay
-    else (if n == 22 then Some EndOfYears
-    else (if n == 23 then Some TooLong
-    else (if n == 24 then Some Json
-    else (if n == 25 then Some Shape
-    else (if n == 26 then Some Value
-    else (if n == 27 then Some Version
-    else (if n == 28 then Some Names
-    else (if n == 29 then Some NoPlant
-    else (if n == 30 then Some TooManyLines
-    else (if n == 31 then Some TableEnd
-    else (if n == 32 then Some TableLong
-    else (if n == 33 then Some TableDay
-    else (if n == 34 then Some TableTwice
-    else None)))))))))))))))))))))
-
 -- its name
 abbrev pub name_of : Refusal → List ℕ
 name_of BadStart = codes "BadStart"

@@ -1,14 +1,14 @@
 //! Why a line of a scenario is refused.
 
-ghost use Rattle.std.specs.Prelude.{◌≡◌, Some};
-ghost use Rattle.text_faults.specs.Refusals.{number_of, refusal_numbered, name_of};
+ghost use Rattle.std.specs.Prelude.{◌≡◌};
+ghost use Rattle.text_faults.specs.Refusals.{number_of, name_of};
 
 use irig_gen::GenRefusal;
 use irig_time::{TableFault, TimelineFault};
 use std::alloc::{AllocError, AllocFailed};
 
 /// Why a line of a scenario is refused.
-#[derive(Clone, Copy, PartialEq, Eq)]
+#[derive(Clone, Copy, Debug, PartialEq, Eq)]
 pub enum Refusal {
     /// The start's day is outside 1 to 36523, or its second is none of that day's.
     BadStart,
@@ -59,9 +59,10 @@ pub enum Refusal {
 
 impl Refusal {
     /// The number by which users know a refusal.
+    #[tactic(auto, using(crate::proofs::NumberLaws::alone))]
     pub fn number(self) -> u8
         ensures number { result ≡ number_of self }
-        ensures back { refusal_numbered result ≡ Some self }
+        ensures alone { (other : Refusal) → number_of other ≡ result → other ≡ self }
     {
         match self {
             Refusal::BadStart => 11,
@@ -87,38 +88,6 @@ impl Refusal {
             Refusal::TableDay => 33,
             Refusal::TableTwice => 34,
         }
-    }
-
-    /// The refusal of this number, 11 to 16 or 19 to 34; none of another.
-    pub fn of_number(number: u8) -> Option<Refusal>
-        ensures { result ≡ refusal_numbered number }
-    {
-        let refusal = match number {
-            11 => Refusal::BadStart,
-            12 => Refusal::LeapNotMonthEnd,
-            13 => Refusal::LeapTwice,
-            14 => Refusal::OutOfYears,
-            15 => Refusal::Offset,
-            16 => Refusal::Changes,
-            19 => Refusal::NoSuchReader,
-            20 => Refusal::NoSuchGenerator,
-            21 => Refusal::FutureReplay,
-            22 => Refusal::EndOfYears,
-            23 => Refusal::TooLong,
-            24 => Refusal::Json,
-            25 => Refusal::Shape,
-            26 => Refusal::Value,
-            27 => Refusal::Version,
-            28 => Refusal::Names,
-            29 => Refusal::NoPlant,
-            30 => Refusal::TooManyLines,
-            31 => Refusal::TableEnd,
-            32 => Refusal::TableLong,
-            33 => Refusal::TableDay,
-            34 => Refusal::TableTwice,
-            _ => return None,
-        };
-        Some(refusal)
     }
 
     /// The name of a refusal.

@@ -13,7 +13,7 @@ NamesNothing answer = (answer ≡ Err BadTime) ⊎ (answer ≡ Err BadFrameText)
 
 not_of_run : (run : Result Outcome SceneFault) → ¬ NamesNothing (result_of run)
 not_of_run (Ok outcome) h = elim h [ inl e ↦ absurd cc | inr e ↦ absurd cc ]
-not_of_run (Err (Refused line number)) h = elim h [ inl e ↦ absurd cc | inr e ↦ absurd cc ]
+not_of_run (Err (Refused line refusal)) h = elim h [ inl e ↦ absurd cc | inr e ↦ absurd cc ]
 not_of_run (Err Read) h = elim h [ inl e ↦ absurd cc | inr e ↦ absurd cc ]
 not_of_run (Err Write) h = elim h [ inl e ↦ absurd cc | inr e ↦ absurd cc ]
 not_of_run (Err Memory) h = elim h [ inl e ↦ absurd cc | inr e ↦ absurd cc ]

@@ -8,4 +8,4 @@ pub returns-clause-ran : goal.returns-clause-ran
 returns-clause-ran g c = ran_to (IsPlayerAt {g = g.P.Port} (g.L.Listener.stands_for c.args.asked)) (g.L.Listener.stands_for c.args.asked) _ _ (c.end_player-listener.ensures.listener c.args.asked) g.L.Listener.counts (g.L.Listener.texts c.args.asked) _ _ _ _ _ _ c.run_lines-answer.ensures.ran
 
 pub returns-clause-refused : goal.returns-clause-refused
-returns-clause-refused g c = explained _ _ _ _ _ _ _ _ _ _ _ c.run_lines-answer.ensures.ran (c.end_player-listener.ensures.refused ∙ c.refusal_of.ensures)
+returns-clause-refused g c = explained _ _ (c.end_player-listener.ensures.refused ∙ c.refusal_of.ensures)
