@@ -2,7 +2,7 @@
 use Rattle.std.proofs.Common.{All, ◌≡◌, ℕ, zero, suc, ◌+◌, ◌-◌, ◌<◌, ◌≤◌, Bool, true, false, cond, List, [], ◌∷◌, ◌++◌, map, length, take, drop, get_or, length-append, inl, inr, Option, Some, None, Result, Ok, Err, refl, ap, sym, subst, ◌∙◌, append_assoc, append-nil, arith, rules, nat_le, slice_set, slice_index_or, min}
 use Rattle.std.specs.Prelude.{option_to_list, ◌⊎◌, ⊤}
 use Rattle.std.proofs.lemmas.Bool.{cases_lt}
-use Rattle.std.proofs.Math.Seq.{drop-append_seam, drop-cons, set-append_seam, take-append_seam}
+use Rattle.std.proofs.Math.Seq.{drop-cons, set-append_seam, take-append_seam}
 use Rattle.std.proofs.Math.ListN.{drop_of_length-le}
 use Rattle.std.proofs.lemmas.List.{take_all, length-take, length-map, map-append}
 use Rattle.irig_plant.specs.declared.event.Event.{Event}
@@ -14,7 +14,7 @@ use Rattle.irig_scene.specs.declared.fault.SceneFault.{SceneFault}
 use Rattle.irig_scene.specs.declared.fault.SceneFault.TheVariants.{Refused, Read, Write, Memory}
 use Rattle.irig_scene.specs.declared.run.Run.{Run}
 use Rattle.irig_scene.specs.Lines.{lines}
-use Rattle.irig_scene.specs.LogTexts.{entries_by}
+use Rattle.irig_scene.specs.Listening.{Gave, entries_by}
 use Rattle.irig_scene.specs.Scene.{Scene, scene, meaning_of, meaning_from}
 use Rattle.irig_scene.specs.Starts.{entry_count, noted_at, starts_from}
 use Rattle.irig_scene.specs.ListenerRuns.{IsAt, HasHeard, HeardFor}
@@ -40,14 +40,12 @@ one_at_most s (Repair g) ev = refl
 one_at_most s (Restart r) ev = refl
 
 -- what is kept after an event
-pub kept_after : (old new : List IrigEntry) (x : Scene) (e : Event) (entry : Option IrigEntry) → old ≡ heard_in (Some x)
-    → entry ≡ first_of (drop (length (log_of x.plan.setup x.events)) (log_of x.plan.setup (e ∷ x.events)))
-    → new ≡ old ++ option_to_list entry → new ≡ heard_in (Some (scene x.plan (e ∷ x.events)))
-kept_after old new x e entry at is pushed =
+pub kept_after : (old new : List IrigEntry) (x : Scene) (e : Event) (entries : List Entry) (entry : Option IrigEntry) → old ≡ heard_in (Some x)
+    → Gave e x entries → entry ≡ first_of entries → new ≡ old ++ option_to_list entry → new ≡ heard_in (Some (scene x.plan (e ∷ x.events)))
+kept_after old new x e entries entry at gave is pushed =
     let log = log_of x.plan.setup x.events in
     let by = entries_by x.plan.setup e x.events in
-    let past : drop (length log) (log_of x.plan.setup (e ∷ x.events)) ≡ by = ap (drop (length log)) (grows x.plan.setup e x.events) ∙ drop-append_seam log by in
-    let one : option_to_list entry ≡ map entry_for by = ap option_to_list (is ∙ ap first_of past) ∙ sym (one_at_most x.plan.setup e x.events) in
+    let one : option_to_list entry ≡ map entry_for by = ap option_to_list (is ∙ ap first_of gave) ∙ sym (one_at_most x.plan.setup e x.events) in
     pushed ∙ ap (λ l. l ++ option_to_list entry) at ∙ ap (λ l. map entry_for log ++ l) one
     ∙ sym (ap (map entry_for) (grows x.plan.setup e x.events) ∙ map-append entry_for log by)
 

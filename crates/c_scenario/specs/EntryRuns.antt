@@ -1,12 +1,10 @@
 -- A run that keeps the entries of its log: what stands while it goes on, and when it has ended.
 -- Source: docs/OUTPUT.md, docs/C.md; this project's profile.
-use Rattle.std.specs.Prelude.{◌≡◌, ℕ, true, drop, List, [], ◌∷◌, Option, Some, None}
+use Rattle.std.specs.Prelude.{◌≡◌, ℕ, true, List, [], ◌∷◌, Option, Some, None}
 use Rattle.irig_plant.specs.declared.entry.Entry.{Entry}
-use Rattle.irig_plant.specs.History.{PlantHistory}
-use Rattle.irig_plant.specs.Schedule.{log_of}
 use Rattle.irig_scene.specs.declared.run.Run.{Run}
 use Rattle.irig_scene.specs.Scene.{Scene}
-use Rattle.irig_scene.specs.Texts.{Texts}
+use Rattle.irig_scene.specs.Texts.{no_texts}
 use Rattle.irig_scene.specs.ListenerRuns.{RanTo}
 use Rattle.c_scenario.specs.declared.entry.IrigEntry.{IrigEntry}
 use Rattle.c_scenario.specs.declared.entry_log.EntryLog.{EntryLog}
@@ -16,19 +14,6 @@ use Rattle.c_scenario.specs.Entries.{entry_for, heard_in}
 abbrev pub first_of : List Entry → Option IrigEntry
 first_of (e ∷ es) = Some (entry_for e)
 first_of [] = None
-
--- the first that a plant's log still has
-abbrev pub IsFirstEntry : Option IrigEntry → PlantHistory → Type 0
-IsFirstEntry entry h = entry ≡ first_of (drop h.shown (log_of h.setup h.events))
-
--- it says nothing
-abbrev pub no_texts : Texts
-no_texts = record {
-  first = λ line. [];
-  event = λ plan e ev. [];
-  closing = λ x. [];
-  end = λ x. [];
-}
 
 -- what is kept is the log of a scene
 abbrev pub HoldsEntries : EntryLog → Scene → Type 0

@@ -1,16 +1,15 @@
 //! The entries of a run, and the lines that asked for them.
 
 ghost use Rattle.std.specs.Prelude.{◌≡◌, ◌+◌, ◌≤◌, ℕ, List, drop, length};
-ghost use Rattle.irig_plant.specs.History.{ForHistory};
 ghost use Rattle.c_scenario.specs.Entries.{begun, entries_of, lined};
-ghost use Rattle.c_scenario.specs.EntryRuns.{HasHeardEntries, IsFirstEntry};
+ghost use Rattle.c_scenario.specs.EntryRuns.{HasHeardEntries, first_of};
 ghost use Rattle.c_scenario.specs.Runs.{HasWholeLog, status_of, written_over};
 
 use crate::entry::{IrigEntry, entry_for_c};
 use crate::run::status_of;
 use indexmap::IndexSet;
 use irig_device::Watched;
-use irig_plant::{Event, Plant};
+use irig_plant::{Entry, Event, Plant};
 use irig_port::{FlowPort, Port};
 use irig_scene::{Listener, READ_FAILED, Run, run_listening};
 use std::alloc::{AllocError, Global};
@@ -23,7 +22,8 @@ pub(crate) struct EntryLog {
 
 impl Listener for EntryLog {
     ghost use Rattle.std.specs.Prelude.{true};
-    ghost use Rattle.c_scenario.specs.EntryRuns.{HoldsEntries, no_texts};
+    ghost use Rattle.irig_scene.specs.Texts.{no_texts};
+    ghost use Rattle.c_scenario.specs.EntryRuns.{HoldsEntries};
 
     type Asked = ();
 
@@ -59,12 +59,13 @@ impl Listener for EntryLog {
     fn push_event<P: Port>(
         &mut self,
         _asked: (),
-        plant: &Plant<P>,
+        _plant: &Plant<P>,
         _names: &IndexSet<String>,
         _event: &Event,
+        entries: &[Entry],
         _text: &mut String,
     ) -> Result<(), AllocError> {
-        if let Some(entry) = first_entry(plant) {
+        if let Some(entry) = first_entry(entries) {
             self.entries.push(entry)?;
         }
         Ok(())
@@ -82,14 +83,13 @@ impl Listener for EntryLog {
     }
 }
 
-// The first entry that the plant's log still has, if it has any.
-fn first_entry<P: Port>(plant: &Plant<P>) -> Option<IrigEntry>
-    ensures { ForHistory plant.now (IsFirstEntry result) }
+fn first_entry(entries: &[Entry]) -> Option<IrigEntry>
+    ensures { result ≡ first_of entries.now }
 {
-    let [entry, ..] = plant.log() else {
-        return None;
-    };
-    Some(entry_for_c(entry))
+    match entries {
+        [entry, ..] => Some(entry_for_c(entry)),
+        [] => None,
+    }
 }
 
 /// A run of the text, which keeps its entries.

@@ -22,7 +22,8 @@ use Rattle.irig_scene.specs.Run as run
 use Rattle.irig_scene.proofs.PlayLaws.{lines_grow}
 use Rattle.irig_scene.specs.Texts as by
 use Rattle.irig_scene.specs.Texts.{said, ending_of, meaning_text, whole_text}
-use Rattle.irig_scene.specs.LogTexts.{entries_by, log_texts}
+use Rattle.irig_scene.specs.Listening.{entries_by}
+use Rattle.irig_scene.specs.LogTexts.{log_texts}
 use Rattle.irig_scene.specs.ListenerRuns.{StoppedReading, StoppedInLine, RunFor, RanFor}
 
 -- ---- an entry more
@@ -107,25 +108,19 @@ module _ (shown : Shown) where
 left_is : {X : Type 0} (a b more : List X) → b ≡ a ++ more → drop (length a) b ≡ more
 left_is a b more e = ap (drop (length a)) e ∙ drop-append_seam a more
 
+-- the entries that stand in the log, if all before the event were let go
+pub gave : (s : Setup) (e : Event) (ev : List Event) → drop (length (log_of s ev)) (log_of s (e ∷ ev)) ≡ entries_by s e ev
+gave s e ev = left_is (log_of s ev) (log_of s (e ∷ ev)) (entries_by s e ev) (grows s e ev)
+
 -- the entry of a tick, and what its ports told
 pub tick_is_lines : (shown : Shown) (x : Scene) (e : Event) (names : List (List ℕ)) (entries : List Entry) → shown.ports ≡ true → names ≡ x.plan.names
-    → entries ≡ drop (length (log_of x.plan.setup x.events)) (log_of x.plan.setup (e ∷ x.events))
-    → ticks_text names shown.all entries ≡ (log_texts shown).event x.plan e x.events
-tick_is_lines shown x e names entries ports named are =
-    let s = x.plan.setup in
-    let ev = x.events in
-    let same = are ∙ left_is (log_of s ev) (log_of s (e ∷ ev)) (entries_by s e ev) (grows s e ev) in
-    rw (ports, named, same) refl
+    → entries ≡ entries_by x.plan.setup e x.events → ticks_text names shown.all entries ≡ (log_texts shown).event x.plan e x.events
+tick_is_lines shown x e names entries ports named gave = rw (ports, named, gave) refl
 
 -- the entry alone
 pub entry_is_lines : (shown : Shown) (x : Scene) (e : Event) (names : List (List ℕ)) (entries : List Entry) → shown.ports ≡ false → names ≡ x.plan.names
-    → entries ≡ drop (length (log_of x.plan.setup x.events)) (log_of x.plan.setup (e ∷ x.events))
-    → entries_text names shown.all entries ≡ (log_texts shown).event x.plan e x.events
-entry_is_lines shown x e names entries ports named are =
-    let s = x.plan.setup in
-    let ev = x.events in
-    let same = are ∙ left_is (log_of s ev) (log_of s (e ∷ ev)) (entries_by s e ev) (grows s e ev) in
-    rw (ports, named, same) refl
+    → entries ≡ entries_by x.plan.setup e x.events → entries_text names shown.all entries ≡ (log_texts shown).event x.plan e x.events
+entry_is_lines shown x e names entries ports named gave = rw (ports, named, gave) refl
 
 pub on_ok : {A E : Type 0} (r : Result A E) (P Q : Type 0) → (P → Q) → OnOk r P → OnOk r Q
 on_ok (Ok a) P Q f h = f h

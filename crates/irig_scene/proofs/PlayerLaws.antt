@@ -1,15 +1,16 @@
 -- A stage that plays events, and a player.
 use Rattle.std.proofs.Common.{◌≡◌, ℕ, length, List, [], ◌∷◌, ◌++◌, Option, Some, None, Result, Ok, Err, ap, sym, subst, ◌∙◌, arith}
 use Rattle.irig_port.specs.declared.port.Port.{Ghosts}
+use Rattle.irig_plant.specs.declared.entry.Entry.{Entry}
 use Rattle.irig_plant.specs.declared.event.Event.{Event}
 use Rattle.irig_plant.specs.WholeSecond.{times}
-use Rattle.irig_plant.specs.History.{HasPlantHistory}
+use Rattle.irig_plant.specs.History.{ForHistory, HasPlantHistory}
 use Rattle.irig_plant.specs.Schedule.{log_of}
 use Rattle.report_log.specs.Text.{texts_of}
 use Rattle.scenario_line.specs.declared.event_reader.EventReader.{EventReader}
-use Rattle.std.specs.Prelude.{Vec, String, IfOk, string_bytes}
+use Rattle.std.specs.Prelude.{Vec, String, IfOk, drop, string_bytes}
 use Rattle.std.specs.declared.alloc.Global.{Global}
-use Rattle.irig_scene.specs.Listening.{history_past, HasTaken}
+use Rattle.irig_scene.specs.Listening.{history_past, Gave, HasTaken}
 use Rattle.text_faults.specs.declared.refusal.Refusal.{Refusal}
 use Rattle.irig_scene.specs.declared.stop.Stop.{Stop}
 use Rattle.irig_scene.specs.declared.stop.Stop.TheVariants.{Refused, Failed}
@@ -23,9 +24,14 @@ use Rattle.irig_scene.specs.declared.stepped.SteppedPlant.{SteppedPlant}
 use Rattle.irig_scene.specs.Stepping.{Steps, HasStepped}
 use Rattle.irig_scene.specs.Texts.{Texts}
 use Rattle.irig_scene.specs.ListenerRuns.{PlayedFor, Adds, HoldsTextOf, IsStageAt, IsPlayerAt, text_in, held_by}
+use Rattle.irig_scene.proofs.LogLaws.{gave}
 use Rattle.irig_scene.proofs.PlayedLaws.{ends_in, takes_one, stops_one}
 
 -- ---- a stage
+
+-- these entries stand in the plant's log
+abbrev pub IsInLog : {P : Type 0} {g : Ghosts P} → Plant P g → List Entry → Type 0
+IsInLog plant entries = ForHistory plant (λ h. entries ≡ drop h.shown (log_of h.setup h.events))
 
 module _ {A : Type 0} (stands : A → Scene → Type 0) (texts : Texts) where
   -- what ends events in the midst ends all of them
@@ -59,17 +65,18 @@ module _ {L P : Type 0} {g : Ghosts P} (stands_for : L → Scene → Type 0) whe
       record { accepted = both.0; stands = rw same both.1; named = of_names ∙ at.named }
 
   -- it was taken, and what is said of it was pushed
-  pub step_takes : (texts : Texts) (s : Stage L P g) (plant : SteppedPlant P g) (seen : Plant P g) (names : List (List ℕ)) (listener : L) (text : String Global) (e : Event)
-      → seen ≡ plant.plant → names ≡ texts_of s.lines.names.keys → Steps s.plant.plant e (Ok tt) plant.plant
-      → ((x : Scene) → stands_for s.listener x → HasTaken seen names e x → string_bytes text ≡ string_bytes s.text ++ texts.event x.plan e x.events)
-      → ((x : Scene) → stands_for s.listener x → HasTaken seen names e x → stands_for listener (scene x.plan (e ∷ x.events)))
+  pub step_takes : (texts : Texts) (s : Stage L P g) (plant : SteppedPlant P g) (seen : Plant P g) (names : List (List ℕ)) (listener : L) (text : String Global) (e : Event) (entries : List Entry)
+      → seen ≡ plant.plant → names ≡ texts_of s.lines.names.keys → Steps s.plant.plant e (Ok tt) plant.plant → IsInLog seen entries
+      → ((x : Scene) → stands_for s.listener x → HasTaken seen names e x → Gave e x entries → string_bytes text ≡ string_bytes s.text ++ texts.event x.plan e x.events)
+      → ((x : Scene) → stands_for s.listener x → HasTaken seen names e x → Gave e x entries → stands_for listener (scene x.plan (e ∷ x.events)))
       → Adds (IsStageAt stands_for) texts s (e ∷ []) (Ok tt) (record s { listener = listener; plant = plant; text = text }) (text_in s) (string_bytes text)
-  step_takes texts s plant seen names listener text e same of_names steps said stands = λ x at.
+  step_takes texts s plant seen names listener text e entries same of_names steps logged said stands = λ x at.
       let h = taken s plant seen names e x same of_names steps at in
+      let entries_are = logged _ h.stands ∙ gave x.plan.setup e x.events in
       let both = steps (history_past at.gone x) at.plant in
       takes_one (IsStageAt stands_for) texts x e (record s { listener = listener; plant = plant; text = text }) (Some (text_in s)) (Some (string_bytes text)) both.0
-      (record { listener = stands x at.listener h; gone = length (log_of x.plan.setup x.events); plant = both.1; named = at.named })
-      (said x at.listener h)
+      (record { listener = stands x at.listener h entries_are; gone = length (log_of x.plan.setup x.events); plant = both.1; named = at.named })
+      (said x at.listener h entries_are)
 
   -- it was refused, or there was no memory
   pub step_stops : (texts : Texts) (s : Stage L P g) (plant : SteppedPlant P g) (e : Event) (stop : Stop) → Steps s.plant.plant e (Err stop) plant.plant

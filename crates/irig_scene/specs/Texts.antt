@@ -16,6 +16,15 @@ pub record Texts : Type 0 where
   pub closing : Scene → List ℕ
   pub end : Scene → List ℕ
 
+-- of a listener that says nothing
+abbrev pub no_texts : Texts
+no_texts = record {
+  first = λ line. [];
+  event = λ plan e ev. [];
+  closing = λ x. [];
+  end = λ x. [];
+}
+
 -- what comes last: what is open, if a line is refused, and else what ends the text
 abbrev pub last_of : Texts → Bool → Scene → List ℕ
 last_of t refused x = if refused then t.closing x else t.end x

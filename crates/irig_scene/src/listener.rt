@@ -1,14 +1,15 @@
 //! What every listener does.
 
-ghost use Rattle.std.specs.Prelude.{◌≡◌, ◌++◌, [], ◌∷◌, ◌≤◌, ℕ, Bool, true, Some, if◌then◌else◌, List, IfOk, OnOk, codes, length, string_bytes};
+ghost use Rattle.std.specs.Prelude.{All, ◌≡◌, ◌++◌, [], ◌∷◌, ◌≤◌, ℕ, Bool, true, Some, if◌then◌else◌, List, IfOk, OnOk, codes, length, string_bytes};
+ghost use Rattle.irig_plant.specs.Sound.{IsSound, IsToldSoundly};
 ghost use Rattle.report_log.specs.Text.{texts_of};
 ghost use Rattle.irig_scene.specs.Scene.{Scene, scene};
 ghost use Rattle.irig_scene.specs.Starts.{entry_count};
 ghost use Rattle.irig_scene.specs.Texts.{Texts, last_of};
-ghost use Rattle.irig_scene.specs.Listening.{HasTaken, IsPlantOf, Names};
+ghost use Rattle.irig_scene.specs.Listening.{Gave, HasTaken, IsPlantOf, Names};
 
 use indexmap::IndexSet;
-use irig_plant::{Event, Plant};
+use irig_plant::{Entry, Event, Plant};
 use irig_port::Port;
 use std::alloc::{AllocError, Global};
 
@@ -52,22 +53,28 @@ pub trait Listener: Drop {
         ensures { (line : List ℕ) → (texts asked).first line
             ≡ if result then line ++ codes "\n" else [] };
 
-    /// Adds what is said of an event that the plant has just taken.
+    /// Adds what is said of an event that the plant has just taken, and that gave these entries: one, if
+    /// it was a tick, and else none.
     fn push_event<P: Port>(
         &mut self,
         asked: Self::Asked,
         plant: &Plant<P>,
         names: &IndexSet<String>,
         event: &Event,
+        entries: &[Entry],
         text: &mut String,
     ) -> Result<(), AllocError>
-        requires { length names.now.keys ≤ 16 }
+        requires names { length names.now.keys ≤ 16 }
+        requires sound { All IsSound entries.now }
+        requires told { All IsToldSoundly entries.now }
         ensures said { OnOk result ((x : Scene) → stands_for asked self.old x
             → HasTaken plant.now (texts_of names.now.keys) event.now x
+            → Gave event.now x entries.now
             → string_bytes text.new
             ≡ string_bytes text.old ++ (texts asked).event x.plan event.now x.events) }
         ensures stands { OnOk result ((x : Scene) → stands_for asked self.old x
             → HasTaken plant.now (texts_of names.now.keys) event.now x
+            → Gave event.now x entries.now
             → stands_for asked self.new (scene x.plan (event.now ∷ x.events))) };
 
     /// Adds what comes last: what is open, if a line is refused, and else what ends the text.

@@ -13,7 +13,7 @@ use crate::refused_line::RefusedLine;
 use crate::run::run_to;
 use indexmap::IndexSet;
 use irig_device::Watched;
-use irig_plant::{Event, Plant};
+use irig_plant::{Entry, Event, Plant};
 use irig_port::{FlowPort, Port};
 use report_log::{ReportText, Shown, push_audit, push_entries, push_ticks};
 use std::alloc::{AllocError, Global};
@@ -64,15 +64,16 @@ impl Listener for Log {
     fn push_event<P: Port>(
         &mut self,
         shown: Shown,
-        plant: &Plant<P>,
+        _plant: &Plant<P>,
         names: &IndexSet<String>,
         _event: &Event,
+        entries: &[Entry],
         text: &mut String,
     ) -> Result<(), AllocError> {
         if shown.ports {
-            push_ticks(text, &mut self.last, names, plant.log(), shown)
+            push_ticks(text, &mut self.last, names, entries, shown)
         } else {
-            push_entries(text, &mut self.last, names, plant.log(), shown)
+            push_entries(text, &mut self.last, names, entries, shown)
         }
     }
 

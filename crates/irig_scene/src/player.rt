@@ -48,7 +48,7 @@ impl<L: Listener, P: Port> Stage<L, P> {
         let names = self.lines.names();
         match self
             .listener
-            .push_event(asked, plant, names, event, &mut self.text)
+            .push_event(asked, plant, names, event, plant.log(), &mut self.text)
         {
             Ok(()) => Ok(()),
             Err(_) => Err(Stop::Failed(Failure::Memory)),

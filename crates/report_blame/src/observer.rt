@@ -8,7 +8,7 @@ ghost use Rattle.report_blame.specs.Soundness.{IsSoundTick};
 use crate::book::Book;
 use crate::tick::Tick;
 use indexmap::IndexSet;
-use irig_plant::{Event, Plant};
+use irig_plant::{Entry, Event, Plant};
 use irig_port::Port;
 use irig_scene::Listener;
 use report_log::push_audit;
@@ -68,6 +68,7 @@ impl<'a> Listener for Observer<'a> {
         plant: &Plant<P>,
         names: &IndexSet<String>,
         _event: &Event,
+        _entries: &[Entry],
         text: &mut String,
     ) -> Result<(), AllocError> {
         let Some(tick) = last_tick(plant) else {

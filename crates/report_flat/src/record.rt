@@ -9,7 +9,7 @@ ghost use Rattle.report_flat.specs.Recording.{pulses_at};
 
 use crate::line_text::{push_pulses, push_restart, push_tick};
 use indexmap::IndexSet;
-use irig_plant::{Event, Plant};
+use irig_plant::{Entry, Event, Plant};
 use irig_port::Port;
 use irig_scene::Listener;
 use std::alloc::{AllocError, Global};
@@ -57,6 +57,7 @@ impl Listener for Recorder {
         plant: &Plant<P>,
         names: &IndexSet<String>,
         event: &Event,
+        _entries: &[Entry],
         text: &mut String,
     ) -> Result<(), AllocError> {
         push_heard(text, names, plant, event)

@@ -6,8 +6,8 @@ use Rattle.irig_scene.proofs.player.Stage.play.Goals as goal
 
 pub returns-in-Ok : goal.returns-in-Ok
 returns-in-Ok g c =
-    step_takes {g = g.P.Port} (g.L.Listener.stands_for c.args.asked) (g.L.Listener.texts c.args.asked) c.args.self.now c.step.new.self c.plant-plant.result.now (texts_of c.names-names.result.now.keys) c.push_event.new.self c.push_event.new.text c.args.event.now
-    c.plant-plant.ensures (ap (λ n. texts_of n.keys) c.names-names.ensures.names) c.in_ok-step.ensures c.in-Ok.ensures.said c.in-Ok.ensures.stands
+    step_takes {g = g.P.Port} (g.L.Listener.stands_for c.args.asked) (g.L.Listener.texts c.args.asked) c.args.self.now c.step.new.self c.plant-plant.result.now (texts_of c.names-names.result.now.keys) c.push_event.new.self c.push_event.new.text c.args.event.now c.log.result.now
+    c.plant-plant.ensures (ap (λ n. texts_of n.keys) c.names-names.ensures.names) c.in_ok-step.ensures c.log.ensures.entries c.in-Ok.ensures.said c.in-Ok.ensures.stands
 
 pub returns-in_err-step : goal.returns-in_err-step
 returns-in_err-step g c =
