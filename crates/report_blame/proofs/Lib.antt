@@ -1,13 +1,4 @@
-pub mod TickLaws
-pub mod SoundLaws
-pub mod CountLaws
-pub mod GrowLaws
 pub mod CarrierLaws
-pub mod BookLaws
 pub mod ObserverLaws
 pub mod RunLaws
-pub mod KindLaws
-pub mod SilenceLaws
-pub mod TruthLaws
-pub mod LongestLaws
 pub mod StandardFacts

@@ -1,21 +1,11 @@
 -- Known values of the definitions, worked by hand.
-use Rattle.std.proofs.Common.{◌≡◌, ℕ, true, List, ◌∷◌, [], Some, None, refl}
+use Rattle.std.proofs.Common.{◌≡◌, ℕ, List, [], refl}
 use Rattle.std.specs.Prelude.{codes}
 use Rattle.std.specs.Fmt.{digits}
-use Rattle.irig_port.specs.declared.told.Told.{Told}
-use Rattle.irig_port.specs.declared.told.Told.TheVariants as tells
-use Rattle.irig_reader.specs.declared.report.Cause.TheVariants.{Voted}
-use Rattle.irig_reader.specs.declared.report.Lock.TheVariants.{Locked}
 use Rattle.irig_time.specs.declared.second.UtcSecond.{UtcSecond}
-use Rattle.irig_vote.specs.declared.redundancy.Redundancy.TheVariants.{Three}
-use Rattle.report_blame.specs.declared.kind.Kind.TheVariants.{Silent, Poor}
-use Rattle.report_blame.specs.declared.stretch.Stretch.{Stretch}
-use Rattle.report_blame.specs.declared.tick.Tick.{Tick}
-use Rattle.report_blame.specs.Accounts.{count_of}
-use Rattle.report_blame.specs.Stretches.{begun, ended_by, stretch_of, silence_of}
 use Rattle.report_log.specs.Offsets.{offset_from}
-use Rattle.report_blame.specs.Text.{seconds_text, port_text}
 use Rattle.report_log.specs.Whens.{edges_text, unit_text, span_text, offset_text}
+use Rattle.report_blame.specs.Text.{seconds_text, port_text}
 
 pub known_edges : edges_text 3 8 ≡ codes "edges 3 to 8: "
 unfolding edges_text digits
@@ -55,43 +45,6 @@ named = refl
 pub numbered_port : port_text [] 1 ≡ codes "port 1"
 unfolding digits
 numbered_port = refl
-
--- ---- ticks at which port 1 tells this, and a second is announced that has no true one
-
-abbrev noon : UtcSecond
-noon = record { day = 6209; sod = 43200 }
-
-abbrev at : ℕ → Told → Tick
-at edge told = record {
-  entry = record {
-    reader = 0;
-    edge = edge;
-    report = record { announce = Some noon; lock = Locked; cause = Voted };
-    redundancy = Three;
-    told = record { a = tells.Silence; b = told; c = tells.Silence; d = tells.Silence; e = tells.Silence };
-    truth = None;
-  };
-}
-
-abbrev poor_twice : Stretch
-poor_twice = record { kind = Poor; first = at 3 (tells.Poor 12); last = at 4 (tells.Poor 11); steady = true; announced = 2; untrue = 2 }
-
--- a stretch goes on in its kind, whatever its words
-pub known_stretch : stretch_of 1 (at 4 (tells.Poor 11) ∷ at 3 (tells.Poor 12) ∷ at 2 tells.Silence ∷ []) ≡ Some poor_twice
-known_stretch = refl
-
--- another kind ends it
-pub known_end : ended_by (Some poor_twice) Silent ≡ Some poor_twice
-known_end = refl
-
-pub known_next : stretch_of 1 (at 5 tells.Silence ∷ at 4 (tells.Poor 11) ∷ at 3 (tells.Poor 12) ∷ []) ≡ Some (begun Silent (at 5 tells.Silence))
-known_next = refl
-
-pub known_count : count_of Poor 1 (at 4 (tells.Poor 11) ∷ at 3 (tells.Poor 12) ∷ at 2 tells.Silence ∷ []) ≡ 2
-known_count = refl
-
-pub no_silence : silence_of (at 3 tells.Silence ∷ []) ≡ None
-no_silence = refl
 
 -- ---- offsets
 

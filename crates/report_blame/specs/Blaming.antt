@@ -1,8 +1,6 @@
--- A book of readers' ticks: what stands after an event, and what a run writes.
-use Rattle.std.specs.Prelude.{◌≡◌, ℕ, List, length, drop, Option, None, Result, Ok, Err}
+-- What a run writes.
+use Rattle.std.specs.Prelude.{◌≡◌, ℕ, List, None, Result, Ok, Err}
 use Rattle.std.specs.Io.KnownBytes.{Appends}
-use Rattle.irig_plant.specs.Schedule.{log_of}
-use Rattle.irig_plant.specs.History.{PlantHistory}
 use Rattle.irig_device.specs.Lines.{Bytes}
 use Rattle.irig_device.specs.Watched.{AppendsPart}
 use Rattle.irig_scene.specs.declared.fault.SceneFault.{SceneFault}
@@ -10,22 +8,8 @@ use Rattle.irig_scene.specs.declared.fault.SceneFault.TheVariants as fault
 use Rattle.irig_scene.specs.declared.outcome.Outcome.{Outcome}
 use Rattle.irig_scene.specs.ListenerRuns.{RunFor}
 use Rattle.irig_scene.specs.Run.{IsRefused, AreBytesOf}
-use Rattle.irig_scene.specs.Scene.{Scene, meaning_of}
-use Rattle.report_blame.specs.declared.observer.Observer.{Observer}
-use Rattle.report_blame.specs.declared.tick.Tick.{Tick}
-use Rattle.report_blame.specs.Books.{IsBookOf, first_tick}
+use Rattle.irig_scene.specs.Scene.{meaning_of}
 use Rattle.report_blame.specs.BlameText.{blame_text, blame_texts}
-
--- the first tick that a plant's log still has
-abbrev pub LastTick : Option Tick → PlantHistory → Type 0
-LastTick tick h = tick ≡ first_tick (drop h.shown (log_of h.setup h.events))
-
--- an observer stands as a scene leaves it: its book has the ticks of the scene's readers
-pub record IsObserverAt (o : Observer) (x : Scene) : Type 0 where
-  pub book : IsBookOf o.book x.plan.setup x.events
-  pub ports : o.book.ports ≡ length x.plan.setup.generators
-
--- ---- all lines
 
 -- all of the text was written, or a prefix of it
 abbrev pub BlameRun : List ℕ → Result Outcome SceneFault → List ℕ → Bytes → Bytes → Type 0

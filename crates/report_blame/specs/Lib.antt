@@ -1,10 +1,3 @@
-pub mod Kinds
-pub mod Ticks
-pub mod Stretches
-pub mod Soundness
-pub mod Accounts
 pub mod Text
-pub mod Books
 pub mod BlameText
 pub mod Blaming
-pub mod LongestRuns

@@ -1,34 +1,25 @@
--- The text of who lied and what it cost: stretches, silences and totals.
+-- The text of who lied and what it cost: a line of each finding, and totals.
 -- Source: docs/OUTPUT.md.
-use Rattle.std.specs.Prelude.{ℕ, zero, suc, ◌-◌, ◌/◌, ◌%◌, Bool, true, not, ◌&&◌, ◌==◌, if◌then◌else◌, List, [], length, slice_get, unwrap_or, ◌++◌, codes, Option, Some, None}
+use Rattle.std.specs.Prelude.{ℕ, zero, suc, ◌-◌, Bool, true, not, ◌&&◌, ◌==◌, if◌then◌else◌, List, [], length, slice_get, unwrap_or, ◌++◌, codes, Option, Some, None}
 use Rattle.std.specs.Fmt.{decimal}
-use Rattle.std.specs.List.{slice_split}
+use Rattle.std.specs.List.{flat_map, slice_split}
 use Rattle.irig_reader.specs.declared.report.Cause.{Cause}
 use Rattle.irig_reader.specs.declared.report.Cause.TheVariants as cause
-use Rattle.irig_time.specs.declared.second.UtcSecond.{UtcSecond}
-use Rattle.irig_time.specs.TextValues.{second_text}
-use Rattle.report_log.specs.Text.{cause_text, port_word}
-use Rattle.report_log.specs.Whens.{when_text, edges_text, offsets_text, span_text}
-use Rattle.report_blame.specs.declared.account.Account.{Account}
-use Rattle.report_blame.specs.declared.account.PortAccount.{PortAccount}
-use Rattle.report_blame.specs.declared.kind.Kind.{Kind}
-use Rattle.report_blame.specs.declared.kind.Kind.TheVariants.{Agreed, Silent, Faulty, Poor, AnotherSecond, AnotherMark}
-use Rattle.report_blame.specs.declared.misled.Misled.{Misled}
-use Rattle.report_log.specs.declared.offset.Offset.{Offset}
-use Rattle.report_blame.specs.declared.stretch.Silence.{Silence}
-use Rattle.report_blame.specs.declared.stretch.Stretch.{Stretch}
-use Rattle.report_blame.specs.declared.tick.Tick.{Tick}
-use Rattle.report_blame.specs.Kinds.{same_kind, is_lie}
-use Rattle.report_blame.specs.Ticks.{told_by, kind_at, frame_at, second_at, offset_at, offset_announced, is_carrier, votes_truly}
-use Rattle.report_blame.specs.Stretches.{ended_by, ended_silence, ended_misled}
-use Rattle.report_blame.specs.Accounts.{port_of}
-
--- ---- words
-
--- texts of 0 to n - 1
-abbrev pub texts_below : (ℕ → List ℕ) → ℕ → List ℕ
-texts_below text zero = []
-texts_below text (suc n) = texts_below text n ++ text n
+use Rattle.report_log.specs.Text.{cause_text, name_at, port_word}
+use Rattle.report_log.specs.Whens.{when_text, offsets_text}
+use Rattle.report_found.specs.declared.account.Account.{Account}
+use Rattle.report_found.specs.declared.account.PortAccount.{PortAccount}
+use Rattle.report_found.specs.declared.finding.Finding.{Finding}
+use Rattle.report_found.specs.declared.finding.Basis.{Basis}
+use Rattle.report_found.specs.declared.finding.PortWrong.{PortWrong}
+use Rattle.report_found.specs.declared.finding.Untrue.{Untrue}
+use Rattle.report_found.specs.declared.finding.Wrong.{Wrong}
+use Rattle.report_found.specs.declared.finding.Wrong.TheVariants as wrong
+use Rattle.report_found.specs.declared.kind.Kind.{Kind}
+use Rattle.report_found.specs.declared.kind.Kind.TheVariants.{Agreed, Silent, Faulty, Poor, AnotherSecond, AnotherMark}
+use Rattle.report_found.specs.Accounts.{port_of}
+use Rattle.report_found.specs.Findings.{lists_below, is_carrier_in}
+use Rattle.report_found.specs.Kinds.{same_kind, is_lie}
 
 -- ---- words of a scenario, or of a recording of these lines: their names, after one another with a
 -- comma between them, and none of a scenario
@@ -69,16 +60,16 @@ kind_text AnotherSecond = codes "told another second"
 kind_text AnotherMark = codes "told another mark"
 
 -- how far what a port claimed was from the true second, if it claimed another one
-abbrev pub distance_text : ℕ → Stretch → List ℕ
-distance_text port s =
-    if same_kind s.kind AnotherSecond
-    then offsets_text s.steady (offset_at port s.first) (offset_at port s.last) else []
+abbrev pub distance_text : PortWrong → List ℕ
+distance_text w =
+    if same_kind w.kind AnotherSecond
+    then offsets_text w.offsets.steady w.offsets.first w.offsets.last else []
 
 -- the first of the words, as in the log's port line, unless nothing came
-abbrev pub first_text : ℕ → Stretch → List ℕ
-first_text port s =
-    if same_kind s.kind Silent then []
-    else codes ", first " ++ port_word s.first.entry.truth (told_by port s.first)
+abbrev pub first_text : PortWrong → List ℕ
+first_text w =
+    if same_kind w.kind Silent then []
+    else codes ", first " ++ port_word w.truth w.told
 
 -- how many seconds were announced, and how many of them were untrue
 unfoldable pub seconds_text : List ℕ → ℕ → ℕ → List ℕ
@@ -103,79 +94,78 @@ meaning_text cause.LeapGuard = codes "a month ended, and nothing told if a leap 
 meaning_text cause.Jump = codes "the vote was for another second than the one that followed"
 meaning_text cause.RangeEnd = codes "the next second would have been after 2099-12-30"
 
--- ---- lines
+-- ---- what a port told
 
 -- what the reader with this name announced meanwhile; untrue seconds are only counted beside a lie
-unfoldable pub price_text : List ℕ → List ℕ → Stretch → List ℕ
-price_text lines name s =
+unfoldable pub price_text : List ℕ → List ℕ → PortWrong → List ℕ
+price_text lines name w =
     codes "; " ++ (name ++ (codes " announced "
-    ++ seconds_text lines s.announced (if is_lie s.kind then s.untrue else 0)))
+    ++ seconds_text lines w.announced (if is_lie w.kind then w.untrue else 0)))
 
--- a stretch of a port of a reader with this name, by the frames that should have come
-unfoldable pub stretch_text : List ℕ → List ℕ → ℕ → Stretch → List ℕ
-stretch_text lines name port s =
-    when_text s.first.entry.edge s.last.entry.edge (frame_at s.first) (frame_at s.last)
-    ++ (port_text lines port ++ (codes " of " ++ (name ++ (codes " " ++ (kind_text s.kind
-    ++ (distance_text port s ++ (first_text port s ++ price_text lines name s)))))))
+-- what a port of a reader with this name told
+unfoldable pub port_wrong_text : List ℕ → List ℕ → PortWrong → List ℕ
+port_wrong_text lines name w =
+    port_text lines w.port ++ (codes " of " ++ (name ++ (codes " " ++ (kind_text w.kind
+    ++ (distance_text w ++ (first_text w ++ price_text lines name w))))))
 
--- if there is one
-abbrev pub stretch_line : List ℕ → List ℕ → ℕ → Option Stretch → List ℕ
-stretch_line lines name port None = []
-stretch_line lines name port (Some s) = stretch_text lines name port s
+-- ---- what a reader announced
 
--- a silence of the reader, by the seconds that it did not announce
-unfoldable pub silence_text : List ℕ → Silence → List ℕ
-silence_text name s =
-    when_text s.first.entry.edge s.last.entry.edge (second_at s.first) (second_at s.last)
-    ++ (name ++ (codes " announced nothing: "
-    ++ (cause_text s.cause ++ (codes ", " ++ (meaning_text s.cause ++ codes "\n")))))
+-- nothing, for this cause
+unfoldable pub silence_text : List ℕ → Cause → List ℕ
+silence_text name cause =
+    name ++ (codes " announced nothing: "
+    ++ (cause_text cause ++ (codes ", " ++ (meaning_text cause ++ codes "\n"))))
 
--- if there is one
-abbrev pub silence_line : List ℕ → Option Silence → List ℕ
-silence_line name None = []
-silence_line name (Some s) = silence_text name s
-
--- ---- untrue seconds
-
--- whether no port below this one claimed what most did
-abbrev pub none_below : Tick → ℕ → Bool
-none_below t zero = true
-none_below t (suc n) = none_below t n && not (is_carrier t n)
+-- whether no port below this one told what was voted
+abbrev pub none_below : Basis → ℕ → Bool
+none_below g zero = true
+none_below g (suc n) = none_below g n && not (is_carrier_in g n)
 
 -- a port, after a comma unless it is the first
 abbrev pub numbered : List ℕ → Bool → ℕ → List ℕ
 numbered lines is_first port =
     if is_first then port_text lines port else codes ", " ++ port_text lines port
 
--- of a port that claimed it
-abbrev pub carrier_text : List ℕ → Tick → ℕ → List ℕ
-carrier_text lines t port =
-    if is_carrier t port then numbered lines (none_below t port) port else []
+-- of a port that told it
+abbrev pub carrier_text : List ℕ → Basis → ℕ → List ℕ
+carrier_text lines g port =
+    if is_carrier_in g port then numbered lines (none_below g port) port else []
 
--- on what untrue seconds stand: a vote that was no true one, else the reader's table
-unfoldable pub ground_text : List ℕ → ℕ → Tick → List ℕ
-ground_text lines ports vote =
-    if votes_truly vote then codes ", held by its table\n"
-    else codes ", as " ++ (texts_below (carrier_text lines vote) ports
-    ++ (codes " told at edge " ++ (decimal vote.entry.edge ++ codes "\n")))
+-- what untrue seconds rest on: a vote that was no true one, else the reader's table
+unfoldable pub basis_text : List ℕ → Basis → List ℕ
+basis_text lines g =
+    if g.is_true then codes ", held by its table\n"
+    else codes ", as " ++ (lists_below (carrier_text lines g) 5
+    ++ (codes " told at edge " ++ (decimal g.edge ++ codes "\n")))
 
--- the rest of the line, with the vote on which they stand if there was one
-abbrev pub ground_line : List ℕ → ℕ → Option Tick → List ℕ
-ground_line lines ports None = codes "\n"
-ground_line lines ports (Some vote) = ground_text lines ports vote
+-- the rest of the line, with the vote if there was one
+abbrev pub basis_line : List ℕ → Option Basis → List ℕ
+basis_line lines None = codes "\n"
+basis_line lines (Some g) = basis_text lines g
 
 -- untrue seconds of the reader
-unfoldable pub misled_text : List ℕ → List ℕ → ℕ → Misled → List ℕ
-misled_text lines name ports m =
-    when_text m.first.entry.edge m.last.entry.edge (second_at m.first) (second_at m.last)
-    ++ (name ++ (untrue_seconds lines
-    ++ (offsets_text m.steady (offset_announced m.first) (offset_announced m.last)
-    ++ ground_line lines ports m.vote)))
+unfoldable pub untrue_text : List ℕ → List ℕ → Untrue → List ℕ
+untrue_text lines name u =
+    name ++ (untrue_seconds lines
+    ++ (offsets_text u.offsets.steady u.offsets.first u.offsets.last ++ basis_line lines u.basis))
 
--- if there are any
-abbrev pub misled_line : List ℕ → List ℕ → ℕ → Option Misled → List ℕ
-misled_line lines name ports None = []
-misled_line lines name ports (Some m) = misled_text lines name ports m
+-- ---- lines
+
+-- what was wrong, of a reader with this name
+abbrev pub wrong_text : List ℕ → List ℕ → Wrong → List ℕ
+wrong_text lines name (wrong.Port w) = port_wrong_text lines name w
+wrong_text lines name (wrong.Silence cause) = silence_text name cause
+wrong_text lines name (wrong.Untrue u) = untrue_text lines name u
+
+-- when and what, of readers with these names
+abbrev pub finding_text : List ℕ → List (List ℕ) → Finding → List ℕ
+finding_text lines names f =
+    when_text f.first f.last f.first_second f.last_second
+    ++ wrong_text lines (name_at names f.reader) f.wrong
+
+-- one line after another
+abbrev pub findings_text : List ℕ → List (List ℕ) → List Finding → List ℕ
+findings_text lines names found = flat_map (finding_text lines names) found
 
 -- ---- totals
 
@@ -196,24 +186,8 @@ port_totals_line lines name port x =
     ++ (decimal x.another_second ++ (codes " another second, "
     ++ (decimal x.another_mark ++ codes " another mark\n"))))))))))))))
 
--- ---- lines of a reader
-
--- all that a tick of a reader with so many ports ends
-abbrev pub ended_lines : List ℕ → List ℕ → ℕ → Account → Tick → List ℕ
-ended_lines lines name ports x t =
-    texts_below
-    (λ port. stretch_line lines name port (ended_by (port_of port x).stretch (kind_at port t))) ports
-    ++ (silence_line name (ended_silence x.silence t)
-    ++ misled_line lines name ports (ended_misled x.misled t))
-
--- all that is open
-abbrev pub open_lines : List ℕ → List ℕ → ℕ → Account → List ℕ
-open_lines lines name ports x =
-    texts_below (λ port. stretch_line lines name port (port_of port x).stretch) ports
-    ++ (silence_line name x.silence ++ misled_line lines name ports x.misled)
-
 -- the totals of the reader, and of each port
 abbrev pub total_lines : List ℕ → List ℕ → ℕ → Account → List ℕ
 total_lines lines name ports x =
     totals_line lines name x
-    ++ texts_below (λ port. port_totals_line lines name port (port_of port x)) ports
+    ++ lists_below (λ port. port_totals_line lines name port (port_of port x)) ports

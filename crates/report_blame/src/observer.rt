@@ -1,37 +1,35 @@
 //! Who lied, and what it cost, as a listener tells it.
 
-ghost use Rattle.std.specs.Prelude.{◌≡◌, false, IfSome};
-ghost use Rattle.irig_plant.specs.History.{ForHistory};
-ghost use Rattle.report_blame.specs.Blaming.{LastTick};
-ghost use Rattle.report_blame.specs.Soundness.{IsSoundTick};
-
-use crate::book::Book;
-use crate::tick::Tick;
+use crate::text::{push_book_totals, push_findings};
 use indexmap::IndexSet;
 use irig_plant::{Entry, Event, Plant};
 use irig_port::Port;
 use irig_scene::Listener;
+use report_found::{Book, Finding};
 use report_log::push_audit;
 use std::alloc::{AllocError, Global};
 use std::marker::PhantomData;
 
-/// Keeps the accounts of a plant's readers.
+/// Keeps the accounts of a plant's readers, and what the last event ended.
 #[derive(Drop)]
 pub(crate) struct Observer<'a> {
+    alloc: Global,
     book: Book,
+    ended: Vec<Finding>,
     lines: PhantomData<&'a str>,
 }
 
 impl<'a> Listener for Observer<'a> {
+    ghost use Rattle.std.specs.Prelude.{◌≡◌, false};
     ghost use Rattle.report_blame.specs.BlameText.{blame_texts};
-    ghost use Rattle.report_blame.specs.Blaming.{IsObserverAt};
+    ghost use Rattle.report_found.specs.Runs.{IsBookAt};
 
     // The names of recorded lines.
     type Asked = &'a str;
 
     ghost texts = { λ asked. blame_texts asked.now };
 
-    ghost stands_for = { λ asked observer x. IsObserverAt observer x };
+    ghost stands_for = { λ asked observer x. IsBookAt observer.book x };
 
     ghost counts = { false };
 
@@ -53,7 +51,9 @@ impl<'a> Listener for Observer<'a> {
     ) -> Result<Observer<'a>, AllocError> {
         let book = Book::new(alloc, names.len(), ports)?;
         Ok(Observer {
+            alloc,
             book,
+            ended: Vec::new(alloc),
             lines: PhantomData,
         })
     }
@@ -65,17 +65,15 @@ impl<'a> Listener for Observer<'a> {
     fn push_event<P: Port>(
         &mut self,
         asked: &'a str,
-        plant: &Plant<P>,
+        _plant: &Plant<P>,
         names: &IndexSet<String>,
         _event: &Event,
-        _entries: &[Entry],
+        entries: &[Entry],
         text: &mut String,
     ) -> Result<(), AllocError> {
-        let Some(tick) = last_tick(plant) else {
-            return Ok(());
-        };
-        self.book.push_ended(text, asked, names, &tick)?;
-        self.book.add(&tick);
+        self.ended.clear();
+        self.book.take(&mut self.ended, entries)?;
+        push_findings(text, asked, names, &self.ended)?;
         Ok(())
     }
 
@@ -87,22 +85,13 @@ impl<'a> Listener for Observer<'a> {
         refused: bool,
         text: &mut String,
     ) -> Result<(), AllocError> {
-        self.book.push_open(text, asked, names)?;
-        self.book.push_totals(text, asked, names)?;
+        let mut open = Vec::new(self.alloc);
+        self.book.push_open(&mut open)?;
+        push_findings(text, asked, names, &open)?;
+        push_book_totals(text, asked, names, &self.book)?;
         if refused {
             return Ok(());
         }
         push_audit(text, names, plant.audit())
     }
-}
-
-// The first tick of the plant's log, if it has any.
-fn last_tick<P: Port>(plant: &Plant<P>) -> Option<Tick>
-    ensures tick { ForHistory plant.now (LastTick result) }
-    ensures sound { IfSome result IsSoundTick }
-{
-    let [entry, ..] = plant.log() else {
-        return None;
-    };
-    Some(Tick { entry: *entry })
 }

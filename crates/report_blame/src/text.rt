@@ -1,7 +1,11 @@
-//! The text of stretches, silences and totals.
+//! The text of what was found, and of totals.
 
-ghost use Rattle.std.specs.Prelude.{◌≡◌, ◌++◌, string_bytes, OnOk};
-ghost use Rattle.report_blame.specs.Soundness.{IsSoundTick, IsSoundOpen, IsSoundAccount};
+ghost use Rattle.std.specs.Prelude.{◌≡◌, ◌++◌, [], All, slice_index_or, string_bytes, vec_len, OnOk};
+ghost use Rattle.irig_vote.specs.Vote.{IsOfUtc};
+ghost use Rattle.report_log.specs.Text.{name_at, texts_of};
+ghost use Rattle.report_found.specs.Accounts.{account_of};
+ghost use Rattle.report_found.specs.Findings.{lists_below};
+ghost use Rattle.report_found.specs.Soundness.{IsSoundFinding, IsSoundWrong};
 ghost use Rattle.report_blame.specs.Text.{
   meaning_text,
   kind_text,
@@ -9,78 +13,102 @@ ghost use Rattle.report_blame.specs.Text.{
   first_text,
   seconds_text,
   price_text,
-  stretch_text,
-  stretch_line,
+  port_wrong_text,
   silence_text,
-  silence_line,
+  wrong_text,
+  finding_text,
+  findings_text,
   totals_line,
   port_totals_line,
-  ended_lines,
-  open_lines,
   total_lines,
 };
 
-use crate::account::{Account, PortAccount};
-use crate::kind::Kind;
 use crate::line_text::{push_port, untrue_word};
-use crate::misled::ended_misled;
-use crate::misled_text::push_misled;
-use crate::stretch::{Silence, Stretch, ended_by, ended_silence};
-use crate::tick::Tick;
+use crate::untrue_text::push_untrue;
+use indexmap::IndexSet;
 use irig_reader::Cause;
-use report_log::{cause_word, push_offsets, push_when, push_word};
+use report_found::{Account, Book, Finding, Kind, Offsets, PortAccount, PortWrong, Wrong};
+use report_log::{cause_word, name_at, push_offsets, push_when, push_word};
 use std::alloc::AllocError;
 
-/// Pushes the lines of all that a tick of a reader with so many ports ends.
-pub(crate) fn push_ended(
+/// Pushes the lines of what was found, of readers with these names.
+pub(crate) fn push_findings(
     text: &mut String,
     lines: &str,
-    name: &str,
-    ports: u8,
-    account: &Account,
-    tick: &Tick,
+    names: &IndexSet<String>,
+    findings: &[Finding],
 ) -> Result<(), AllocError>
-    requires account { IsSoundAccount account.now }
-    requires tick { IsSoundTick tick.now }
+    requires { All IsSoundFinding findings.now }
     ensures { OnOk result (string_bytes text.new ≡ string_bytes text.old
-        ++ ended_lines lines.now name.now ports account.now tick.now) }
+        ++ findings_text lines.now (texts_of names.now.keys) findings.now) }
 {
-    for port in 0..ports {
-        let ended = ended_by(account.port(port).stretch, tick.kind(port));
-        push_stretch(text, lines, name, port, ended)?;
+    for finding in findings {
+        push_finding(text, lines, names, finding)?;
     }
-    push_silence(text, name, ended_silence(account.silence, tick))?;
-    push_misled(text, lines, name, ports, ended_misled(account.misled, tick))
+    Ok(())
 }
 
-/// Pushes the lines of all that is open.
-pub(crate) fn push_open(
+fn push_finding(
     text: &mut String,
     lines: &str,
-    name: &str,
-    ports: u8,
-    account: &Account,
+    names: &IndexSet<String>,
+    finding: &Finding,
 ) -> Result<(), AllocError>
-    requires { IsSoundAccount account.now }
+    requires { IsSoundFinding finding.now }
     ensures { OnOk result (string_bytes text.new ≡ string_bytes text.old
-        ++ open_lines lines.now name.now ports account.now) }
+        ++ finding_text lines.now (texts_of names.now.keys) finding.now) }
 {
-    for port in 0..ports {
-        push_stretch(text, lines, name, port, account.port(port).stretch)?;
-    }
-    push_silence(text, name, account.silence)?;
-    push_misled(text, lines, name, ports, account.misled)
+    let Finding {
+        reader,
+        first,
+        last,
+        first_second,
+        last_second,
+        wrong,
+    } = finding;
+    push_when(text, (*first, *last), (*first_second, *last_second))?;
+    push_wrong(text, lines, name_at(names, *reader), wrong)
 }
 
-/// Pushes the totals of a reader and of its ports.
-pub(crate) fn push_totals(
+fn push_wrong(text: &mut String, lines: &str, name: &str, wrong: &Wrong) -> Result<(), AllocError>
+    requires { IsSoundWrong wrong.now }
+    ensures { OnOk result (string_bytes text.new
+        ≡ string_bytes text.old ++ wrong_text lines.now name.now wrong.now) }
+{
+    match wrong {
+        Wrong::Port(wrong) => push_port_wrong(text, lines, name, wrong),
+        Wrong::Silence(cause) => push_silence(text, name, *cause),
+        Wrong::Untrue(untrue) => push_untrue(text, lines, name, untrue),
+    }
+}
+
+/// Pushes the totals, reader by reader.
+pub(crate) fn push_book_totals(
+    text: &mut String,
+    lines: &str,
+    names: &IndexSet<String>,
+    book: &Book,
+) -> Result<(), AllocError>
+    ensures { OnOk result (string_bytes text.new ≡ string_bytes text.old ++ lists_below
+        (λ r. total_lines lines.now (name_at (texts_of names.now.keys) r) book.now.ports
+        (slice_index_or book.now.accounts.items r (account_of [])))
+        (vec_len book.now.accounts)) }
+{
+    for reader in 0..book.readers() {
+        let account = book.account(reader);
+        push_totals(text, lines, name_at(names, reader), book.ports(), account)?;
+    }
+    Ok(())
+}
+
+// Pushes the totals of a reader and of its ports.
+fn push_totals(
     text: &mut String,
     lines: &str,
     name: &str,
     ports: u8,
     account: &Account,
 ) -> Result<(), AllocError>
-    requires { IsSoundAccount account.now }
     ensures { OnOk result (string_bytes text.new ≡ string_bytes text.old
         ++ total_lines lines.now name.now ports account.now) }
 {
@@ -144,45 +172,23 @@ fn push_port_totals(
     )
 }
 
-// Pushes the line of a stretch, if there is one.
-fn push_stretch(
+#[tactic(auto, unfolding(crate::specs::Text::port_wrong_text))]
+fn push_port_wrong(
     text: &mut String,
     lines: &str,
     name: &str,
-    port: u8,
-    stretch: Option<Stretch>,
+    wrong: &PortWrong,
 ) -> Result<(), AllocError>
-    requires { IsSoundOpen stretch }
+    requires { IsOfUtc wrong.now.told }
     ensures { OnOk result (string_bytes text.new
-        ≡ string_bytes text.old ++ stretch_line lines.now name.now port stretch) }
+        ≡ string_bytes text.old ++ port_wrong_text lines.now name.now wrong.now) }
 {
-    match stretch {
-        Some(stretch) => push_stretch_line(text, lines, name, port, &stretch),
-        None => Ok(()),
-    }
-}
-
-#[tactic(auto, unfolding(crate::specs::Text::stretch_text))]
-fn push_stretch_line(
-    text: &mut String,
-    lines: &str,
-    name: &str,
-    port: u8,
-    stretch: &Stretch,
-) -> Result<(), AllocError>
-    requires { IsSoundTick stretch.now.first }
-    ensures { OnOk result (string_bytes text.new
-        ≡ string_bytes text.old ++ stretch_text lines.now name.now port stretch.now) }
-{
-    let Stretch { first, last, .. } = stretch;
-    let edges = (first.entry.edge, last.entry.edge);
-    push_when(text, edges, (first.frame(), last.frame()))?;
-    let wrong = kind_text(stretch.kind);
-    push_port(text, lines, port)?;
-    write!(text, " of {name} {wrong}")?;
-    push_distance(text, port, stretch)?;
-    push_first(text, port, stretch)?;
-    push_price(text, lines, name, stretch)
+    let did = kind_text(wrong.kind);
+    push_port(text, lines, wrong.port)?;
+    write!(text, " of {name} {did}")?;
+    push_distance(text, wrong)?;
+    push_first(text, wrong)?;
+    push_price(text, lines, name, wrong)
 }
 
 // What the reader announced meanwhile.
@@ -191,35 +197,30 @@ fn push_price(
     text: &mut String,
     lines: &str,
     name: &str,
-    stretch: &Stretch,
+    wrong: &PortWrong,
 ) -> Result<(), AllocError>
     ensures { OnOk result (string_bytes text.new
-        ≡ string_bytes text.old ++ price_text lines.now name.now stretch.now) }
+        ≡ string_bytes text.old ++ price_text lines.now name.now wrong.now) }
 {
     write!(text, "; {name} announced ")?;
-    let untrue = if stretch.kind.is_lie() {
-        stretch.untrue
-    } else {
-        0
-    };
-    push_seconds(text, lines, stretch.announced, untrue)
+    let untrue = if wrong.kind.is_lie() { wrong.untrue } else { 0 };
+    push_seconds(text, lines, wrong.announced, untrue)
 }
 
 // How far what the port claimed was from the true second, if it claimed another one.
-fn push_distance(text: &mut String, port: u8, stretch: &Stretch) -> Result<(), AllocError>
+fn push_distance(text: &mut String, wrong: &PortWrong) -> Result<(), AllocError>
     ensures { OnOk result (string_bytes text.new
-        ≡ string_bytes text.old ++ distance_text port stretch.now) }
+        ≡ string_bytes text.old ++ distance_text wrong.now) }
 {
-    if !stretch.kind.is(Kind::AnotherSecond) {
+    if !wrong.kind.is(Kind::AnotherSecond) {
         return Ok(());
     }
-    let Stretch {
+    let Offsets {
         first,
         last,
         steady,
-        ..
-    } = *stretch;
-    push_offsets(text, steady, first.offset(port), last.offset(port))
+    } = wrong.offsets;
+    push_offsets(text, steady, first, last)
 }
 
 // What a port did wrong.
@@ -237,17 +238,16 @@ fn kind_text(kind: Kind) -> &'static str
 }
 
 // The first of the words, unless nothing came.
-fn push_first(text: &mut String, port: u8, stretch: &Stretch) -> Result<(), AllocError>
-    requires { IsSoundTick stretch.now.first }
+fn push_first(text: &mut String, wrong: &PortWrong) -> Result<(), AllocError>
+    requires { IsOfUtc wrong.now.told }
     ensures { OnOk result (string_bytes text.new
-        ≡ string_bytes text.old ++ first_text port stretch.now) }
+        ≡ string_bytes text.old ++ first_text wrong.now) }
 {
-    if stretch.kind.is(Kind::Silent) {
+    if wrong.kind.is(Kind::Silent) {
         return Ok(());
     }
     text.push_str(", first ")?;
-    let first = stretch.first;
-    push_word(text, first.entry.truth, first.told_by(port))
+    push_word(text, wrong.truth, wrong.told)
 }
 
 // How many seconds were announced, and how many of them were untrue.
@@ -271,28 +271,14 @@ fn push_seconds(
     }
 }
 
-// Pushes the line of a silence, if there is one.
-fn push_silence(text: &mut String, name: &str, silence: Option<Silence>) -> Result<(), AllocError>
-    ensures { OnOk result (string_bytes text.new
-        ≡ string_bytes text.old ++ silence_line name.now silence) }
-{
-    match silence {
-        Some(silence) => push_silence_line(text, name, &silence),
-        None => Ok(()),
-    }
-}
-
 #[tactic(auto, unfolding(crate::specs::Text::silence_text))]
-fn push_silence_line(text: &mut String, name: &str, silence: &Silence) -> Result<(), AllocError>
+fn push_silence(text: &mut String, name: &str, cause: Cause) -> Result<(), AllocError>
     ensures { OnOk result (string_bytes text.new
-        ≡ string_bytes text.old ++ silence_text name.now silence.now) }
+        ≡ string_bytes text.old ++ silence_text name.now cause) }
 {
-    let Silence { first, last, .. } = silence;
-    let edges = (first.entry.edge, last.entry.edge);
-    push_when(text, edges, (first.second(), last.second()))?;
-    let cause = cause_word(silence.cause);
-    let meaning = cause_meaning(silence.cause);
-    write!(text, "{name} announced nothing: {cause}, {meaning}\n")
+    let word = cause_word(cause);
+    let meaning = cause_meaning(cause);
+    write!(text, "{name} announced nothing: {word}, {meaning}\n")
 }
 
 /// What a cause means, in a few plain words.

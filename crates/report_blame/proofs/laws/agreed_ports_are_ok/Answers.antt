@@ -1,5 +1,0 @@
-use Rattle.report_blame.proofs.KindLaws.{agreed_is_ok}
-use Rattle.report_blame.proofs.laws.agreed_ports_are_ok.Goals as goal
-
-pub returns : goal.returns
-returns _ = agreed_is_ok

@@ -1,0 +1,11 @@
+pub mod TickLaws
+pub mod SoundLaws
+pub mod CountLaws
+pub mod GrowLaws
+pub mod BookLaws
+pub mod EventLaws
+pub mod KindLaws
+pub mod SilenceLaws
+pub mod TruthLaws
+pub mod LongestLaws
+pub mod StandardFacts

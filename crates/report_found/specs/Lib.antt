@@ -1,0 +1,10 @@
+pub mod Kinds
+pub mod Ticks
+pub mod Stretches
+pub mod Soundness
+pub mod Accounts
+pub mod Findings
+pub mod Books
+pub mod Scenes
+pub mod Runs
+pub mod LongestRuns

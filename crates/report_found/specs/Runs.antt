@@ -1,0 +1,46 @@
+-- A book of readers' ticks: what stands after an event, and what a run finds.
+use Rattle.std.specs.Prelude.{◌≡◌, ℕ, false, List, [], length, Option, Some, None, Result, Ok, Err}
+use Rattle.irig_scene.specs.declared.fault.SceneFault.{SceneFault}
+use Rattle.irig_scene.specs.declared.fault.SceneFault.TheVariants as fault
+use Rattle.irig_scene.specs.declared.outcome.Outcome.{Outcome}
+use Rattle.irig_scene.specs.declared.run.Run.{Run}
+use Rattle.irig_scene.specs.Lines.{lines}
+use Rattle.irig_scene.specs.ListenerRuns.{RanTo}
+use Rattle.irig_scene.specs.Run.{IsDone, IsRefused}
+use Rattle.irig_scene.specs.Scene.{Scene, meaning_of}
+use Rattle.irig_scene.specs.Texts.{no_texts}
+use Rattle.report_found.specs.declared.book.Book.{Book}
+use Rattle.report_found.specs.declared.finder.Finder.{Finder}
+use Rattle.report_found.specs.declared.finding.Finding.{Finding}
+use Rattle.report_found.specs.Books.{IsBookOf}
+use Rattle.report_found.specs.Scenes.{all_ended, found_of}
+
+-- ---- what stands after an event
+
+-- a book has the ticks of a scene's readers
+pub record IsBookAt (b : Book) (x : Scene) : Type 0 where
+  pub book : IsBookOf b x.plan.setup x.events
+  pub ports : b.ports ≡ length x.plan.setup.generators
+
+-- and all that ended is kept
+pub record IsFinderAt (f : Finder) (x : Scene) : Type 0 where
+  pub book : IsBookAt f.book x
+  pub found : f.findings.items ≡ all_ended x.plan.setup x.events
+
+-- ---- what a run finds
+
+-- a run of the text that keeps all that ended
+pub record HasFound (text : List ℕ) (run : Run Finder) : Type 0 where
+  pub left : Option (List ℕ)
+  pub wrote : List ℕ
+  pub ran : RanTo IsFinderAt false no_texts run.answer run.listener run.starts.items
+      (Some text) left (Some []) (Some wrote)
+
+-- the answer and all that is found in the bytes x; nothing if the run failed
+abbrev pub FoundIn : Result Outcome SceneFault → List Finding → List ℕ → Type 0
+FoundIn (Ok o) found x = IsDone (meaning_of x) (length (lines x)) o × (found ≡ found_of x)
+FoundIn (Err (fault.Refused line refusal)) found x =
+    IsRefused (meaning_of x) line refusal × (found ≡ found_of x)
+FoundIn (Err fault.Read) found x = found ≡ []
+FoundIn (Err fault.Write) found x = found ≡ []
+FoundIn (Err fault.Memory) found x = found ≡ []
