@@ -7,8 +7,8 @@
  * `memcpy`, `memmove` and `memset` of the C library and `__udivti3`, which compilers bring along.
  *
  * Pointers. `text` leads to `count` bytes that no other call writes meanwhile, `log` to `room`
- * bytes, `entries` to `room` entries, `reason` to `reason_room` bytes, `whole`, `verdict` and
- * `refusal` each to one object; no other call reads or writes these meanwhile, and none of them
+ * bytes, `entries` and `stretches` to `room` of these, `reason` to `reason_room` bytes, `whole`,
+ * `verdict` and `refusal` each to one object; no other call reads or writes these meanwhile, and none of them
  * overlap. Of no bytes a pointer may be null; any other null pointer is answered with IRIG_RUN_NULL.
  * What the text says is no duty of the caller: any bytes are a scenario, or are refused.
  *
@@ -32,6 +32,7 @@ extern "C" {
 #define irig_run IRIG_NAME(irig_run, IRIG_LAYOUT)
 #define irig_run_shown IRIG_NAME(irig_run_shown, IRIG_LAYOUT)
 #define irig_run_entries IRIG_NAME(irig_run_entries, IRIG_LAYOUT)
+#define irig_run_stretches IRIG_NAME(irig_run_stretches, IRIG_LAYOUT)
 #define irig_frame_text IRIG_NAME(irig_frame_text, IRIG_LAYOUT)
 #define irig_frame_lines IRIG_NAME(irig_frame_lines, IRIG_LAYOUT)
 
@@ -121,6 +122,61 @@ typedef struct irig_verdict {
 uint8_t irig_run_entries(const uint8_t *text, size_t count, irig_entry *entries, size_t room,
                          size_t *whole, irig_verdict *verdict, uint8_t *reason,
                          size_t reason_room, irig_refusal *refusal);
+
+/* How many seconds one second was after the true one, or before it; zeros if one of them is not
+ * known. */
+typedef struct irig_offset {
+    uint64_t ahead;
+    uint64_t behind;
+} irig_offset;
+IRIG_ASSERT((sizeof(irig_offset) == 16u) && (offsetof(irig_offset, behind) == 8u));
+
+enum {
+    IRIG_STRETCH_SILENT = 1,         /* a port told nothing */
+    IRIG_STRETCH_FAULTY = 2,         /* it told what is no right frame */
+    IRIG_STRETCH_POOR = 3,           /* a frame of poor time quality */
+    IRIG_STRETCH_ANOTHER_SECOND = 4, /* another second than the true one */
+    IRIG_STRETCH_ANOTHER_MARK = 5,   /* the true second with another mark */
+    IRIG_STRETCH_NOTHING = 6,        /* the reader announced nothing, for one cause */
+    IRIG_STRETCH_UNTRUE = 7          /* it announced untrue seconds */
+};
+
+/* A longest run of a reader's edges at which one of its ports told no truth in one way, or at which
+ * the reader announced nothing for one cause, or untrue seconds: what `irig blame` has a line of.
+ * What is of another kind of stretch is 0. */
+typedef struct irig_stretch {
+    uint64_t first_edge;
+    uint64_t last_edge;
+    uint64_t announced;       /* of a port's: how many seconds the reader announced meanwhile */
+    uint64_t untrue;          /* of a port's: how many of those were untrue */
+    uint64_t vote_edge;       /* of IRIG_STRETCH_UNTRUE: the edge of the vote that the seconds rest
+                               * on, or 0 */
+    irig_offset first_offset; /* how far what was told, or announced, was from the true second */
+    irig_offset last_offset;
+    irig_utc first_second;    /* the true second at the first edge, or zeros: of a port's that of the
+                               * frame that ended, of the reader's own that which began */
+    irig_utc last_second;
+    irig_told told;           /* of a port's: what it told at the first edge */
+    uint8_t kind;             /* IRIG_STRETCH_SILENT .. */
+    uint8_t reader;           /* its place in the plant line, 0 to 15 */
+    uint8_t port;             /* of a port's: 0 to 4 */
+    uint8_t cause;            /* of IRIG_STRETCH_NOTHING: IRIG_CAUSE_VOTED .. */
+    uint8_t is_steady;        /* 1 if it was as far from the true second at each edge */
+    uint8_t vote_is_true;     /* 1 if the vote was true: then the seconds are held by the reader's
+                               * leap table */
+    uint8_t carriers[5];      /* 1 of each port that told what was voted */
+} irig_stretch;
+IRIG_ASSERT((sizeof(irig_stretch) == 120u) && (offsetof(irig_stretch, first_offset) == 40u) &&
+            (offsetof(irig_stretch, first_second) == 72u) &&
+            (offsetof(irig_stretch, told) == 88u) && (offsetof(irig_stretch, kind) == 108u) &&
+            (offsetof(irig_stretch, carriers) == 114u));
+
+/* The same run, of which the stretches are written, in the order of the lines of `irig blame`: as many
+ * as `room` holds; those of `stretches` after that stay as they were. `*whole` is how many there are.
+ * If that is more than `room`, call again with so many. All else is as with `irig_run_entries`. */
+uint8_t irig_run_stretches(const uint8_t *text, size_t count, irig_stretch *stretches, size_t room,
+                           size_t *whole, irig_verdict *verdict, uint8_t *reason,
+                           size_t reason_room, irig_refusal *refusal);
 
 /* ---- the texts of frames */
 

@@ -1,6 +1,6 @@
 #!/usr/bin/env python3
-"""Compares the calls of irig_scene.h with the program, `test_scene.py LIBRARY PROGRAM`: logs, reasons and
-entries, whatever room there is for them, and frames. A call writes the front of what the program prints, and what
+"""Compares the calls of irig_scene.h with the program, `test_scene.py LIBRARY PROGRAM`: logs, reasons, entries
+and stretches, whatever room there is for them, and frames. A call writes the front of what the program prints, and what
 lies behind the room stays; null pointers are answered."""
 from __future__ import annotations
 
@@ -19,8 +19,9 @@ sys.path[:0] = [str(ROOT / "tests"), str(ROOT / "python")]
 from case_files import answer, scenarios  # noqa: E402
 import irig  # noqa: E402
 from irig import _library, scenes  # noqa: E402
-from irig._library import Entry, FrameOptions, Refusal, Verdict  # noqa: E402
+from irig._library import Entry, FrameOptions, Offset, Refusal, Stretch, Utc, Verdict  # noqa: E402
 from irig.scenarios import made_edges, plant_in  # noqa: E402
+from irig.words import CAUSES, MARKS  # noqa: E402
 
 LIBRARY, PROGRAM = ctypes.CDLL(sys.argv[1]), sys.argv[2]
 DONE, BAD, NULL, REFUSED = 0, 1, 2, 3
@@ -29,10 +30,16 @@ RULES = ("even", "odd"), ("add", "subtract"), ("check", "ignore")  # by their nu
 TIMES = "2016-12-31T23:59:59Z", "2024-07-01T12:00:00Z"
 
 
-_, *SIGNATURE = _library.CALLS["run_entries"]
-RUN_ENTRIES = getattr(LIBRARY, _library.symbol("run_entries"))
-RUN_ENTRIES.restype, RUN_ENTRIES.argtypes = SIGNATURE[0], SIGNATURE[1:]
-_library.run_entries = RUN_ENTRIES  # which the package calls then
+def typed(name: str) -> ctypes._FuncPointer:
+    """A call of the library with the types of its parameters."""
+    _, answer, *kinds = _library.CALLS[name]
+    call = getattr(LIBRARY, _library.symbol(name))
+    call.restype, call.argtypes = answer, kinds
+    return call
+
+
+RUN_STRETCHES = typed("run_stretches")
+_library.run_entries = typed("run_entries")  # which the package calls then
 
 
 def printed(*words: str, given: bytes = b"") -> tuple[int, bytes, str]:
@@ -130,6 +137,69 @@ class Entries(unittest.TestCase):
             self.assertTrue(room.has(wanted), f"{count} entries of room")
 
 
+KINDS = ("", "silent", "faulty", "poor", "another second", "another mark", "announced nothing",
+         "announced untrue seconds")
+OF_READER = KINDS[6:]
+
+
+def second(held: Utc) -> irig.Second | None:
+    return irig.Second(held.day, held.sod) if held.day else None
+
+
+def ahead(held: Offset) -> int | None:
+    return held.ahead - held.behind or None
+
+
+def line_of(held: Stretch, names: Sequence[str]) -> str:
+    """The line that docs/OUTPUT.md gives such a stretch, by the package."""
+    kind = KINDS[held.kind]
+    own, first, last = kind in OF_READER, ahead(held.first_offset), ahead(held.last_offset)
+    tells_second = kind in ("another second", "announced untrue seconds")
+    assert tells_second or (first, last) == (None, None)
+    word = str(MARKS[held.told.claim.mark]) if kind == "another mark" else scenes._word(held.told, None)
+    carriers = tuple(port for port, carried in enumerate(held.carriers) if carried)
+    return str(irig.Stretch(
+        names[held.reader], None if own else held.port, kind, held.first_edge, held.last_edge, held.announced,
+        held.untrue, word, CAUSES[held.cause] if kind == "announced nothing" else None, second(held.first_second),
+        second(held.last_second), first if held.is_steady else None, first, last, held.vote_edge or None,
+        () if held.vote_is_true else carriers,
+    ))
+
+
+class Stretches(unittest.TestCase):
+    def ran(self, text: bytes, room: int) -> tuple[int, int, list[Stretch], Verdict, Refusal]:
+        stretches, whole, verdict, refusal = (Stretch * room)(), c_size_t(7), Verdict(), Refusal()
+        status = RUN_STRETCHES(text, len(text), stretches, room, whole, verdict, None, 0, refusal)
+        return status, whole.value, stretches[: whole.value], verdict, refusal
+
+    def test_lines(self) -> None:
+        """Of all cases and examples: each line that blame prints before the totals, and no other."""
+        kinds = set()
+        for name, text in scenarios().items():
+            status, told, _ = printed("blame", "-", given=text)
+            answer, whole, stretches, verdict, refusal = self.ran(text, 5000)
+            plant = plant_in(text)
+            names, lines = plant.readers if plant else (), told.decode().split("\n")
+            kinds |= {KINDS[held.kind] for held in stretches}
+            with self.subTest(name):
+                self.assertLess(whole, 5000)
+                self.assertEqual((answer, [line_of(held, names) for held in stretches]), (status, lines[:whole]))
+                self.assertRegex(lines[whole], r": \d+ edges, |^refused: line ")
+                self.assertEqual((refusal.line > 0, verdict.kind > 0), (status == REFUSED, status == DONE))
+        self.assertEqual(kinds, set(KINDS[1:]))
+
+    def test_room(self) -> None:
+        text, size = (ROOT / "examples/two_liars.jsonl").read_bytes(), ctypes.sizeof(Stretch)
+        _, count, stretches, kept, _ = self.ran(text, 100)
+        wanted = b"".join(map(bytes, stretches))
+        for place in (0, 1, count - 1, count, count + 1):
+            room, whole, verdict, refusal = Room(place * size), c_size_t(), Verdict(), Refusal()
+            held = ctypes.cast(room.bytes, ctypes.POINTER(Stretch))
+            answer = RUN_STRETCHES(text, len(text), held, place, whole, verdict, None, 0, refusal)
+            self.assertEqual((answer, whole.value, verdict.kind, verdict.edge), (DONE, count, kept.kind, kept.edge))
+            self.assertTrue(room.has(wanted), f"{place} stretches of room")
+
+
 class Frames(unittest.TestCase):
     def made(self, time: str, *options: int) -> bytes | None:
         room = Room(110)
@@ -189,6 +259,7 @@ class Null(unittest.TestCase):
             ("run", b"x", one, c_bool(), *log),
             ("run_shown", b"x", one, c_bool(), c_bool(), *log, *why),
             ("run_entries", b"x", one, Entry(), one, ctypes.byref(whole), Verdict(), (c_uint8 * 1)(), one, refusal),
+            ("run_stretches", b"x", one, Stretch(), one, ctypes.byref(whole), Verdict(), (c_uint8 * 1)(), one, refusal),
             ("frame_text", b"x", one, ctypes.byref(options), room.bytes),
             ("frame_lines", b"P", one, c_uint8(), c_uint8(), c_uint8(), *log),
         ):

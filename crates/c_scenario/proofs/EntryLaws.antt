@@ -58,7 +58,7 @@ count_in items (Some x) at = count_kept items x at
 
 -- ---- lines
 
-drop_at : {A : Type 0} (l : List A) (j : ℕ) (d : A) → j < length l → drop j l ≡ get_or l j d ∷ drop (j + 1) l
+pub drop_at : {A : Type 0} (l : List A) (j : ℕ) (d : A) → j < length l → drop j l ≡ get_or l j d ∷ drop (j + 1) l
 drop_at l j d there = let next : suc j ≡ j + 1 = omega arith in drop-cons l j d there ∙ ap (λ n. get_or l j d ∷ drop n l) next
 
 -- one more that begins behind all entries counts for none

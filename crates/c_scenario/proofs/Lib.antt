@@ -2,3 +2,4 @@ pub mod RunLaws
 pub mod EntryLaws
 pub mod StandardFacts
 pub mod TrueEntryLaws
+mod StretchLaws

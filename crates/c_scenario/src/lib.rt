@@ -21,6 +21,7 @@ ghost use Rattle.irig_scene.specs.VouchedLines.{VouchesByPlantLine};
 ghost use Rattle.c_scenario.specs.Entries.{entries_of, verdict_by};
 ghost use Rattle.c_scenario.specs.Frames.{are_options, are_rules, options_in, rules_in};
 ghost use Rattle.c_scenario.specs.TrueEntries.{AreTrueBefore};
+ghost use Rattle.c_scenario.specs.Stretches.{stretches_of};
 ghost use Rattle.c_scenario.specs.Runs.{HasWholeLog, IsRefusalOf, IsStatus, shown_of, written_over};
 
 mod entry;
@@ -28,6 +29,7 @@ mod entry_log;
 mod frame;
 mod refusal;
 mod run;
+mod stretch;
 
 use entry::verdict_for_c;
 pub use entry::{IrigEntry, IrigVerdict};
@@ -35,7 +37,10 @@ use entry_log::{hear_text, write_entries};
 pub use frame::IrigFrameOptions;
 use irig_scene::Shown;
 pub use refusal::{IrigRefusal, IrigSpan};
+use report_found::find;
 use std::alloc::Global;
+use stretch::write_stretches;
+pub use stretch::{IrigOffset, IrigStretch};
 use text_frame::{FrameText, ReadingFault, frame_lines, frame_text};
 
 // Of the texts of frames: written; and not, for a text that is none of a second or of a frame, or a
@@ -164,6 +169,46 @@ pub extern "C" fn irig_scene_c_run_entries(
     *whole = write_entries(entries, &run);
     *refusal = run::explain(alloc, &run.answer, &run.refused, reason);
     run::status_of(&run.answer)
+}
+
+/// The same run, of which is written into `stretches` who lied and what it cost, as many as it has
+/// room for: of each line of `irig blame` but the totals and the last one a stretch, in their order.
+/// `whole` is then how many there are, and `verdict` says whether the premises held.
+///
+/// 0 if the run was done, and 3 if a line is refused, as `refusal` and `reason` say. 6 if there was no
+/// memory for the run, and 5 if there was none to say what is refused: nothing is written into
+/// `stretches` then, and `whole` is 0.
+#[unsafe(no_mangle)]
+pub extern "C" fn irig_scene_c_run_stretches(
+    alloc: Global,
+    text: &[u8],
+    stretches: &mut [IrigStretch],
+    whole: &mut usize,
+    verdict: &mut IrigVerdict,
+    reason: &mut [u8],
+    refusal: &mut IrigRefusal,
+) -> u8
+    ensures status { IsStatus result }
+    ensures done { result ≡ 0 → (meaning_of text.now).refused ≡ None }
+    ensures refused { result ≡ 3 → IsSome (meaning_of text.now).refused }
+    ensures refusal { HasWholeLog result
+        → IsRefusalOf (meaning_of text.now).refused refusal.new.line refusal.new.number }
+    // each finding of which blame writes a line, in its order, as far as there is room
+    ensures stretches { HasWholeLog result
+        → stretches.new ≡ written_over stretches.old (stretches_of text.now) }
+    ensures whole { HasWholeLog result → whole.new ≡ length (stretches_of text.now) }
+    ensures unchanged { 4 ≤ result → stretches.new ≡ stretches.old }
+    ensures none { 4 ≤ result → whole.new ≡ 0 }
+    ensures verdict { result ≡ 0 → (at : Scene) → (meaning_of text.now).scene ≡ Some at
+        → verdict.new ≡ verdict_by (audit_in at) }
+    ensures no_verdict { result ≢ 0 → verdict.new.kind ≡ 0 }
+{
+    let found = find(alloc, text);
+    *verdict = verdict_for_c(&found.answer);
+    write_stretches(stretches, &found.findings);
+    *whole = found.findings.len();
+    *refusal = run::explain(alloc, &found.answer, &found.refused, reason);
+    run::status_of(&found.answer)
 }
 
 /// Writes the frame of the UTC second whose text this is, as `irig frame` prints it: ten groups of
