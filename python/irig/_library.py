@@ -8,7 +8,8 @@ import subprocess
 from ctypes import POINTER, Structure, c_char, c_int16, c_uint8, sizeof
 from functools import lru_cache
 from pathlib import Path
-from typing import Any, Dict, List, Tuple
+from struct import Struct
+from typing import Any, Dict, Iterator, List, Tuple
 
 HERE = Path(__file__).resolve().parent
 
@@ -28,9 +29,11 @@ LIBRARIES = {"irig.h": IRIG, "irig_scene.h": SCENE}
 # run of the second may be long: other threads go on meanwhile.
 KINDS = {IRIG: ctypes.PyDLL, SCENE: ctypes.CDLL}
 
+UNSIGNED = {1: "B", 2: "H", 4: "I", 8: "Q"}  # by their bytes, for `struct`
 Symbols, Text, Delays = c_uint8 * 100, c_char * 20, c_int16 * 5
 STRUCTURES: Dict[str, Any] = {}  # by their names in C. Here irig_line_said is LineSaid
 CALLS: Dict[str, Tuple[Any, ...]] = {}  # the library of a call, what it answers, and what it takes
+NUMBERS: Dict[str, int] = {}  # by their names in C. Here IRIG_TOLD_POOR is TOLD_POOR
 
 
 def _type(name: str) -> Any:
@@ -65,15 +68,18 @@ def _passed(declared: str) -> Any:
 
 
 def _take(lines: List[str]) -> None:
-    """Takes up the structures and calls of the list."""
+    """Takes up the structures, numbers and calls of the list."""
     library = ""
     for line in lines:
         structure = re.fullmatch(r"(irig_\w+) \d+: (.*)", line)
+        number = re.fullmatch(r"IRIG_(\w+) = (\d+)", line)
         call = re.fullmatch(r"(.*?) ?irig_(\w+)\((?!void)(.*)\);", line)
         library = LIBRARIES.get(line, library)
         if structure:
             made = STRUCTURES[structure[1]] = _structure(*structure.groups())
             globals()[made.__name__] = made
+        elif number:
+            NUMBERS[number[1]] = int(number[2])
         elif call:
             CALLS[call[2]] = library, *map(_passed, (call[1], *call[3].split(", ")))
 
@@ -90,6 +96,16 @@ def same(one: Any, other: Any) -> bool:
     if isinstance(one, ctypes.Array):
         return len(one) == len(other) and all(map(same, one, other))
     return bool(one == other)
+
+
+def unpacked(structure: Any, memory: Any, *names: str) -> Iterator[Tuple[Any, ...]]:
+    """These fields of structures that lie one after another in memory, in the order in which they lie: much
+    quicker than one by one. Of a field that is no unsigned number it has the bytes."""
+    form, end = "=", 0
+    for field in (getattr(structure, name) for name in names):
+        kind = UNSIGNED.get(field.size, f"{field.size}s")
+        form, end = f"{form}{field.offset - end}x{kind}", field.offset + field.size
+    return Struct(f"{form}{sizeof(structure) - end}x").iter_unpack(memory)
 
 
 def symbol(name: str) -> str:

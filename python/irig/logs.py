@@ -1,15 +1,16 @@
-"""Logs of scenarios: the one parser of them, line by line (`read_lines`) or whole (`read_log`). It needs
-no library. docs/OUTPUT.md says what a log has."""
+"""Logs of scenarios: what their lines say, and the one parser of those that a file or a program gives,
+line by line (`read_lines`) or whole (`read_log`). It needs no library. docs/OUTPUT.md says what a log has."""
 from __future__ import annotations
 
 import re
 from dataclasses import dataclass, field
 from datetime import datetime
 from functools import cached_property, lru_cache
-from typing import TYPE_CHECKING, Any, Dict, Iterable, Iterator, List, Optional, Sequence, Tuple
+from typing import TYPE_CHECKING, Any, Callable, Dict, Iterable, Iterator, List, Optional, Sequence, Tuple
 from typing import Union, cast, overload
 
-from .faults import MEANINGS, Detail
+from . import _library as c
+from .faults import MEANINGS, Detail, detail_of
 from .seconds import Second
 from .words import CAUSES, MARKS, Cause, Lock, Mark, PortKind
 
@@ -26,8 +27,34 @@ class Said:
         return f"<{type(self).__name__}: {str(self).strip()}>"
 
 
+class Lines:
+    """The lines of a log that was run. The library writes them when one is first asked for."""
+
+    def __init__(self, write: Callable[[], str]) -> None:
+        self._write = write
+
+    @cached_property
+    def all(self) -> List[str]:
+        return self._write().splitlines()
+
+
+class InLog(Said):
+    """What a line of a log says; as a text it is that line."""
+
+    _lines: Union[Lines, str] = ""
+    _place = 0
+
+    @property
+    def line(self) -> str:
+        """The line, as the library or a file has it; empty if this is of no log."""
+        return self._lines if isinstance(self._lines, str) else self._lines.all[self._place]
+
+    def __str__(self) -> str:
+        return self.line
+
+
 @dataclass(frozen=True, repr=False)
-class Announced(Said):
+class Announced(InLog):
     """At its tick `edge`, counted from 1, a reader announced the second that then began.
 
     reader: its name
@@ -41,13 +68,12 @@ class Announced(Said):
     lock: Lock
     count: int
     cause: Cause
-
-    def __str__(self) -> str:
-        return f"{self.edge} {self.reader} {self.second} {lock_text(self.lock, self.count)} {self.cause}"
+    _lines: Union[Lines, str] = field(default="", compare=False)
+    _place: int = field(default=0, compare=False)
 
 
 @dataclass(frozen=True, repr=False)
-class Silent(Said):
+class Silent(InLog):
     """At its tick `edge` a reader announced nothing; a log with `all` has these.
 
     reader: its name
@@ -60,9 +86,8 @@ class Silent(Said):
     lock: Lock
     count: int
     cause: Cause
-
-    def __str__(self) -> str:
-        return f"{self.edge} {self.reader} - {lock_text(self.lock, self.count)} {self.cause}"
+    _lines: Union[Lines, str] = field(default="", compare=False)
+    _place: int = field(default=0, compare=False)
 
 
 @dataclass(frozen=True, repr=False)
@@ -95,21 +120,24 @@ class PortWord(Said):
 
 
 @dataclass(frozen=True, repr=False)
-class Ports(Said):
+class Ports(InLog):
     """What each port of a reader told at its tick `edge`, in the words of docs/OUTPUT.md. The
     program writes such lines with --ports. `told` has what the words say."""
 
     edge: int
     reader: str
     words: Tuple[str, ...]
+    _lines: Union[Lines, str] = field(default="", compare=False)
+    _place: int = field(default=0, compare=False)
+    _held: Optional[c.Entry] = field(default=None, compare=False)  # the numbers of a run
 
-    @property
+    @cached_property
     def told(self) -> Tuple[PortWord, ...]:
         """What each port told."""
-        return tuple(map(port_word, self.words))
-
-    def __str__(self) -> str:
-        return f" {self.edge} {self.reader} {' '.join(self.words)}"
+        if self._held is None:
+            return tuple(map(port_word, self.words))
+        truth = self._held.truth if self._held.has_truth else None
+        return tuple(word_of(text, told, truth) for text, told in zip(self.words, self._held.told))
 
 
 Entry = Union[Announced, Silent, Ports]
@@ -164,11 +192,6 @@ class RefusedLine:
 
 Verdict = Union[PremisesKept, PremiseBroken, TableBroken]
 LastLine = Union[Verdict, RefusedLine]
-
-
-def lock_text(lock: Lock, count: int) -> str:
-    """The fourth column of a log."""
-    return f"{lock}:{count}" if count else lock
 
 
 # ---- reading lines
@@ -233,9 +256,9 @@ class Reading:
         word, _, count = found[4].partition(":")
         stood = cast(Lock, word), int(count or 0), cast(Cause, found[5])
         if time == "-":
-            return Silent(edge, reader, *stood)
+            return Silent(edge, reader, *stood, line)
         try:
-            return Announced(edge, reader, Second.read(time), *stood)
+            return Announced(edge, reader, Second.read(time), *stood, line)
         except ValueError:
             raise self._no_line(line) from None
 
@@ -253,7 +276,7 @@ class Reading:
             raise ValueError(f"line {self.number} has {what}")
         self._edges[reader] = edge
         self._told[reader] = edge, count
-        return Ports(edge, reader, words)
+        return Ports(edge, reader, words, line)
 
     def _follow(self, reader: str, edge: int, before: int) -> None:
         if edge <= before:
@@ -283,6 +306,22 @@ def port_word(text: str) -> PortWord:
     if fault:
         return _fault_word(text, int(fault[1]), fault[2], fault[3])
     return PortWord(text, "another second", second=Second.read(text))
+
+
+def word_of(text: str, told: c.Told, true: Optional[c.Claim]) -> PortWord:
+    """What a port told by the numbers of a run, beside the true claim; the text is the log's."""
+    if told.kind == c.NUMBERS["TOLD_SILENCE"]:
+        return PortWord(text, "silent")
+    if told.kind == c.NUMBERS["TOLD_FAULT"]:
+        number, place = detail_of(told.fault)
+        return PortWord(text, "faulty", number=number, name=MEANINGS[number].name, place=place)
+    if told.kind == c.NUMBERS["TOLD_POOR"]:
+        return PortWord(text, "poor", quality=told.quality)
+    if not true or not c.same(told.claim.at, true.at):
+        return PortWord(text, "another second", second=Second(told.claim.at.day, told.claim.at.sod))
+    if told.claim.mark != true.mark:
+        return PortWord(text, "another mark", mark=MARKS[told.claim.mark])
+    return PortWord(text, "agreed")
 
 
 def _has_meaning(number: int, name: str) -> bool:
@@ -365,6 +404,7 @@ class Log(Sequence[Entry]):
     entries: Tuple[Entry, ...]
     verdict: Optional[Verdict]
     scenario: Optional[bytes] = field(default=None, compare=False)
+    _lines: Optional[Lines] = field(default=None, compare=False)
 
     @property
     def kept(self) -> bool:
@@ -374,7 +414,8 @@ class Log(Sequence[Entry]):
     @cached_property
     def text(self) -> str:
         """Its lines, as the program prints them; of a run that was refused all but the last."""
-        lines = (*self.entries, self.verdict) if self.verdict else self.entries
+        said = (*self.entries, self.verdict) if self.verdict else self.entries
+        lines = self._lines.all[: len(said)] if self._lines else map(str, said)
         return "".join(f"{line}\n" for line in lines)
 
     @property

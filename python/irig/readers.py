@@ -10,9 +10,8 @@ from . import _library as c
 from .faults import MEANINGS, VALUE, Detail, Fault, check, detail_of, whole, within, words_of
 from .frames import MOST, Frame, claim_held, widths
 from .lines import Held
-from .logs import lock_text
 from .seconds import Claim, Day, Leap, Second, day_number
-from .words import CAUSES, LOCKS, Cause, Kind, Lock, Parity, Sbs, Sense, number_of
+from .words import CAUSES, LOCKS, Cause, Kind, Lock, Parity, Sbs, Sense, lock_text, number_of
 
 PORTS = (3, 5, 1)  # how many ports, by the number that C has for it
 

@@ -4,23 +4,25 @@ from __future__ import annotations
 import ctypes
 import mmap
 import os
-from itertools import islice
+from functools import partial
 from pathlib import Path
+from sys import intern
 from typing import Iterator, NamedTuple, Optional, Sequence, Union
 
 from . import _library as c
-from .faults import MEANINGS, detail_of, words_of
-from .logs import Announced, Entry, Log, Ports, PremiseBroken, PremisesKept, Refused, Silent
+from .faults import MEANINGS
+from .logs import Announced, Entry, Lines, Log, Ports, PremiseBroken, PremisesKept, Refused, Silent
 from .logs import TableBroken, Verdict
 from .scenarios import Scenario, plant_in
 from .seconds import Second
-from .words import CAUSES, LOCKS, MARKS
+from .words import CAUSES, LOCKS
 
-# Room for entries at first: pages that are not written cost nothing.
+# Room for entries, and for the bytes of a log, at first: pages that are not written cost nothing.
 ROOM = 1 << 18
+LOG_ROOM = 1 << 25
 REASON_ROOM = 1 << 12
 
-DONE, REFUSED = 0, 3
+ENDED = c.NUMBERS["RUN_DONE"], c.NUMBERS["RUN_REFUSED"]
 
 Source = Union[str, bytes, "os.PathLike[str]", Scenario]
 
@@ -38,7 +40,7 @@ class _Ran(NamedTuple):
 
 
 def _run(text: bytes, room: int, reason_room: int) -> _Ran:
-    """One call of the library."""
+    """One call of the library, for the numbers of a log."""
     memory, whole = mmap.mmap(-1, room * ctypes.sizeof(c.Entry)), ctypes.c_size_t()
     entries, verdict = (c.Entry * room).from_buffer(memory), c.Verdict()
     reason, refusal = (ctypes.c_uint8 * reason_room)(), c.Refusal()
@@ -46,6 +48,16 @@ def _run(text: bytes, room: int, reason_room: int) -> _Ran:
         text, len(text), entries, room, whole, verdict, reason, len(reason), refusal
     )
     return _Ran(status, whole.value, entries, verdict, bytes(reason[: refusal.whole]), refusal)
+
+
+def _written(text: bytes, all: bool, ports: bool, room: int) -> str:
+    """The log in the library's words: by one call of it, and another one if there was too little room."""
+    memory, whole = mmap.mmap(-1, room), ctypes.c_size_t()
+    log = (ctypes.c_uint8 * room).from_buffer(memory)
+    status = c.run_shown(text, len(text), all, ports, log, room, whole, None, 0, c.Refusal())
+    if status not in ENDED:
+        raise MemoryError("no memory for the log of a scenario")
+    return memory[: whole.value].decode() if whole.value <= room else _written(text, all, ports, whole.value)
 
 
 def run(source: Source, all: bool = False, ports: bool = False) -> Log:
@@ -62,41 +74,36 @@ def run(source: Source, all: bool = False, ports: bool = False) -> Log:
     text = _text_of(source)
     ran = _run(text, ROOM, REASON_ROOM)
     is_cut = ran.whole > ROOM or ran.refusal.whole > REASON_ROOM
-    if ran.status in (DONE, REFUSED) and is_cut:
+    if ran.status in ENDED and is_cut:
         ran = _run(text, max(ran.whole, ROOM), max(ran.refusal.whole, REASON_ROOM))
-    if ran.status not in (DONE, REFUSED):
+    if ran.status not in ENDED:
         raise MemoryError("no memory for the run of a scenario")
     plant = plant_in(text)
     names = plant.readers if plant else ()
-    log = Log(tuple(_entries(ran, names, all, ports)), _verdict(ran.verdict, names), text)
-    if ran.status == REFUSED:
+    lines = Lines(partial(_written, text, all, ports, LOG_ROOM))
+    log = Log(tuple(_entries(ran, names, lines, all, ports)), _verdict(ran.verdict, names), text, lines)
+    if ran.refusal.line:
         raise _explained(ran, log)
     return log
 
 
-def _entries(ran: _Ran, names: Sequence[str], all: bool, ports: bool) -> Iterator[Entry]:
-    """What a log says."""
-    for held in islice(ran.entries, ran.whole):
-        at = held.edge, names[held.reader]
-        stood = LOCKS[held.lock], held.lock_count, CAUSES[held.cause]
-        if held.announces:
-            yield Announced(*at, Second(held.day, held.sod), *stood)
+def _entries(ran: _Ran, names: Sequence[str], lines: Lines, all: bool, ports: bool) -> Iterator[Entry]:
+    """What the lines of a log say, by the numbers of a run."""
+    memory = memoryview(ran.entries).cast("B")[: ran.whole * ctypes.sizeof(c.Entry)]
+    numbers = c.unpacked(c.Entry, memory, "edge", "lock_count", "day", "sod", "reader", "announces", "lock", "cause")
+    place, held = -1, iter(ran.entries)
+    for edge, turns, day, sod, reader, announces, lock, cause in numbers:
+        name = names[reader]
+        if announces:
+            place += 1
+            yield Announced(edge, name, Second(day, sod), LOCKS[lock], turns, CAUSES[cause], lines, place)
         elif all:
-            yield Silent(*at, *stood)
+            place += 1
+            yield Silent(edge, name, LOCKS[lock], turns, CAUSES[cause], lines, place)
         if ports:
-            truth = held.truth if held.has_truth else None
-            yield Ports(*at, tuple(_word(told, truth) for told in held.told[: held.ports]))
-
-
-def _word(told: c.Told, truth: Optional[c.Claim]) -> str:
-    """What a port told beside a true claim, as a log has it."""
-    if told.kind < 2:
-        return f"fault:{words_of(*detail_of(told.fault)).replace(' ', ':')}" if told.kind else "silence"
-    if told.kind == 2:
-        return f"poor:{told.quality}"
-    if not truth or not c.same(told.claim.at, truth.at):
-        return str(Second(told.claim.at.day, told.claim.at.sod))
-    return "ok" if told.claim.mark == truth.mark else str(MARKS[told.claim.mark])
+            place += 1
+            words = tuple(map(intern, lines.all[place].split()[2:]))
+            yield Ports(edge, name, words, lines, place, next(held))
 
 
 def _verdict(held: c.Verdict, names: Sequence[str]) -> Optional[Verdict]:

@@ -25,6 +25,11 @@ CAUSES: Tuple[Cause, ...] = get_args(Cause)
 LINE_STATES: Tuple[LineState, ...] = get_args(LineState)
 
 
+def lock_text(lock: Lock, count: int) -> str:
+    """A lock with how long it has been so, if it counts that."""
+    return f"{lock}:{count}" if count else lock
+
+
 def listed(words: Sequence[str]) -> str:
     """The words as a message lists them: `a, b or c`."""
     return " or ".join(filter(None, (", ".join(words[:-1]), words[-1])))

@@ -8,7 +8,6 @@ from typing import Iterator, List
 
 from irig import Announced, PortWord, Ports, PremiseBroken, PremisesKept, Second, Silent, TableBroken, read_log
 from irig.logs import RefusedLine, Tick, read_lines, ticks_of
-from program import all_cases, printed
 
 # Two readers, and a plant that starts at 23:59:50: relay's second at edge 3 is one too late.
 SCENARIO = (
@@ -51,6 +50,7 @@ class Lines(unittest.TestCase):
             Ports(2, "relay", ("ok", "2016-12-31T23:59:52Z", "poor:11")),
         ])
         self.assertEqual("".join(f"{line}\n" for line in read_lines(LINES.splitlines())), LINES)
+        self.assertEqual(str(Silent(1, "meter", "unlocked", 0, "no-vote")), "", "it is of no log")
 
     def test_words_of_ports(self) -> None:
         words = "ok silence fault:3:Pulse:12 fault:1:Short:50 fault:17:Parity".split()
@@ -183,22 +183,6 @@ class Whole(unittest.TestCase):
         })
         self.assertEqual(rows[7]["second"], "2016-12-31T23:59:52Z")
         self.assertEqual(rows[8]["quality"], 11)
-
-    def test_logs_of_the_program(self) -> None:
-        """Each log of a case that is run, with each line as it stands, and with those of ports."""
-        count = 0
-        for case in all_cases():
-            words = case.texts()
-            if case.status not in (0, 3) or not case.scenario or words[:1] != ["run"]:
-                continue
-            texts = [case.stdout.decode()]
-            if case.name.startswith("examples/"):
-                texts.append(printed(*words[:2], "--all", "--ports"))
-            for text in texts:
-                count += 1
-                said = "".join(f"{line}\n" for line in read_lines(text.splitlines()))
-                self.assertEqual(said, text, case.name)
-        self.assertGreater(count, 150)
 
 
 class Blame(unittest.TestCase):

@@ -5,17 +5,30 @@ import pickle
 import tempfile
 import threading
 import unittest
+from itertools import product
 from pathlib import Path
+from typing import Callable
 from unittest import mock
 
 import irig
 from irig import Announced, PremiseBroken, PremisesKept, Second, Silent, TableBroken
 from irig.scenarios import Reader, Scenario
-from program import ROOT, cases, printed, told
+from program import ROOT, all_cases, cases, printed, told
+
+
+OPTIONS = "--all", "--ports"
 
 
 def example(name: str) -> str:
     return (ROOT / "examples" / f"{name}.jsonl").read_text()
+
+
+def log_of(source: Callable[..., irig.Log], *words: object) -> irig.Log:
+    """The log, also of a scenario that was refused."""
+    try:
+        return source(*words)
+    except irig.Refused as refused:
+        return refused.log
 
 
 class OfTheProgram(unittest.TestCase):
@@ -23,9 +36,31 @@ class OfTheProgram(unittest.TestCase):
 
     def test_a_log_without_room(self) -> None:
         text = example("plain_minute")
-        for room in (1, 20, 63):
-            with self.subTest(room), mock.patch("irig.scenes.ROOM", room):
-                self.assertEqual(irig.run(text).text, printed("run", "-", text=text))
+        wanted = printed("run", "-", text=text)
+        for room, name in product((1, 20, 63, len(wanted) - 1), ("ROOM", "LOG_ROOM")):
+            with self.subTest(room, name=name), mock.patch(f"irig.scenes.{name}", room):
+                log = irig.run(text)
+                self.assertEqual((log.text, log), (wanted, irig.read_log(wanted)))
+
+    def test_what_lines_say(self) -> None:
+        """The numbers of a run say what is read in the lines of the program, of each case and example."""
+        count = 0
+        for case in all_cases():
+            words = case.texts()
+            if not case.scenario or words[:2] != ["run", case.scenario] or not set(words[2:]) <= set(OPTIONS):
+                continue
+            texts = {tuple(words[2:]): case.stdout.decode()}
+            if case.name.startswith("examples/"):
+                scenario = (ROOT / case.scenario).read_text()
+                texts[OPTIONS] = printed("run", "-", *OPTIONS, text=scenario)
+            for options, text in texts.items():
+                count += 1
+                with self.subTest(case.name, options=options):
+                    ran = log_of(irig.run, ROOT / case.scenario, *(it in options for it in OPTIONS))
+                    read = log_of(irig.read_log, text)
+                    self.assertEqual([str(said) for said in ran], text.splitlines()[:-1])
+                    self.assertEqual((ran, [it.told for it in ran.ports]), (read, [it.told for it in read.ports]))
+        self.assertGreater(count, 150)
 
     def test_a_reason_without_room(self) -> None:
         with mock.patch("irig.scenes.REASON_ROOM", 1), self.assertRaises(irig.Refused) as caught:
@@ -38,6 +73,9 @@ class OfTheProgram(unittest.TestCase):
         for status in (5, 6):
             with mock.patch("irig._library.run_entries", lambda *words: status, create=True):
                 self.assertRaises(MemoryError, irig.run, example("plain_minute"))
+            log = irig.run(example("plain_minute"))
+            with mock.patch("irig._library.run_shown", lambda *words: status, create=True):
+                self.assertRaises(MemoryError, lambda: log.text)
 
     def test_runs_side_by_side(self) -> None:
         text, logs = example("dark_hour"), []
