@@ -8,7 +8,7 @@ import ctypes
 import re
 import sys
 import unittest
-from collections.abc import Iterator, Sequence
+from collections.abc import Callable, Iterator, Sequence
 from ctypes import c_bool, c_size_t, c_uint8
 from itertools import product
 from pathlib import Path
@@ -32,14 +32,15 @@ TIMES = "2016-12-31T23:59:59Z", "2024-07-01T12:00:00Z"
 
 def typed(name: str) -> ctypes._FuncPointer:
     """A call of the library with the types of its parameters."""
-    _, answer, *kinds = _library.CALLS[name]
+    _, answers, *kinds = _library.CALLS[name]
     call = getattr(LIBRARY, _library.symbol(name))
-    call.restype, call.argtypes = answer, kinds
+    call.restype, call.argtypes = answers, kinds
     return call
 
 
 RUN_STRETCHES = typed("run_stretches")
-_library.run_entries = typed("run_entries")  # which the package calls then
+for of_package in ("run_entries", "run_shown"):  # which the package calls then
+    setattr(_library, of_package, typed(of_package))
 
 
 def printed(*words: str, given: bytes = b"") -> tuple[int, bytes, str]:
@@ -100,17 +101,25 @@ class Runs(unittest.TestCase):
             self.assertTrue(part.start <= part.end <= len(reason))
 
 
+def log_of(source: Callable[..., irig.Log], *words: object) -> tuple[irig.Log, object]:
+    """The log, and of a scenario that was refused, where and as what."""
+    try:
+        return source(*words), None
+    except irig.Refused as why:
+        return why.log, (why.line, why.number, why.name)
+
+
 class Entries(unittest.TestCase):
     def test_logs(self) -> None:
-        """Of all cases and examples, as the package writes them."""
+        """Of all cases and examples: the package has by their numbers what it reads in the program's lines."""
         for (name, text), (has_all, has_ports) in product(scenarios().items(), product((False, True), repeat=2)):
             with self.subTest(name, all=has_all, ports=has_ports):
-                try:
-                    ran = irig.run(text, has_all, has_ports).text
-                except irig.Refused as why:
-                    ran = f"{why.log.text}refused: line {why.line}: {why.number} {why.name}\n"
                 words = ["--all"] * has_all + ["--ports"] * has_ports
-                self.assertEqual(ran.encode(), printed("run", "-", *words, given=text)[1])
+                lines = printed("run", "-", *words, given=text)[1].decode()
+                ran, read = log_of(irig.run, text, has_all, has_ports), log_of(irig.read_log, lines)
+                self.assertEqual(ran, read)
+                self.assertEqual([it.told for it in ran[0].ports], [it.told for it in read[0].ports])
+                self.assertTrue(lines.startswith(ran[0].text))
 
     def test_lines(self) -> None:
         """Which line of a scenario that runs to its end asked for which edges."""
