@@ -5,11 +5,11 @@ import re
 from operator import index
 from typing import Iterator, NamedTuple, Optional, Tuple, Union
 
-from ._library import lines_of
+from ._library import NUMBERS, lines_of
 
 Detail = Union[int, str, None]
 
-FIELDS = ("second", "minute", "hour", "day", "year")
+FIELDS = tuple(name[6:].lower() for name in NUMBERS if name.startswith("FIELD_"))
 
 
 class Meaning(NamedTuple):
@@ -33,7 +33,7 @@ def _meanings() -> Iterator[Tuple[int, Meaning]]:
 
 
 MEANINGS = dict(_meanings())
-VALUE = 26
+VALUE = NUMBERS["FAULT_VALUE"]
 
 
 def detail_of(answer: int) -> Tuple[int, Detail]:

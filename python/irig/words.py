@@ -5,18 +5,16 @@ from typing import Any, Literal, Sequence, Tuple, get_args
 
 from .faults import VALUE, Fault
 
+# words, made
 Parity = Literal["even", "odd"]
 Sense = Literal["add", "subtract"]
 Sbs = Literal["check", "ignore"]
 Kind = Literal["insert", "delete"]
 Mark = Literal["unspoken", "no-leap", "insert", "delete"]
 Lock = Literal["unlocked", "acquiring", "locked", "holdover"]
-Cause = Literal[
-    "voted", "held", "acquiring", "no-vote", "expired", "leap-guard", "jump", "range-end"
-]
-LineState = Literal[
-    "silent", "broken", "faulty", "uneven", "poor", "unjudged", "agreed", "apart", "differed"
-]
+Cause = Literal["voted", "held", "acquiring", "no-vote", "expired", "leap-guard", "jump", "range-end"]
+LineState = Literal["silent", "broken", "faulty", "uneven", "poor", "unjudged", "agreed", "apart", "differed"]
+# words, end
 PortKind = Literal["agreed", "silent", "faulty", "poor", "another second", "another mark"]
 
 MARKS: Tuple[Mark, ...] = get_args(Mark)

@@ -9,8 +9,8 @@ from unittest import mock
 
 import irig
 from irig import _library
-from irig.faults import FIELDS, MEANINGS
-from irig.words import CAUSES, LINE_STATES, LOCKS, MARKS
+from irig.faults import MEANINGS
+from irig.words import CAUSES, LOCKS
 
 
 def laid_out(name: str, structure: Any) -> str:
@@ -33,14 +33,6 @@ class Layout(unittest.TestCase):
 
 
 class Texts(unittest.TestCase):
-    def test_words(self) -> None:
-        """In the order of their numbers in C."""
-        for kind, names in (
-            ("FIELD", FIELDS), ("LOCK", LOCKS), ("CAUSE", CAUSES), ("MARK", MARKS), ("LINE", LINE_STATES),
-        ):
-            numbers = (f"IRIG_{kind}_{name.upper().replace('-', '_')} = {n}" for n, name in enumerate(names))
-            self.assertEqual(list(numbers), [line for line in _library.LINES if line.startswith(f"IRIG_{kind}_")])
-
     def test_names(self) -> None:
         """By their numbers, each with a text; what stands beside a fault does not count, as 77 here."""
         for kind, names in (

@@ -4,6 +4,7 @@ import re
 from pathlib import Path
 
 ROOT = Path(__file__).resolve().parents[2]
+SIGNS = {".1": '.\\"', ".py": "#"}
 
 
 def with_made(text: str, marks: tuple[str, str], lines: list[str]) -> str:
@@ -17,9 +18,10 @@ def with_made(text: str, marks: tuple[str, str], lines: list[str]) -> str:
 
 
 def with_part(page: Path, text: str, mark: str, lines: list[str]) -> str:
-    """A page with these lines between the marks of this name: comments, in a manual those of roff."""
-    if page.suffix == ".1":
-        return with_made(text, (f'.\\" {mark}, made', f'.\\" {mark}, end'), lines)
+    """A page with these lines between the marks of this name: comments, as its kind of file has them."""
+    if page.suffix in SIGNS:
+        sign = SIGNS[page.suffix]
+        return with_made(text, (f"{sign} {mark}, made", f"{sign} {mark}, end"), lines)
     return with_made(text, (f"<!-- {mark}, made -->", f"<!-- {mark}, end -->"), ["", *lines, ""])
 
 
