@@ -10,9 +10,10 @@ async function hash_of(bytes) {
 }
 
 // What is drawn, with lists in place of arrays of numbers.
-function drawn_of({ lanes, causes, first, last, verdict }) {
+function drawn_of({ lanes, causes, first, last, verdict, broken, refusal, dues }) {
   const plain = (key, value) => (ArrayBuffer.isView(value) ? [...value] : value);
-  return JSON.parse(JSON.stringify({ lanes, causes, first, last, verdict }, plain));
+  const refused = refusal && refusal.line, shown = lanes.length ? dues.filter(([edge]) => edge <= last) : [];
+  return JSON.parse(JSON.stringify({ lanes, causes, first, last, verdict, broken, refused, dues: shown }, plain));
 }
 
 function frame_of({ time, ...wanted }, { codec }) {

@@ -22,7 +22,7 @@ sys.path.insert(0, str(WEB.parent / "tools/tests"))
 import browser  # noqa: E402
 from loading import ROOT, loaded  # noqa: E402
 from case_files import NOTHING, all_cases  # noqa: E402
-from parts.log_lanes import drawn  # noqa: E402
+from parts.log_lanes import drawn, dues_of  # noqa: E402
 
 BY_CHANCE, FRAMES = 3000, 400
 MOST_SECONDS = 5_000  # of a scenario made at random, so that all end soon
@@ -56,7 +56,10 @@ def told_scenario(program: Path, request: dict) -> list:
     answer = [status, hashlib.sha256(log).hexdigest(), reason]
     if not request["is_drawn"]:
         return answer
-    return [*answer, drawn(log.decode().splitlines(), text.decode(errors="replace").split("\n"))]
+    lines = text.decode(errors="replace")
+    shown = drawn(log.decode().splitlines(), lines.split("\n"))
+    dues = [due for due in dues_of(lines) if shown["lanes"] and due[0] <= shown["last"]]
+    return [*answer, shown | {"dues": dues}]
 
 
 def files() -> Iterator[tuple[bytes, bool]]:

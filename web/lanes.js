@@ -1,7 +1,8 @@
 // ---- what is drawn of a reader: runs of edges at which it stood alike for one cause, or one of its ports told
-// alike, and marks at edges, as tools/parts/log_lanes.py makes them of a log
+// alike, and marks at edges, as tools/parts/log_lanes.py makes them of a log; and UTC at the edges
 
 const NOT_ANNOUNCED = STATE_NAMES.indexOf(NO_REASON);
+const WHOLE_DAY = 86400; // seconds; and of a day that has more the second 23:59:60
 
 class Numbers { // as many as come
   constructor(Kind) {
@@ -55,21 +56,39 @@ class Runs { // of edges at which something stands alike
   }
 }
 
+class Dues { // the true seconds where they do not just count on, by what a true frame tells at each edge
+  constructor() { Object.assign(this, { found: [], last: null }); }
+
+  add(edge, day, sod, mark) {
+    const { last } = this, count = last && WHOLE_DAY * (day - last.day) + sod - last.sod;
+    const counts_on = last && count === edge - last.edge && Math.max(sod, last.sod) < WHOLE_DAY;
+    if (!counts_on) this.found.push([edge, day, sod]);
+    this.last = { edge, day, sod, mark };
+  }
+
+  whole() { // with the second after the last one, by what its frame says of a leap second
+    const { edge, day, sod, mark } = this.last || {};
+    if (mark === NUMBERS.MARK_INSERT && sod === WHOLE_DAY - 1) this.add(edge + 1, day, WHOLE_DAY, 0);
+    if (mark === NUMBERS.MARK_DELETE && sod === WHOLE_DAY - 2) this.add(edge + 1, day + 1, 0, 0);
+    if (sod === WHOLE_DAY) this.add(edge + 1, day + 1, 0, 0);
+    return this.found;
+  }
+}
+
 class Lane { // one reader
   constructor(reader) {
-    Object.assign(this, { reader, marks: [], before_edge: 1, before: "", month: "", ports: [] });
+    Object.assign(this, { reader, marks: [], ports: [], before: { edge: 1, day: -1, sod: 0, month: -1 } });
     this.runs = new Runs(Uint8Array, Uint8Array); // states and causes
     for (const name of ["edges", "told_edges", "ends"]) this[name] = new Numbers(Float64Array);
     for (const name of ["lines", "told_lines", "makers"]) this[name] = new Numbers(Uint32Array);
   }
 
-  add(edge, time, state, cause, line) {
+  add(edge, state, cause, line) {
     const { last } = this.runs.lasts;
     if (edge > last + 1) this.runs.push(last + 1, edge - 1, NOT_ANNOUNCED, 0);
     this.runs.add(edge, state, cause);
     this.edges.push(edge);
     this.lines.push(line);
-    if (time !== "-") this.announce(edge, time);
   }
 
   make(edge, line) { // which line of the scenario asked for the edge
@@ -84,17 +103,17 @@ class Lane { // one reader
     this.told_lines.push(line);
   }
 
-  announce(edge, time) { // marks leap seconds, and month ends since the second that was announced before
-    if (time.endsWith(":60Z")) this.marks.push([edge, "leap second"]);
-    if (!this.month || !time.startsWith(this.month)) {
-      this.month = time.slice(0, 7);
-      const is_next = edge === this.before_edge + 1 && this.before.endsWith("T23:59:58Z");
-      if (is_next && time.endsWith("T00:00:00Z")) this.marks.push([edge - 0.5, "deleted second"]);
-      const begins = edge - second_of_month(time);
-      if (this.before_edge < begins && begins <= edge) this.marks.push([begins - 0.5, "month end"]);
+  announce(edge, day, sod) { // marks leap seconds, and month ends since the second that was announced before
+    const { before } = this, date = day === before.day ? null : new Date(Date.UTC(2000, 0, 1 + day));
+    const month = date ? 12 * date.getUTCFullYear() + date.getUTCMonth() : before.month;
+    if (sod === WHOLE_DAY) this.marks.push([edge, "leap second"]);
+    if (month !== before.month) {
+      const is_next = edge === before.edge + 1 && before.sod === WHOLE_DAY - 2;
+      if (is_next && sod === 0) this.marks.push([edge - 0.5, "deleted second"]);
+      const begins = edge - WHOLE_DAY * (date.getUTCDate() - 1) - sod; // leap seconds come at its end alone
+      if (before.edge < begins && begins <= edge) this.marks.push([begins - 0.5, "month end"]);
     }
-    this.before_edge = edge;
-    this.before = time;
+    this.before = { edge, day, sod, month };
   }
 
   get last() { return Math.max(this.runs.lasts.last, this.told_edges.last); }
@@ -117,10 +136,4 @@ class Lane { // one reader
     const marks = this.marks.filter(([at]) => at > first - 0.5);
     return { reader: this.reader, marks, firsts, lasts, states, causes, ports, ...numbers };
   }
-}
-
-function second_of_month(time) { // leap seconds come at its end alone
-  const number = (place) => Number(time.slice(place, place + 2));
-  const [days, hours, minutes, seconds] = [8, 11, 14, 17].map(number);
-  return 86400 * (days - 1) + 3600 * hours + 60 * minutes + seconds;
 }

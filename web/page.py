@@ -15,15 +15,15 @@ ROOT = WEB.parent
 PARTS = ROOT / "tools/parts"
 sys.path.insert(0, str(ROOT / "tools"))
 
-from parts.log_lanes import PORT_STATES, STATES  # noqa: E402
-from parts.html_page import embedded, filled, hashed, joined, script_of  # noqa: E402
-from irig._library import LINES  # noqa: E402
+from parts.log_lanes import KINDS, PORT_STATES, STATES  # noqa: E402
+from parts.html_page import constants, embedded, filled, hashed, joined, script_of  # noqa: E402
+from irig._library import LINES, NUMBERS  # noqa: E402
 from irig.faults import FIELDS, MEANINGS  # noqa: E402
-from irig.words import CAUSES, LOCKS, MARKS  # noqa: E402
+from irig.words import CAUSES, LOCKS  # noqa: E402
 
-SCRIPTS = (PARTS / "list.js", PARTS / "kinds.js", PARTS / "utc.js", WEB / "log.js", PARTS / "timeline.js",
+SCRIPTS = (PARTS / "list.js", PARTS / "utc.js", WEB / "log.js", PARTS / "timeline.js",
            WEB / "c.js", WEB / "codec.js", WEB / "frame.js", WEB / "editor.js", WEB / "scenario.js", WEB / "page.js")
-WORKER = PARTS / "kinds.js", WEB / "c.js", WEB / "lanes.js", WEB / "worker.js"
+WORKER = WEB / "c.js", WEB / "lanes.js", WEB / "worker.js"
 MODULES = ("c_scenario", "c_reader")
 READS = {"uint8_t": "getUint8", "int8_t": "getInt8", "uint16_t": "getUint16", "uint32_t": "getUint32",
          "int32_t": "getInt32", "uint64_t": "getBigUint64", "size_t": "getBigUint64"}
@@ -66,10 +66,10 @@ def causes() -> dict[str, list[str]]:
     }
 
 
-def verdicts() -> dict[str, str]:
-    """What the last line of a log means, by its first words."""
-    found = rows(ROOT / "docs/OUTPUT.md", "| Last line | Meaning |")
-    return {re.split(r" [A-Z]", plain(line))[0]: plain(meaning) for line, meaning in found}
+def verdicts() -> list[str]:
+    """What the last line of a log means, by the number of its verdict; 0 is that of a line that is refused."""
+    *meanings, refused = (meaning for _, meaning in rows(ROOT / "docs/OUTPUT.md", "| Last line | Meaning |"))
+    return [plain(meaning) for meaning in (refused, *meanings)]
 
 
 def examples() -> list[dict[str, object]]:
@@ -122,14 +122,10 @@ def structures() -> dict[str, object]:
 
 
 def of_c() -> str:
-    """The constants that web/c.js speaks of."""
-    numbers = re.findall(r"IRIG_(\w+) = (\d+)", "\n".join(LINES))
-    constants = {
-        "LAYOUT": structures(), "NUMBERS": {name: int(number) for name, number in numbers},
-        "LOCKS": LOCKS, "CAUSES": CAUSES, "MARKS": MARKS, "FIELDS": FIELDS,
-        "FAULT_NAMES": {number: meaning.name for number, meaning in MEANINGS.items()},
-    }
-    return "".join(f"const {name} = {embedded(value)};\n" for name, value in constants.items())
+    """The constants that web/c.js speaks of, and the kinds of what is drawn."""
+    names = {number: meaning.name for number, meaning in MEANINGS.items()}
+    words = {"LOCKS": LOCKS, "CAUSES": CAUSES, "FIELDS": FIELDS, "FAULT_NAMES": names}
+    return constants({"LAYOUT": structures(), "NUMBERS": NUMBERS, **words, **KINDS})
 
 
 # ---- the page

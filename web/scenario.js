@@ -202,9 +202,9 @@ class ScenarioTab {
   // ---- what a run gave
 
   show_result(result) {
-    const log = new LogText(result.log, result.starts), { status, verdict } = result;
+    const log = new LogText(result.log, result.starts), { status } = result;
     this.ran = this.running.text.split("\n");
-    this.clock = clock_of(this.ran);
+    this.clock = clock_of(result.dues);
     this.has_run = true;
     this.set_stale(this.running.text !== this.editor.text);
     this.log.set(log);
@@ -214,26 +214,24 @@ class ScenarioTab {
     part("drawing").hidden = part("range").hidden = !result.lanes.length;
     this.timeline.set(result, (lane, edge) => this.told_of(lane, edge), this.clock);
     if (result.lanes.length) this.timeline.choose(this.timeline.lanes[0], result.first);
-    this.show_verdict(verdict, status, result.refusal);
+    this.show_verdict(result);
     const lines = `${log.length.toLocaleString("en")} line${log.length === 1 ? "" : "s"}`;
     const cost = `${seconds(result.spent)}, ${bytes_text(result.memory)} of memory`;
     part("state").textContent = `${ENDS[status] || `status ${status}`}: ${lines} of log in ${cost}`;
   }
 
-  show_verdict(verdict, status, refusal) {
-    const is_kept = status === RUN_DONE && verdict === "premises kept";
-    const is_cut = status !== RUN_DONE && status !== RUN_REFUSED;
+  show_verdict({ verdict, kind_of_verdict, broken, refusal }) {
+    const is_cut = verdict === null, is_kept = !is_cut && kind_of_verdict === NUMBERS.VERDICT_KEPT;
     part("verdict").textContent = `${is_kept ? "\u2713" : "\u2717"} ${is_cut ? "memory ran out" : verdict}`;
     part("meaning").textContent = is_cut
       ? "The log shows how it begins, as far as there was memory. Allow more, or make the scenario shorter."
-      : meaning_of(verdict || "");
+      : data.verdicts[kind_of_verdict].replace(/\bN\b/, (refusal && refusal.line) || (broken && broken.edge));
     part("to-verdict").hidden = true;
-    const broken = /^premises broken: edge (\d+) reader (\S+)$/.exec(verdict || "");
-    if (broken) this.lead_to_edge(broken[2], Number(broken[1]));
+    if (broken) this.lead_to_edge(broken);
     if (refusal) this.show_refusal(refusal);
   }
 
-  lead_to_edge(reader, edge) {
+  lead_to_edge({ reader, edge }) {
     const lane = this.timeline.lanes.find((each) => each.reader === reader);
     if (lane) this.lead(`go to edge ${edge}`, () => this.timeline.choose(lane, edge));
   }
@@ -258,9 +256,9 @@ class ScenarioTab {
     const line = lane.line_at(edge), maker = lane.maker_of(edge);
     const parts = [`${edge} ${lane.reader}: not announced, no line in this log`], told = lane.told_at(edge);
     if (line >= 0) {
-      const text = this.log.lines.at(line), [meaning, look] = data.causes[text.split(" ")[4]] || ["", ""];
-      parts[0] = with_offsets(text, this.clock(edge));
-      if (meaning) parts.push(meaning + (look ? ` (${look})` : ""));
+      const run = first_after(lane.lasts, edge), [meaning, look] = data.causes[this.timeline.causes[lane.causes[run]]];
+      parts[0] = with_offsets(this.log.lines.at(line), this.clock(edge));
+      parts.push(meaning + (look ? ` (${look})` : ""));
     }
     if (told >= 0) {
       const words = this.log.lines.at(told).slice(` ${edge} ${lane.reader}`.length);
@@ -413,12 +411,6 @@ function said_of(value) { // as: name relay, lock_after 2
   if (value === null || typeof value !== "object") return String(value);
   const parts = Object.entries(value).map(([key, item]) => `${key} ${said_of(item)}`);
   return parts.join(", ");
-}
-
-function meaning_of(verdict) { // of the last line of a log, with its number in it
-  const [, meaning] = Object.entries(data.verdicts).find(([words]) => verdict.startsWith(words)) || ["", ""];
-  const [number] = /\d+/.exec(verdict) || ["N"];
-  return meaning.replace(/\bN\b/, number);
 }
 
 const seconds = (milliseconds) =>

@@ -1,24 +1,26 @@
-// What the worker of a run does: it plays a scenario by the proved module, and makes of the entries that this
-// tells the lines of the log, and lanes for the page (lanes.js). Each run has a worker of its own, as a module
+// What the worker of a run does: the proved module plays a scenario twice, for the entries of its log in numbers,
+// of which lanes for the page are made (lanes.js), and for its text. Each run has a worker of its own, as a module
 // that trapped may not be called again.
 
 const PAGE = 65536, FIRST_PAGES = 64; // of the module's memory
 const SPARE = 1 << 22, LEAST_ROOM = 1 << 12; // bytes for all but the entries; entries
 const NEWLINE = 10, BLANKS = [32, 9, 13, NEWLINE];
 const REASON_ROOM = 4096; // bytes: more than a reason has
+const LINE_ROOM = 64, WORD_ROOM = 24, MOST_PORTS = 5; // bytes of an entry's line, and of a port's word, about
 
 const { entry: ENTRY, told: TOLD, claim: CLAIM, utc: UTC, verdict: VERDICT, refusal: REFUSAL } = LAYOUT;
 
 // ---- the module
 
-// Its calls, over a memory of their own with at most so many bytes. When a block of memory grows, it tells to
-// how many.
-function calls_of(module, most, on_growth) {
+// Its calls, over a memory of their own with at most so many bytes, and the places of blocks of these sizes there,
+// 0 if there is no room; the scenario stands in the first. When a block grows, it tells to how many bytes.
+function begun(module, text, most, sizes, on_growth) {
   const memory = new WebAssembly.Memory({ initial: FIRST_PAGES, maximum: Math.floor(most / PAGE) });
   const grows = (bytes) => on_growth(Number(bytes));
   const calls = new WebAssembly.Instance(module, { env: { memory }, page: { grows } }).exports;
-  const give = (bytes) => calls.heap_give(BigInt(bytes || 1));
-  return { memory, calls, give };
+  const places = [text.length, ...sizes].map((size) => calls.heap_give(BigInt(size || 1)));
+  if (places[0]) new Uint8Array(memory.buffer).set(text, Number(places[0]));
+  return { memory, calls, places };
 }
 
 // ---- the run
@@ -44,16 +46,15 @@ function refusal_in(view, place, reason) {
   return { line, number, reason: text };
 }
 
-// Runs a scenario of these bytes in at most so many bytes of memory, with room for so many entries; if that
-// is too little it runs once more, in a new memory.
+// The entries of a scenario in at most so many bytes of memory, with room for so many of them; if that is too
+// little it runs once more, in a new memory.
 function run_of(module, text, most, room, on_growth) {
-  const { memory, calls, give } = calls_of(module, most, on_growth);
-  const sizes = [text.length, 8, VERDICT.size, REASON_ROOM, REFUSAL.size, room * ENTRY.size];
-  const [from, whole, verdict, reason, refusal, entries] = sizes.map(give);
+  const sizes = [8, VERDICT.size, REASON_ROOM, REFUSAL.size, room * ENTRY.size];
+  const { memory, calls, places } = begun(module, text, most, sizes, on_growth);
+  const [from, whole, verdict, reason, refusal, entries] = places;
   const failed = (status) => ({ status, count: 0, refusal: null, view: new DataView(memory.buffer) });
-  if (!from || !whole || !verdict || !reason || !refusal) return failed(RUN_NO_MEMORY);
+  if (!places.slice(0, -1).every(Boolean)) return failed(RUN_NO_MEMORY);
   if (!entries) return failed(RUN_NO_LOG);
-  new Uint8Array(memory.buffer).set(text, Number(from));
   const status = calls.irig_scene_c_run_entries(
     from, BigInt(text.length), entries, BigInt(room), whole, verdict, reason, BigInt(REASON_ROOM), refusal,
   ) & 255;
@@ -63,128 +64,121 @@ function run_of(module, text, most, room, on_growth) {
   return { status, count, refusal: why, view, entries: Number(entries), verdict: Number(verdict) };
 }
 
-// ---- the log, in words
-
-const day_texts = new Map();
-
-function second_text(view, at, fields = UTC) { // of a structure with a day and a second of the day
-  const day = get(view, at, fields.day), sod = get(view, at, fields.sod);
-  if (!day_texts.has(day)) day_texts.set(day, new Date(Date.UTC(2000, 0, 1 + day)).toISOString().slice(0, 11));
-  const minute = Math.min(Math.floor(sod / 60), 1439); // the last one may have 61 seconds
-  const parts = [Math.floor(minute / 60), minute % 60, sod - 60 * minute];
-  return `${day_texts.get(day)}${parts.map((part) => String(part).padStart(2, "0")).join(":")}Z`;
+// The text of its log, with room for so many bytes, and how the run that wrote it ended; so once more, too.
+function log_of(module, text, shown, most, room) {
+  const { memory, calls, places } = begun(module, text, most, [8, 1, REFUSAL.size, room], () => {});
+  const [from, whole, reason, refusal, log] = places, flags = [Number(shown.all), Number(shown.ports)];
+  if (!places.every(Boolean)) return { status: RUN_NO_LOG, log: new Uint8Array(0) };
+  const status = calls.irig_scene_c_run_shown(
+    from, BigInt(text.length), ...flags, log, BigInt(room), whole, reason, 0n, refusal,
+  ) & 255;
+  const size = Number(new DataView(memory.buffer).getBigUint64(Number(whole), true));
+  if (size > room) return log_of(module, text, shown, most, size);
+  return { status, log: new Uint8Array(memory.buffer).slice(Number(log), Number(log) + size) };
 }
 
-// The kind and the word of what a port told, beside the true claim, of which the place is 0 if there is none.
-function told_at(view, at, truth) {
-  const kind = get(view, at, TOLD.kind), claim = at + TOLD.claim.at, second = claim + CLAIM.at.at;
-  if (kind === NUMBERS.TOLD_SILENCE) return [PORT.SILENT, "silence"];
-  if (kind === NUMBERS.TOLD_FAULT) {
-    return [PORT.FAULTY, ["fault", ...fault_words(fault_of(get(view, at, TOLD.fault)))].join(":")];
-  }
-  if (kind === NUMBERS.TOLD_POOR) return [PORT.POOR, `poor:${get(view, at, TOLD.quality)}`];
-  const is_same = (field) => get(view, second, field) === get(view, truth + CLAIM.at.at, field);
-  if (!truth || !is_same(UTC.sod) || !is_same(UTC.day)) return [PORT.ANOTHER_SECOND, second_text(view, second)];
-  const mark = get(view, claim, CLAIM.mark);
-  return mark === get(view, truth, CLAIM.mark) ? [PORT.AGREED, "ok"] : [PORT.ANOTHER_MARK, MARKS[mark]];
+const text_of_line = (log, starts, line) => new TextDecoder().decode(log.subarray(starts[line], starts[line + 1] - 1));
+
+function starts_of(log) { // of its lines, and at last where they end
+  const starts = new Numbers(Uint32Array);
+  for (let at = 0; at < log.length; at = log.indexOf(NEWLINE, at) + 1 || log.length) starts.push(at);
+  starts.push(log.length);
+  return starts.whole();
 }
 
-class LogWriter { // lines become bytes, some megabytes at once
-  constructor() { Object.assign(this, { parts: [], size: 0, text: "", starts: new Numbers(Uint32Array) }); }
+// ---- the lanes of the entries
 
-  get length() { return this.starts.length; }
+const STATE_OF_LOCK = LOCKS.map((lock) => STATE_NAMES.indexOf(lock));
+const PORT_OF_TOLD = [PORT.SILENT, PORT.FAULTY, PORT.POOR]; // by the kind of what it told, if that is no claim
+const [DAY, SOD] = [UTC.day, UTC.sod].map((field) => ({ ...field, at: CLAIM.at.at + field.at })); // of a claim
 
-  add(line) {
-    this.starts.push(this.size + this.text.length);
-    this.text += `${line}\n`;
-    if (this.text.length > SPARE) this.flush();
-  }
-
-  flush() {
-    this.parts.push(new TextEncoder().encode(this.text));
-    this.size += this.text.length;
-    this.text = "";
-  }
-
-  whole() {
-    this.flush();
-    const log = new Uint8Array(this.size);
-    this.parts.reduce((at, part) => (log.set(part, at), at + part.length), 0);
-    this.starts.push(this.size);
-    return { log, starts: this.starts.whole() };
-  }
+// What a port told, beside the true claim, of which the place is 0 if there is none.
+function kind_of(view, at, truth) {
+  const kind = get(view, at, TOLD.kind), claim = at + TOLD.claim.at;
+  const is_same = (field) => get(view, claim, field) === get(view, truth, field);
+  if (kind !== NUMBERS.TOLD_CLAIM) return PORT_OF_TOLD[kind];
+  if (!truth || !is_same(SOD) || !is_same(DAY)) return PORT.ANOTHER_SECOND;
+  return is_same(CLAIM.mark) ? PORT.AGREED : PORT.ANOTHER_MARK;
 }
 
-function verdict_text({ status, refusal, view, verdict }, names) {
-  if (refusal) return `refused: line ${refusal.line}: ${refusal.number} ${FAULT_NAMES[refusal.number]}`;
-  if (status !== RUN_DONE) return null;
-  const [edge, kind, reader] = ["edge", "kind", "reader"].map((name) => get(view, verdict, VERDICT[name]));
-  const broken = `edge ${edge} reader ${names[reader]}`;
-  return [null, "premises kept", `premises broken: ${broken}`, `premises broken: table of reader ${names[reader]}`][kind];
-}
-
-// The log of the entries of a run, and its lanes.
-function shown_of(ran, names, shown) {
-  const { view } = ran, writer = new LogWriter(), lanes = new Map(), drawn = new Set();
-  let has_silences = false;
+// The lanes that have lines, over which edges, and where the premises broke, if they did at an edge.
+function lanes_of(ran, names, shown) {
+  const { view } = ran, lanes = names.map((name) => new Lane(name)), drawn = new Set(), dues = new Dues();
+  let line = 0, has_silences = false, furthest = 0;
   for (let place = 0; place < ran.count; place++) {
-    const at = ran.entries + place * ENTRY.size, edge = get(view, at, ENTRY.edge), line = get(view, at, ENTRY.line);
-    const reader = names[get(view, at, ENTRY.reader)], is_silent = !get(view, at, ENTRY.announces);
-    if (!lanes.has(reader)) lanes.set(reader, new Lane(reader));
-    const lane = lanes.get(reader);
-    lane.make(edge, line - 1);
+    const at = ran.entries + place * ENTRY.size, edge = get(view, at, ENTRY.edge);
+    const lane = lanes[get(view, at, ENTRY.reader)], is_silent = !get(view, at, ENTRY.announces);
+    const truth = get(view, at, ENTRY.has_truth) ? at + ENTRY.truth.at : 0;
+    if (truth && edge > furthest) {
+      dues.add(edge - 1, get(view, truth, DAY), get(view, truth, SOD), get(view, truth, CLAIM.mark));
+      furthest = edge;
+    }
+    lane.make(edge, get(view, at, ENTRY.line) - 1);
     if (shown.all || shown.ports || !is_silent) drawn.add(lane);
     if (shown.all || !is_silent) {
       has_silences ||= is_silent;
-      add_entry(writer, lane, view, at, edge, is_silent);
+      lane.add(edge, STATE_OF_LOCK[get(view, at, ENTRY.lock)], get(view, at, ENTRY.cause) + 1, line++);
+      if (!is_silent) lane.announce(edge, get(view, at, ENTRY.day), get(view, at, ENTRY.sod));
     }
-    if (shown.ports) add_ports(writer, lane, view, at, edge);
+    if (shown.ports) lane.tell(edge, kinds_of(view, at, truth), line++);
   }
-  const told = [...drawn], verdict = verdict_text(ran, names);
-  if (verdict) writer.add(verdict);
-  const first = has_silences ? Math.min(...told.map((lane) => lane.first)) : 1;
-  const last = Math.max(1, ...told.map((lane) => lane.last));
-  const [, edge, reader] = /^premises broken: edge (\d+) reader (\S+)$/.exec(verdict || "") || [];
-  if (edge && drawn.has(lanes.get(reader))) lanes.get(reader).marks.push([Number(edge), "premise broken"]);
+  const told = [...drawn], first = has_silences ? Math.min(...told.map((lane) => lane.first)) : 1;
+  const last = Math.max(1, ...told.map((lane) => lane.last)), { kind, edge, reader } = verdict_of(ran);
+  const broken = kind === NUMBERS.VERDICT_BROKEN ? { edge, reader: names[reader] } : null;
+  if (broken && drawn.has(lanes[reader])) lanes[reader].marks.push([edge, "premise broken"]);
   const ended = told.map((lane) => lane.end(first, last));
-  return { ...writer.whole(), lanes: ended, causes: [NO_REASON, ...CAUSES], verdict, first, last };
+  const said = { broken, kind_of_verdict: kind, dues: dues.whole() };
+  return { lanes: ended, causes: [NO_REASON, ...CAUSES], first, last, ...said };
 }
 
-function add_entry(writer, lane, view, at, edge, is_silent) {
-  const lock = LOCKS[get(view, at, ENTRY.lock)], cause = get(view, at, ENTRY.cause);
-  const count = get(view, at, ENTRY.lock_count), time = is_silent ? "-" : second_text(view, at, ENTRY);
-  lane.add(edge, time, STATE_NAMES.indexOf(lock), cause + 1, writer.length);
-  writer.add(`${edge} ${lane.reader} ${time} ${lock}${count ? `:${count}` : ""} ${CAUSES[cause]}`);
+function verdict_of({ view, verdict }) { // nothing, if there was no run
+  const fields = Object.entries(VERDICT).filter(([, field]) => field.reads);
+  return Object.fromEntries(fields.map(([name, field]) => [name, verdict ? get(view, verdict, field) : 0]));
 }
 
-function add_ports(writer, lane, view, at, edge) {
-  const truth = get(view, at, ENTRY.has_truth) ? at + ENTRY.truth.at : 0, told = [];
+function kinds_of(view, at, truth) { // of what its ports told
+  const kinds = [];
   for (let port = 0; port < get(view, at, ENTRY.ports); port++) {
-    told.push(told_at(view, at + ENTRY.told.at + port * TOLD.size, truth));
+    kinds.push(kind_of(view, at + ENTRY.told.at + port * TOLD.size, truth));
   }
-  lane.tell(edge, told.map(([kind]) => kind), writer.length);
-  writer.add(` ${edge} ${lane.reader} ${told.map(([, word]) => word).join(" ")}`);
+  return kinds;
 }
 
 // ---- the messages
 
+// How the entries were told, and their lanes. Its memory is let go before the log is written in another one.
+function entries_told(run, text, shown, on_end) {
+  const ran = run(), { status, refusal, count } = ran, memory = ran.view.buffer.byteLength;
+  on_end(count);
+  const names = count || status === RUN_DONE ? names_in(text) : [];
+  return { ended: { status, refusal, memory }, count, lanes: lanes_of(ran, names, shown) };
+}
+
 // What the page is given at the end, with how long the run took in milliseconds.
 function told_of({ module, text, shown, most }, tell) {
-  const expected = entries_in(text), begun = performance.now();
+  const expected = entries_in(text), begun_at = performance.now();
   // The run's own copy of the entries may take twice as much as these.
   const room = Math.min(Math.max(LEAST_ROOM, expected), Math.floor((most / 3 - SPARE) / ENTRY.size));
-  let largest = SPARE;
+  let largest = SPARE, spent = 0;
   const on_growth = (bytes) => {
     if (bytes <= largest) return;
     largest = bytes;
     const written = Math.floor(bytes / 2 / ENTRY.size);
-    tell({ kind: "progress", spent: performance.now() - begun, written, expected });
+    tell({ kind: "progress", spent: performance.now() - begun_at, written, expected });
   };
-  const ran = run_of(module, text, most, room, on_growth);
-  const spent = performance.now() - begun, { status, refusal, count } = ran;
-  tell({ kind: "progress", spent, written: count, expected: count, is_read: true });
-  const memory = ran.view.buffer.byteLength, names = count || status === RUN_DONE ? names_in(text) : [];
-  return { kind: "done", status, refusal, memory, spent, ...shown_of(ran, names, shown) };
+  const on_end = (count) => {
+    spent = performance.now() - begun_at;
+    tell({ kind: "progress", spent, written: count, expected: count, is_read: true });
+  };
+  const run = () => run_of(module, text, most, room, on_growth);
+  const { ended, count, lanes } = entries_told(run, text, shown, on_end);
+  const log_room = SPARE + count * (LINE_ROOM + (shown.ports ? MOST_PORTS * WORD_ROOM : 0));
+  const is_done = ended.status === RUN_DONE || ended.status === RUN_REFUSED;
+  const said = is_done ? log_of(module, text, shown, most, log_room) : { status: ended.status, log: new Uint8Array(0) };
+  const starts = starts_of(said.log), is_whole = is_done && said.status === ended.status;
+  const verdict = is_whole ? text_of_line(said.log, starts, starts.length - 2) : null;
+  const drawn = is_whole ? lanes : lanes_of({ count: 0 }, [], shown);
+  return { kind: "done", ...ended, ...said, starts, verdict, spent, ...drawn };
 }
 
 function buffers_of(result) { // which go over without a copy

@@ -4,7 +4,7 @@ from __future__ import annotations
 import base64
 import hashlib
 import json
-from collections.abc import Iterable
+from collections.abc import Iterable, Mapping
 from pathlib import Path
 
 
@@ -22,6 +22,11 @@ def hashed(text: str) -> str:
 
 def joined(files: Iterable[Path]) -> str:
     return "\n".join(file.read_text() for file in files)
+
+
+def constants(values: Mapping[str, object]) -> str:
+    """What a script has by these names."""
+    return "".join(f"const {name} = {embedded(value)};\n" for name, value in values.items())
 
 
 def script_of(files: Iterable[Path], made: str = "") -> str:

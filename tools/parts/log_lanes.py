@@ -12,8 +12,8 @@ from parts import package  # noqa: F401
 
 from irig.logs import ENTRIES, Announced, LastLine, Ports, PremiseBroken, Reading, RefusedLine, Silent, Tick
 from irig.logs import read_lines, ticks_of
-from irig.scenarios import Timeline, made_edges
-from irig.seconds import EPOCH, Second
+from irig.scenarios import Timeline, made_edges, plant_in
+from irig.seconds import EPOCH, Second, day_number
 from irig.stretches import Truth, stretches_of
 from irig.words import CAUSES
 
@@ -29,12 +29,14 @@ class State:
     meaning: str
 
 
+NO_LINE = "not announced"  # of an edge that has none
+
 STATES = {
     "locked": State("#0072B2", "plain", True, "announces by a vote"),
     "holdover": State("#E69F00", "stripes", True, "announces, counting alone"),
     "acquiring": State("#56B4E9", "upright", False, "silent, too few votes yet"),
     "unlocked": State("#D55E00", "crosses", False, "silent"),
-    "not announced": State("#FFFFFF", "plain", False, "no line in this log"),
+    NO_LINE: State("#FFFFFF", "plain", False, "no line in this log"),
 }
 
 # What a port told: low where it told nothing untrue, so that a lie stands out.
@@ -47,6 +49,11 @@ PORT_STATES = {
     "another mark": State("#CC79A7", "stripes", True, "told another mark"),
 }
 
+
+KINDS = {  # for the scripts of pages: states in the order in which they are drawn, and places of those of ports
+    "NO_REASON": NO_LINE, "STATE_NAMES": [*STATES], "PORT_KINDS": [*PORT_STATES],
+    "PORT": {name.upper().replace(" ", "_"): place for place, name in enumerate(PORT_STATES)},
+}
 
 LAST_LINES = get_args(LastLine)
 UNKNOWN = Truth(None, False)
@@ -203,7 +210,7 @@ def _runs(entries: list[Announced | Silent], first: int, last: int) -> Iterator[
     for entry in entries:
         if entry.edge > run.last + 1:
             yield from [run] if run.state else []
-            run = Run(run.last + 1, entry.edge - 1, "not announced", "not announced")
+            run = Run(run.last + 1, entry.edge - 1, NO_LINE, NO_LINE)
         if (entry.lock, entry.cause) == (run.state, run.cause):
             run.last = entry.edge
         else:
@@ -211,7 +218,7 @@ def _runs(entries: list[Announced | Silent], first: int, last: int) -> Iterator[
             run = Run(entry.edge, entry.edge, entry.lock, entry.cause)
     yield from [run] if run.state else []
     if run.last < last:
-        yield Run(run.last + 1, last, "not announced", "not announced")
+        yield Run(run.last + 1, last, NO_LINE, NO_LINE)
 
 
 def _marks(entries: list[Announced], first: int) -> Iterator[Mark]:
@@ -248,6 +255,21 @@ def _columns(runs: list[Run], names: Iterable[str]) -> dict[str, list[int]]:
     }
 
 
+def dues_of(scenario: str) -> list[list[int]]:
+    """The seconds of a scenario where they do not just count on as days do: the first one, and those at leap
+    seconds, each with its edge, day and second of the day; none if there is no plant."""
+    plant = plant_in(scenario)
+    if not plant:
+        return []
+    start, found = Second.of(plant.timeline.start), []
+    for leap in plant.timeline.leaps:
+        day = day_number(leap.day)
+        found += [Second(day, 86_400)] if leap.kind == "insert" else []
+        found += [Second(day + 1, 0)]
+    later = [start, *sorted(second for second in found if second > start)]
+    return [[plant.timeline.edge_of(second), second.day, second.sod] for second in later]
+
+
 def drawn(log: list[str], scenario: list[str]) -> dict:
     """The bars of a log for a page, by numbers, with which lines of the log and of its scenario are of which
     edges; a ValueError if a line is none."""
@@ -260,8 +282,10 @@ def drawn(log: list[str], scenario: list[str]) -> dict:
             told = "told_" if isinstance(entry, Ports) else ""
             lane[f"{told}edges"].append(entry.edge)
             lane[f"{told}lines"].append(number)
-    end = said[-1].line if said and isinstance(said[-1], RefusedLine) else None
-    made, bars, causes = made_edges(scenario[:end], places), _bars_of(said), ["not announced", *CAUSES]
+    last = said[-1] if said else None
+    refused = last.line if isinstance(last, RefusedLine) else None
+    broken = {"edge": last.edge, "reader": last.reader} if isinstance(last, PremiseBroken) else None
+    made, bars, causes = made_edges(scenario[:refused], places), _bars_of(said), [NO_LINE, *CAUSES]
     lanes = [
         {
             "reader": lane.reader,
@@ -275,4 +299,5 @@ def drawn(log: list[str], scenario: list[str]) -> dict:
         }
         for lane in bars.lanes
     ]
-    return {"lanes": lanes, "causes": causes, "first": bars.first, "last": bars.last, "verdict": bars.verdict}
+    return {"lanes": lanes, "causes": causes, "first": bars.first, "last": bars.last, "verdict": bars.verdict,
+            "broken": broken, "refused": refused}

@@ -1,29 +1,22 @@
-// ---- UTC, as a scenario has it, and how far a second that was told is from it
+// ---- UTC, as a scenario has it at its edges, and how far a second that was told is from it
 
 const second_of_day = (text) => [11, 14, 17].reduce((sum, at) => 60 * sum + Number(text.slice(at, at + 2)), 0);
 const count_of = (text) => Date.parse(text.slice(0, 10)) / 1000 + second_of_day(text);
 
-// Tells the second that begins at an edge; nothing if the first line of a scenario is no plant.
-function clock_of(lines) {
-  try {
-    const { start, leaps } = JSON.parse(lines.find((line) => line.trim()));
-    leaps.sort((one, other) => (one.day < other.day ? -1 : 1));
-    second_at(start, leaps, 0);
-    return (edge) => second_at(start, leaps, edge);
-  } catch {
-    return () => "";
-  }
+function second_text(day, sod) { // by the day, counted from 2000-01-01, and the second of that day, which may be 86400
+  const date = new Date(Date.UTC(2000, 0, 1 + day)).toISOString(), minute = Math.min(Math.floor(sod / 60), 1439);
+  const clock = [Math.floor(minute / 60), minute % 60, sod - 60 * minute].map((part) => String(part).padStart(2, "0"));
+  return `${date.slice(0, 11)}${clock.join(":")}Z`;
 }
 
-function second_at(start, leaps, edge) {
-  let count = count_of(start) + edge;
-  for (const { day, kind } of leaps) {
-    const end = Date.parse(day) / 1000 + 86400 - (kind === "delete" ? 1 : 0);
-    if (day < start.slice(0, 10) || count < end) continue;
-    if (kind === "insert" && count === end) return `${day}T23:59:60Z`;
-    count += kind === "insert" ? -1 : 1;
-  }
-  return new Date(1000 * count).toISOString().replace(".000", "");
+// Tells the second that begins at an edge, by some of them as [edge, day, sod]: from each on they count on as days do.
+function clock_of(dues) {
+  const edges = dues.map(([edge]) => edge);
+  return (edge) => {
+    const [from, day, sod] = dues[first_after(edges, edge + 1) - 1] || [], count = sod + edge - from;
+    if (from === edge) return second_text(day, sod);
+    return from === undefined ? "" : second_text(day + Math.floor(count / 86400), count % 86400);
+  };
 }
 
 function offset_text(told, due) { // as irig blame has it: 23:59:60 is a second more before a later day

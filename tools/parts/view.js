@@ -9,7 +9,7 @@ class Lines {
 const timeline = new Timeline(on_choice);
 const log = new List(part("log"), on_line);
 const scenario = new List(part("scenario"), on_scenario_line);
-const reading = data.drawn, clock = clock_of(data.scenario);
+const reading = data.drawn, clock = clock_of(data.dues);
 
 const lane_named = (reader) => timeline.lanes.find((lane) => lane.reader === reader);
 
@@ -61,17 +61,15 @@ function go_to_text() { // the next line of the log with this text, below the ch
 // ---- the last line of the log
 
 function add_verdict() {
-  const { verdict } = reading;
+  const { verdict, broken, refused } = reading, lane = broken && lane_named(broken.reader);
   const sign = verdict === "premises kept" ? "\u2713" : "\u2717";
   part("verdict").textContent = `${sign} ${verdict || "no last line: the run did not end, or it was cut"}`;
-  const [, edge, reader] = /^premises broken: edge (\d+) reader (\S+)$/.exec(verdict || "") || [];
-  const [, line] = /^refused: line (\d+):/.exec(verdict || "") || [];
-  if (edge && lane_named(reader)) {
-    to_verdict(`go to edge ${edge}`, () => timeline.choose(lane_named(reader), Number(edge)));
-  } else if (line) {
-    scenario.refused = Number(line) - 1;
+  if (lane) {
+    to_verdict(`go to edge ${broken.edge}`, () => timeline.choose(lane, broken.edge));
+  } else if (refused) {
+    scenario.refused = refused - 1;
     scenario.draw();
-    to_verdict(`go to line ${line}`, () => scenario.pick(scenario.refused));
+    to_verdict(`go to line ${refused}`, () => scenario.pick(scenario.refused));
   }
 }
 

@@ -10,7 +10,7 @@ from pathlib import Path
 
 import browser
 from loading import ROOT, InAFolder, loaded
-from parts.log_lanes import PORT_STATES, STATES
+from parts.log_lanes import PORT_STATES, STATES, dues_of
 
 from irig.scenarios import made_edges, plant_in
 
@@ -235,7 +235,7 @@ class InBrowser(browser.Driven):
     def test_utc_and_offsets(self) -> None:
         """The plant starts at 23:59:50: edge 10 is the leap second, and a clock that has none is 17 s ahead of
         23:59:59, and 18 s of 23:59:60. At edge 11, whose second is 00:00:00, another tells 23:59:60."""
-        plant = '{"start":"2016-12-31T23:59:50Z","leaps":[{"day":"2016-12-31","kind":"insert"}]}\n'
+        plant = '{"start":"2016-12-31T23:59:50Z","leaps":[{"day":"2016-12-31","kind":"insert"}],"readers":[]}\n'
         ports = {
             "10 meter": " 10 relay ok 2017-01-01T00:00:16Z ok",
             "11 meter": " 11 relay 2016-12-31T23:59:59Z 2017-01-01T00:00:17Z ok",
@@ -276,8 +276,8 @@ class InBrowser(browser.Driven):
             ("2029-06-30T23:59:57Z", [{"day": "2029-06-30", "kind": "delete"}], 2, "2029-07-01T00:00:00Z"),
             ("noon", [], 0, ""),
         ):
-            plant = json.dumps({"start": start, "leaps": leaps})
-            self.assertEqual(self.page.ask(f"clock_of(['', {plant!r}])({edge})"), wanted)
+            plant = json.dumps({"start": start, "leaps": leaps, "readers": []})
+            self.assertEqual(self.page.ask(f"clock_of({dues_of(plant)})({edge})"), wanted)
 
     def test_search_by_cause(self) -> None:
         self.set("cause", "jump")
