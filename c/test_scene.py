@@ -19,9 +19,9 @@ sys.path[:0] = [str(ROOT / "tests"), str(ROOT / "python")]
 from case_files import answer, scenarios  # noqa: E402
 import irig  # noqa: E402
 from irig import _library, scenes  # noqa: E402
-from irig._library import Entry, FrameOptions, Offset, Refusal, Stretch, Utc, Verdict  # noqa: E402
+from irig._library import Entry, FrameOptions, Refusal, Stretch, Verdict  # noqa: E402
 from irig.scenarios import made_edges, plant_in  # noqa: E402
-from irig.words import CAUSES, MARKS  # noqa: E402
+from irig.stretches import stretches_of  # noqa: E402
 
 LIBRARY, PROGRAM = ctypes.CDLL(sys.argv[1]), sys.argv[2]
 DONE, BAD, NULL, REFUSED = 0, 1, 2, 3
@@ -39,7 +39,7 @@ def typed(name: str) -> ctypes._FuncPointer:
 
 
 RUN_STRETCHES = typed("run_stretches")
-for of_package in ("run_entries", "run_shown"):  # which the package calls then
+for of_package in ("run_entries", "run_shown", "run_stretches"):  # which the package calls then
     setattr(_library, of_package, typed(of_package))
 
 
@@ -146,35 +146,6 @@ class Entries(unittest.TestCase):
             self.assertTrue(room.has(wanted), f"{count} entries of room")
 
 
-KINDS = ("", "silent", "faulty", "poor", "another second", "another mark", "announced nothing",
-         "announced untrue seconds")
-OF_READER = KINDS[6:]
-
-
-def second(held: Utc) -> irig.Second | None:
-    return irig.Second(held.day, held.sod) if held.day else None
-
-
-def ahead(held: Offset) -> int | None:
-    return held.ahead - held.behind or None
-
-
-def line_of(held: Stretch, names: Sequence[str]) -> str:
-    """The line that docs/OUTPUT.md gives such a stretch, by the package."""
-    kind = KINDS[held.kind]
-    own, first, last = kind in OF_READER, ahead(held.first_offset), ahead(held.last_offset)
-    tells_second = kind in ("another second", "announced untrue seconds")
-    assert tells_second or (first, last) == (None, None)
-    word = str(MARKS[held.told.claim.mark]) if kind == "another mark" else scenes._word(held.told, None)
-    carriers = tuple(port for port, carried in enumerate(held.carriers) if carried)
-    return str(irig.Stretch(
-        names[held.reader], None if own else held.port, kind, held.first_edge, held.last_edge, held.announced,
-        held.untrue, word, CAUSES[held.cause] if kind == "announced nothing" else None, second(held.first_second),
-        second(held.last_second), first if held.is_steady else None, first, last, held.vote_edge or None,
-        () if held.vote_is_true else carriers,
-    ))
-
-
 class Stretches(unittest.TestCase):
     def ran(self, text: bytes, room: int) -> tuple[int, int, list[Stretch], Verdict, Refusal]:
         stretches, whole, verdict, refusal = (Stretch * room)(), c_size_t(7), Verdict(), Refusal()
@@ -182,20 +153,20 @@ class Stretches(unittest.TestCase):
         return status, whole.value, stretches[: whole.value], verdict, refusal
 
     def test_lines(self) -> None:
-        """Of all cases and examples: each line that blame prints before the totals, and no other."""
+        """Of all cases and examples: each line that blame prints before the totals, and no other, as the package
+        writes it of these numbers."""
         kinds = set()
         for name, text in scenarios().items():
             status, told, _ = printed("blame", "-", given=text)
             answer, whole, stretches, verdict, refusal = self.ran(text, 5000)
-            plant = plant_in(text)
-            names, lines = plant.readers if plant else (), told.decode().split("\n")
-            kinds |= {KINDS[held.kind] for held in stretches}
+            lines = told.decode().split("\n")
+            kinds |= {held.kind for held in stretches}
             with self.subTest(name):
                 self.assertLess(whole, 5000)
-                self.assertEqual((answer, [line_of(held, names) for held in stretches]), (status, lines[:whole]))
+                self.assertEqual((answer, [str(one) for one in stretches_of(text)]), (status, lines[:whole]))
                 self.assertRegex(lines[whole], r": \d+ edges, |^refused: line ")
                 self.assertEqual((refusal.line > 0, verdict.kind > 0), (status == REFUSED, status == DONE))
-        self.assertEqual(kinds, set(KINDS[1:]))
+        self.assertEqual(kinds, set(range(1, 8)))
 
     def test_room(self) -> None:
         text, size = (ROOT / "examples/two_liars.jsonl").read_bytes(), ctypes.sizeof(Stretch)

@@ -439,15 +439,13 @@ class Log(Sequence[Entry]):
         return list(rows(self.ticks()))
 
     def blame(self) -> List[Stretch]:
-        """Who lied, or told nothing, and what it cost: what `irig blame` prints of the scenario. A
-        log of `run` gets it by another run, with `all` and `ports`, if it has not all lines.
+        """Who lied, or told nothing, and what it cost: what `irig blame` prints of the scenario. Raises
+        ValueError if a log was read without its scenario."""
+        from .stretches import stretches_of
 
-        A log that was read has to have the lines of `ports`. Without those of `all` the causes of
-        its silences are None. Without the scenario, and with a broken premise, it is not known
-        what is untrue."""
-        from .stretches import stretches_in
-
-        return stretches_in(self)
+        if self.scenario is None:
+            raise ValueError("who lied is said by the scenario, which read_log takes as its second argument")
+        return stretches_of(self.scenario)
 
     def __len__(self) -> int:
         return len(self.entries)

@@ -1,21 +1,24 @@
-"""Who lied, and what it cost: stretches of ticks at which a port told no truth, silences of readers and
-their untrue seconds, by a log with the lines of `all` and `ports`."""
+"""Who lied, and what it cost, as the library finds it: stretches of edges at which a port told no truth,
+silences of readers and their untrue seconds."""
 from __future__ import annotations
 
-from collections import Counter
+import ctypes
 from dataclasses import dataclass
-from itertools import groupby
-from math import inf
-from typing import Dict, Iterable, List, Literal, Optional, Sequence, Tuple, Union, get_args
+from typing import Dict, List, Literal, Optional, Sequence, Tuple, Union, get_args
 
-from .faults import Fault
-from .logs import UNTRUE, Log, PremisesKept, Refused, Said, Tick
-from .scenarios import Timeline, plant_in
+from . import _library as c
+from .faults import detail_of, words_of
+from .logs import UNTRUE, Said
+from .scenarios import plant_in
 from .seconds import DAY, Second
-from .words import Cause, PortKind
+from .words import CAUSES, MARKS, Cause, PortKind
 
 ReaderKind = Literal["announced nothing", "announced untrue seconds"]
 StretchKind = Union[PortKind, ReaderKind]
+
+# By the numbers of C, of which the first is 1.
+KINDS: Tuple[StretchKind, ...] = (*get_args(PortKind)[1:], *get_args(ReaderKind))
+ROOM = 1 << 10  # stretches, at first
 
 DID: Dict[str, str] = {
     "silent": "was silent",
@@ -58,17 +61,16 @@ class Stretch(Said):
         mark"; of the reader "announced nothing" or "announced untrue seconds"
     first, last: its edges
     announced: at how many of them the reader announced a second
-    untrue: how many of those seconds are not true; None if that is not known
+    untrue: how many of those seconds are not true
     word: what the port told at the first edge, as a log has it; None of the reader
-    cause: why the reader was silent; None if it was not, or if that is not known
+    cause: why the reader was silent; None if it was not
     since, until: the true seconds of its first and its last edge: of a port those of the frames
-        that ended there, of the reader those that began; None if they are not known
+        that ended there, of the reader those that began; None beyond the years served
     ahead: by how many seconds the port's second, or the reader's, was ahead of the true one, below
         0 if behind; None if that was not the same at all edges, or is not known
     ahead_first, ahead_last: the same at the first and at the last edge
     vote: the edge of the vote on which untrue seconds of the reader stand; None of all others
-    ports: the ports that told what was voted then; none if that was the truth. A log does not show
-        the mark of another second, so those that told it with another mark count too
+    ports: the ports that told what was voted then; none if that was the truth
     """
 
     reader: str
@@ -77,7 +79,7 @@ class Stretch(Said):
     first: int
     last: int
     announced: int
-    untrue: Optional[int]
+    untrue: int
     word: Optional[str] = None
     cause: Optional[Cause] = None
     since: Optional[Second] = None
@@ -134,121 +136,53 @@ class Stretch(Said):
         return f"{self.announced} seconds{more}"
 
 
-def stretches_in(log: Log) -> List[Stretch]:
-    """The stretches of a log, each at the tick that ends it, and at the end those that are open."""
-    whole = _whole(log)
-    plant = plant_in(whole.scenario) if whole.scenario else None
-    truth = Truth(plant and plant.timeline, isinstance(whole.verdict, PremisesKept))
-    readers = plant.readers if plant else whole.readers
-    return stretches_of(whole.ticks(), readers, truth)
+def stretches_of(scenario: bytes) -> List[Stretch]:
+    """The stretches of a scenario, each at the edge that ends it, and at the end those that are open: what
+    `irig blame` has a line of. Raises MemoryError if memory is out."""
+    plant = plant_in(scenario)
+    names = plant.readers if plant else ()
+    return [_stretch(held, names) for held in _found(scenario, ROOM)]
 
 
-def _whole(log: Log) -> Log:
-    """The log with all its lines: that of another run, if some are missing and there is a scenario."""
-    ticks = list(log.ticks())
-    if all(tick.said and tick.ports for tick in ticks):
-        return log
-    if log.scenario is not None:
-        from .scenes import run
-
-        try:
-            return run(log.scenario, all=True, ports=True)
-        except Refused as refused:
-            return refused.log
-    if not all(tick.ports for tick in ticks):
-        raise ValueError("this log does not have what ports told, which a run with --ports has")
-    return log
+def _found(scenario: bytes, room: int) -> List[c.Stretch]:
+    """What the library finds, by one call of it, and another one if there was too little room."""
+    held, whole, verdict, refusal = (c.Stretch * room)(), ctypes.c_size_t(), c.Verdict(), c.Refusal()
+    status = c.run_stretches(scenario, len(scenario), held, room, whole, verdict, None, 0, refusal)
+    if status not in (c.NUMBERS["RUN_DONE"], c.NUMBERS["RUN_REFUSED"]):
+        raise MemoryError("no memory for the run of a scenario")
+    return list(held[: whole.value]) if whole.value <= room else _found(scenario, whole.value)
 
 
-class Truth:
-    """Which seconds are true, as far as it is known."""
-
-    def __init__(self, timeline: Optional[Timeline], is_kept: bool) -> None:
-        self._timeline = timeline
-        self.is_known = is_kept or timeline is not None
-
-    def second(self, edge: int) -> Optional[Second]:
-        """The second that begins at an edge; None if it is not known, or beyond the years served."""
-        try:
-            return self._timeline.second(edge) if self._timeline else None
-        except Fault:
-            return None
-
-    def is_untrue(self, tick: Tick) -> bool:
-        """Whether the second that is announced at a tick is not that of its edge."""
-        is_judged = bool(self._timeline and tick.second)
-        return is_judged and tick.second != self.second(tick.edge)
-
-
-# Of what a stretch is: a port, or what a reader did. What is the same all along it.
-Lane = Union[int, ReaderKind]
-Same = Tuple[StretchKind, Optional[Cause]]
-
-
-def _standing(tick: Tick, lane: Lane, truth: Truth) -> Optional[Same]:
-    """What is amiss with a port at a tick, or with the reader."""
-    if lane == "announced nothing":
-        return (lane, tick.said.cause if tick.said else None) if tick.second is None else None
-    if lane == "announced untrue seconds":
-        return (lane, None) if truth.is_untrue(tick) else None
-    told = tick.ports.told if tick.ports else ()
-    is_amiss = lane < len(told) and told[lane].kind != "agreed"
-    return (told[lane].kind, None) if is_amiss else None
-
-
-def _ahead(tick: Tick, port: Optional[int], truth: Truth) -> Optional[int]:
-    """By how many seconds the second of a port, or of the reader, is ahead of the true one."""
-    words = tick.ports.told if tick.ports else ()
-    told = tick.second if port is None else words[port].second
-    true = truth.second(tick.edge - (port is not None)) if told else None
-    return told - true if told and true else None
-
-
-def _vote(ticks: Sequence[Tick], place: int) -> Tuple[Optional[int], Tuple[int, ...]]:
-    """The edge of the last vote up to this tick, and the ports that told what was voted."""
-    back = (ticks[number] for number in range(place, -1, -1))
-    tick = next((tick for tick in back if tick.said and tick.said.cause == "voted"), None)
-    if tick is None or tick.ports is None:
-        return None, ()
-    [(voted, _)] = Counter(tick.ports.words).most_common(1)
-    ports = (port for port, word in enumerate(tick.ports.words) if word == voted != "ok")
-    return tick.edge, tuple(ports)
-
-
-def _stretch(
-    own: Sequence[Tick], begun: int, end: int, port: Optional[int], same: Same, truth: Truth
-) -> Stretch:
-    """The stretch from one place of a reader's ticks up to another."""
-    ticks, (kind, cause) = own[begun:end], same
-    first, last, said = ticks[0], ticks[-1], sum(tick.second is not None for tick in ticks)
-    untrue = sum(map(truth.is_untrue, ticks)) if truth.is_known else None
-    word = first.ports.words[port] if first.ports and port is not None else None
-    since, until = (truth.second(tick.edge - (port is not None)) for tick in (first, last))
-    aheads = [_ahead(tick, port, truth) for tick in ticks]
-    ahead = aheads[0] if len(set(aheads)) == 1 else None
-    vote = _vote(own, begun) if kind == "announced untrue seconds" else (None, ())
+def _stretch(held: c.Stretch, names: Sequence[str]) -> Stretch:
+    """A stretch by its numbers."""
+    kind, edges = KINDS[held.kind - 1], held.last_edge - held.first_edge + 1
+    is_silence, is_own = kind == "announced nothing", kind in get_args(ReaderKind)
+    own = 0 if is_silence else edges
+    first, last = _ahead(held.first_offset), _ahead(held.last_offset)
+    carriers = (port for port, told in enumerate(held.carriers) if told and not held.vote_is_true)
     return Stretch(
-        first.reader, port, kind, first.edge, last.edge, said, untrue, word, cause, since, until,
-        ahead, aheads[0], aheads[-1], *vote,
+        names[held.reader], None if is_own else held.port, kind, held.first_edge, held.last_edge,
+        own if is_own else held.announced, own if is_own else held.untrue,
+        None if is_own else _word(kind, held.told), CAUSES[held.cause] if is_silence else None,
+        _second(held.first_second), _second(held.last_second), first if held.is_steady else None, first, last, held.vote_edge or None, tuple(carriers),
     )
 
 
-def stretches_of(ticks: Iterable[Tick], readers: Iterable[str], truth: Truth) -> List[Stretch]:
-    """The stretches of some ticks, each where the reader's next tick ends it; at the end those that are
-    open, by the order of the readers. Of one tick ports come first, and untrue seconds last."""
-    of_readers: Dict[str, List[Tuple[int, Tick]]] = {reader: [] for reader in readers}
-    for number, tick in enumerate(ticks):
-        of_readers.setdefault(tick.reader, []).append((number, tick))
-    found = []
-    for place, numbered in enumerate(of_readers.values()):
-        ends: List[float] = [*(number for number, _ in numbered[1:]), inf]
-        own = [tick for _, tick in numbered]
-        ports = max((len(tick.ports.words) for tick in own if tick.ports), default=0)
-        for order, lane in enumerate((*range(ports), *get_args(ReaderKind))):
-            at, port = 0, lane if isinstance(lane, int) else None
-            for same, group in groupby(own, lambda tick: _standing(tick, lane, truth)):
-                begun, at = at, at + len(list(group))
-                if same:
-                    stretch = _stretch(own, begun, at, port, same, truth)
-                    found.append((ends[at - 1], place, order, stretch))
-    return [one[-1] for one in sorted(found, key=lambda one: one[:3])]
+def _second(utc: c.Utc) -> Optional[Second]:
+    """A true second; on day 0 there is none that is served."""
+    return Second(utc.day, utc.sod) if utc.day else None
+
+
+def _ahead(offset: c.Offset) -> Optional[int]:
+    return offset.ahead - offset.behind or None
+
+
+def _word(kind: StretchKind, told: c.Told) -> str:
+    """What a port told, as a log has it."""
+    if kind == "faulty":
+        return f"fault:{words_of(*detail_of(told.fault)).replace(' ', ':')}"
+    if kind == "poor":
+        return f"poor:{told.quality}"
+    if kind == "another mark":
+        return str(MARKS[told.claim.mark])
+    return "silence" if kind == "silent" else str(Second(told.claim.at.day, told.claim.at.sod))

@@ -4,16 +4,12 @@ from __future__ import annotations
 
 import unittest
 from datetime import datetime, timezone
-from typing import Iterator, List
+from typing import Iterator
 
 from irig import Announced, PortWord, Ports, PremiseBroken, PremisesKept, Second, Silent, TableBroken, read_log
 from irig.logs import RefusedLine, Tick, read_lines, ticks_of
 
 # Two readers, and a plant that starts at 23:59:50: relay's second at edge 3 is one too late.
-SCENARIO = (
-    '{"version":1,"start":"2016-12-31T23:59:50Z","leaps":[{"day":"2016-12-31","kind":"insert"}],'
-    '"readers":[{"name":"relay"},{"name":"meter"}]}\n'
-)
 LINES = """\
 1 meter - unlocked no-vote
  1 meter silence silence silence
@@ -186,95 +182,9 @@ class Whole(unittest.TestCase):
 
 
 class Blame(unittest.TestCase):
-    """Who lied, and what it cost."""
-
-    def lines(self, text: str, scenario: str = "") -> List[str]:
-        return [str(stretch) for stretch in read_log(text, scenario or None).blame()]
-
-    def test_each_kind(self) -> None:
-        self.assertEqual(self.lines(LINES + BROKEN, SCENARIO), [
-            "2016-12-31T23:59:50Z, edge 1: port 1 of relay was faulty, first fault:3:Pulse:12;"
-            " relay announced nothing",
-            "2016-12-31T23:59:51Z, edge 1: relay announced nothing: acquiring, not yet enough votes in a"
-            " row",
-            "2016-12-31T23:59:50Z, edge 1: port 2 of meter was silent; meter announced nothing",
-            "2016-12-31T23:59:51Z, edge 2: port 2 of relay was poor, first poor:11;"
-            " relay announced 1 second",
-            "2016-12-31T23:59:51Z to 2016-12-31T23:59:52Z, edges 2 to 3: port 1 of relay told another"
-            " second, 1 s ahead, first 2016-12-31T23:59:52Z; relay announced 2 seconds, 1 of them untrue",
-            "2016-12-31T23:59:53Z, edge 3: relay announced untrue seconds, 1 s ahead, held by its table",
-            "2016-12-31T23:59:53Z, edge 4: port 1 of relay was faulty, first fault:5:Digit:hour;"
-            " relay announced 1 second",
-            "2016-12-31T23:59:52Z to 2016-12-31T23:59:53Z, edges 3 to 4: port 2 of relay told another"
-            " mark, first no-leap; relay announced 2 seconds, 1 of them untrue",
-            "2016-12-31T23:59:55Z, edge 5: relay announced nothing: jump, the vote was for another second"
-            " than the one that followed",
-            "2016-12-31T23:59:56Z, edge 6: relay announced nothing: acquiring, not yet enough votes in a"
-            " row",
-            *("2016-12-31T23:59:50Z to 2016-12-31T23:59:51Z, edges 1 to 2:"
-              f" port {port} of meter was silent; meter announced nothing" for port in (0, 1)),
-            "2016-12-31T23:59:51Z to 2016-12-31T23:59:52Z, edges 1 to 2: meter announced nothing:"
-            " no-vote, there was no vote, and nothing to count from",
-        ])
-
-    def test_one_untrue_second(self) -> None:
-        text = "1 relay 2016-12-31T23:59:50Z locked voted\n 1 relay no-leap no-leap ok\n" + BROKEN
-        self.assertEqual(self.lines(text, SCENARIO), [
-            *(f"2016-12-31T23:59:50Z, edge 1: port {port} of relay told another mark, first no-leap;"
-              " relay announced 1 second, untrue" for port in (0, 1)),
-            "2016-12-31T23:59:51Z, edge 1: relay announced untrue seconds, 1 s behind, as port 0, port 1 told"
-            " at edge 1",
-        ])
-
-    def test_fields(self) -> None:
-        faulty = read_log(LINES + BROKEN, SCENARIO).blame()[0]
-        self.assertEqual((faulty.reader, faulty.port, faulty.kind), ("relay", 1, "faulty"))
-        self.assertEqual((faulty.first, faulty.last, faulty.edges), (1, 1, 1))
-        self.assertEqual((faulty.announced, faulty.untrue), (0, 0))
-        self.assertEqual((faulty.word, faulty.cause), ("fault:3:Pulse:12", None))
-        silence = read_log(LINES + BROKEN, SCENARIO).blame()[1]
-        self.assertEqual((silence.port, silence.kind), (None, "announced nothing"))
-        self.assertEqual((silence.word, silence.cause), (None, "acquiring"))
-        begins = Second.read("2016-12-31T23:59:51Z")
-        self.assertEqual((silence.since, silence.until, silence.ahead), (begins, begins, None))
-
-    def test_fields_of_untrue_seconds(self) -> None:
-        """Two ports are 9 s ahead of 23:59:59; what is announced is 10 s ahead of 23:59:60, and then of
-        the second after it."""
-        text = (
-            "10 relay 2017-01-01T00:00:09Z locked voted\n"
-            " 10 relay 2017-01-01T00:00:08Z ok 2017-01-01T00:00:08Z\n"
-            "11 relay 2017-01-01T00:00:10Z holdover:1 held\n 11 relay silence silence silence\n"
-        )
-        *ports, untrue = read_log(text + BROKEN, SCENARIO).blame()
-        liars = [said for said in ports if said.kind == "another second"]
-        self.assertEqual([(said.port, said.ahead, said.untrue) for said in liars], [(0, 9, 1), (2, 9, 1)])
-        self.assertEqual((untrue.kind, untrue.port), ("announced untrue seconds", None))
-        self.assertEqual((untrue.vote, untrue.ports, untrue.untrue), (10, (0, 2), 2))
-        self.assertEqual((untrue.ahead, untrue.ahead_first, untrue.ahead_last), (10, 10, 10))
-        self.assertEqual((str(untrue.since), str(untrue.until)), (
-            "2016-12-31T23:59:60Z", "2017-01-01T00:00:00Z",
-        ))
-
-    def test_what_is_not_known(self) -> None:
-        """Without the scenario, a log that vouches for itself has no untrue second."""
-        untrue = {stretch.untrue for stretch in read_log(LINES + KEPT).blame()}
-        self.assertEqual(untrue, {0})
-        broken = read_log(LINES + BROKEN).blame()
-        self.assertEqual({(said.untrue, said.since, said.ahead) for said in broken}, {(None, None, None)})
-        self.assertEqual(str(broken[4]), (
-            "edges 2 to 3: port 1 of relay told another second, first 2016-12-31T23:59:52Z;"
-            " relay announced 2 seconds"
-        ))
-        without_all = "".join(
-            f"{line}\n" for line in LINES.splitlines() if line.startswith(" ") or " - " not in line
-        )
-        silences = [said for said in read_log(without_all + KEPT).blame() if said.port is None]
-        self.assertEqual([(said.reader, said.first, said.last, said.cause) for said in silences], [
-            ("relay", 1, 1, None), ("meter", 1, 2, None), ("relay", 5, 6, None),
-        ])
-        with self.assertRaisesRegex(ValueError, "--ports"):
-            read_log("1 relay - unlocked no-vote\n" + KEPT).blame()
+    def test_without_a_scenario(self) -> None:
+        with self.assertRaisesRegex(ValueError, "read_log takes"):
+            read_log(LINES + KEPT).blame()
 
 
 if __name__ == "__main__":

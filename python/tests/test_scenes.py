@@ -13,6 +13,7 @@ from unittest import mock
 import irig
 from irig import Announced, PremiseBroken, PremisesKept, Second, Silent, TableBroken
 from irig.scenarios import Reader, Scenario
+from irig.stretches import ROOM
 from program import ROOT, all_cases, cases, printed, told
 
 
@@ -154,8 +155,7 @@ class Sources(unittest.TestCase):
 
 
 class Blame(unittest.TestCase):
-    """Who lied, in one line; test_logs.py has what each word means, and tests/blame compares all lines
-    with the program's."""
+    """Who lied, and what it cost. c/test_scene.py compares the lines of all cases with the program's."""
 
     WANTED = [
         "2017-06-30T23:59:49Z, edge 1: relay announced nothing: acquiring, not yet enough votes in a row",
@@ -172,6 +172,31 @@ class Blame(unittest.TestCase):
         with self.assertRaises(irig.Refused) as caught:
             irig.run(example("one_liar") + "[]\n")
         self.assertEqual([str(it) for it in caught.exception.log.blame()], self.WANTED)
+        read = irig.read_log("1 relay - unlocked no-vote\npremises kept\n", path.read_bytes())
+        self.assertEqual([str(it) for it in read.blame()], self.WANTED)
+
+    def test_fields(self) -> None:
+        """Two of three ports are an hour ahead from edge 5 on, and the reader follows at edge 7."""
+        *_, liar, other, misled = irig.run(example("two_liars")).blame()
+        self.assertEqual((liar.reader, liar.port, other.port, liar.kind), ("relay", 0, 1, "another second"))
+        self.assertEqual((liar.first, liar.last, liar.edges, liar.announced, liar.untrue), (5, 10, 6, 4, 4))
+        self.assertEqual((liar.word, liar.cause, liar.vote, liar.ports), ("2016-06-15T13:00:04Z", None, None, ()))
+        self.assertEqual((liar.ahead, liar.ahead_first, liar.ahead_last), (3600, 3600, 3600))
+        self.assertEqual((misled.port, misled.kind, misled.word), (None, "announced untrue seconds", None))
+        self.assertEqual((misled.announced, misled.untrue, misled.vote, misled.ports), (4, 4, 7, (0, 1)))
+        silence = irig.run(example("one_liar")).blame()[0]
+        self.assertEqual((silence.kind, silence.cause), ("announced nothing", "acquiring"))
+        self.assertEqual((silence.announced, silence.untrue, silence.ahead), (0, 0, None))
+        self.assertEqual(str(silence.since), str(silence.until))
+        (held,) = (it for it in irig.run(example("misled_by_table")).blame() if it.port is None)
+        self.assertEqual((held.vote, held.ports), (1, ()))
+
+    def test_more_than_there_is_room_for(self) -> None:
+        plant = Scenario("2016-06-15T12:00:00Z", [Reader("relay", 1, 10)])
+        for _ in range(400):
+            plant.dark(1)
+            plant.seconds(1)
+        self.assertGreater(len(irig.run(plant).blame()), ROOM)
 
 
 class Refusals(unittest.TestCase):

@@ -90,7 +90,7 @@ def draw_axis(axes: Axes, bars: Bars, scale: Scale) -> None:
     axes.set_xticks([scale.place(edge) for edge in ticks], texts_of(bars, ticks))
     axes.set_yticks([])
     axes.tick_params(labelsize=NORMAL)
-    label = f"edge (one a second), and UTC{'' if bars.truth.is_known else ' as announced'}"
+    label = f"edge (one a second), and UTC{'' if bars.timeline else ' as announced'}"
     if scale.is_cut:
         label += "; at slanted lines nothing changes, and the axis is shortened"
     if any(is_widened(run, scale) for lane in bars.lanes for run in amiss_in(lane)):

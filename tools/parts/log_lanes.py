@@ -10,11 +10,12 @@ from typing import get_args
 
 from parts import package  # noqa: F401
 
+from irig.faults import Fault
 from irig.logs import ENTRIES, Announced, LastLine, Ports, PremiseBroken, Reading, RefusedLine, Silent, Tick
 from irig.logs import read_lines, ticks_of
 from irig.scenarios import Timeline, made_edges, plant_in
 from irig.seconds import EPOCH, Second, day_number
-from irig.stretches import Truth, stretches_of
+from irig.stretches import Stretch, stretches_of
 from irig.words import CAUSES
 
 
@@ -56,7 +57,6 @@ KINDS = {  # for the scripts of pages: states in the order in which they are dra
 }
 
 LAST_LINES = get_args(LastLine)
-UNKNOWN = Truth(None, False)
 
 
 @dataclass
@@ -99,12 +99,12 @@ class Bars:
     last: int
     verdict: str | None
     announced: list[Announced]
-    truth: Truth = UNKNOWN
+    timeline: Timeline | None = None
 
     def utc(self, edge: int) -> Second | None:
         """The second that begins at an edge, by the scenario; if that is not known, as it is announced."""
         announced = (entry.second for entry in self.announced if entry.edge == edge)
-        return self.truth.second(edge) if self.truth.is_known else next(announced, None)
+        return due(self.timeline, edge) if self.timeline else next(announced, None)
 
     def part(self, first: int, last: int) -> Bars:
         """These edges alone."""
@@ -119,7 +119,7 @@ class Bars:
             for lane in self.lanes
         ]
         announced = [entry for entry in self.announced if first <= entry.edge <= last]
-        return Bars(lanes, first, last, self.verdict, announced, self.truth)
+        return Bars(lanes, first, last, self.verdict, announced, self.timeline)
 
 
 def _cut(runs: list[Run], first: int, last: int) -> list[Run]:
@@ -131,17 +131,26 @@ def _cut(runs: list[Run], first: int, last: int) -> list[Run]:
     ]
 
 
-def bars_of(lines: Iterable[str], timeline: Timeline | None = None) -> Bars:
-    """What is drawn of a log, and of the timeline of its scenario; a ValueError if there is nothing to
+def due(timeline: Timeline, edge: int) -> Second | None:
+    """The second that begins at an edge; None beyond the years served."""
+    try:
+        return timeline.second(edge)
+    except Fault:
+        return None
+
+
+def bars_of(lines: Iterable[str], scenario: str = "") -> Bars:
+    """What is drawn of a log, and of its scenario, if that is known; a ValueError if there is nothing to
     draw, or a line is none of a log."""
     said = list(read_lines(lines))
     if not any(isinstance(line, ENTRIES) for line in said):
         raise ValueError(f"no edges to draw: {_why_none(said[-1] if said else None)}")
-    return _bars_of(said, Truth(timeline, False))
+    plant = plant_in(scenario)
+    return _bars_of(said, plant.timeline, stretches_of(scenario.encode())) if plant else _bars_of(said)
 
 
-def _bars_of(said: list, truth: Truth = UNKNOWN) -> Bars:
-    """What is drawn of these lines, perhaps nothing."""
+def _bars_of(said: list, timeline: Timeline | None = None, found: Iterable[Stretch] = ()) -> Bars:
+    """What is drawn of these lines, perhaps nothing, and of what a scenario's readers and ports did wrong."""
     verdict = said.pop() if said and isinstance(said[-1], LAST_LINES) else None
     ticks = list(ticks_of(said))
     of_readers: dict[str, list[Tick]] = {}
@@ -151,13 +160,13 @@ def _bars_of(said: list, truth: Truth = UNKNOWN) -> Bars:
     first = min(tick.edge for tick in ticks) if has_silences else 1
     last = max((tick.edge for tick in ticks), default=1)
     lanes = [lane_of(reader, ticks, first, last) for reader, ticks in of_readers.items()]
-    for lane in lanes if truth.is_known else []:
-        lane.offsets = _offset_runs(lane.reader, of_readers[lane.reader], truth)
     for lane in lanes:
+        own = (one for one in found if one.reader == lane.reader and (one.port is None or lane.ports))
+        lane.offsets = _cut(_offset_runs(own), first, last)
         if isinstance(verdict, PremiseBroken) and lane.reader == verdict.reader:
             lane.marks.append(Mark(verdict.edge, "premise broken"))
     announced = [tick.said for tick in ticks if isinstance(tick.said, Announced)]
-    return Bars(lanes, first, last, None if verdict is None else str(verdict), announced, truth)
+    return Bars(lanes, first, last, None if verdict is None else str(verdict), announced, timeline)
 
 
 def lane_of(reader: str, ticks: list[Tick], first: int, last: int) -> Lane:
@@ -190,11 +199,11 @@ def _port_runs(ticks: list[Tick]) -> list[list[Run]]:
     return found
 
 
-def _offset_runs(reader: str, ticks: list[Tick], truth: Truth) -> list[Run]:
+def _offset_runs(stretches: Iterable[Stretch]) -> list[Run]:
     """The runs of seconds that are not the scenario's; ports that are as far from it at the same edges have
     one, and the reader has its own."""
     found: dict[tuple, list[str]] = {}
-    for one in stretches_of(ticks, [reader], truth):
+    for one in stretches:
         if one.offset:
             ports = found.setdefault((one.first, one.last, one.kind, one.offset), [])
             ports += [] if one.port is None else [f"port {one.port}"]

@@ -277,24 +277,24 @@ class Pictures(unittest.TestCase):
 
     def test_utc_and_offsets(self) -> None:
         """The plant starts at 23:59:59: edge 1 is the leap second, and of a clock that has none the first frame
-        is 17 s ahead, the next one 18 s. At edge 3 the reader is an hour ahead."""
-        scenario = '{"start":"2016-12-31T23:59:59Z","leaps":[{"day":"2016-12-31","kind":"insert"}],"readers":[]}'
-        log = ("1 relay 2016-12-31T23:59:60Z locked voted\n 1 relay ok ok 2017-01-01T00:00:16Z\n"
-               "2 relay 2017-01-01T00:00:00Z locked voted\n 2 relay ok ok 2017-01-01T00:00:17Z\n"
-               "3 relay 2017-01-01T01:00:01Z holdover:1 held\n 3 relay ok silence silence\n")
-        with tempfile.NamedTemporaryFile("w") as file:
-            file.write(scenario)
-            file.flush()
-            found = texts(plot(log, "--scenario", file.name)[1])
-            part = texts(plot(log, "--scenario", file.name, "--edges", "2-2")[1])
-        for text in ("1 to 2: 17 s ahead at first, 18 s ahead at last, port 2", "3: 1 h ahead", "23:59:60",
-                     "2016-12-31", "00:00:00", "2017-01-01", "00:00:01", "edge (one a second), and UTC"):
+        is 17 s ahead, the next ones 18 s. In two_liars the reader is an hour ahead from edge 7 on."""
+        scenario = str(ROOT / "cases/blame_gps_time_over_a_leap/scenario.jsonl")
+        log = ("1 relay 2016-12-31T23:59:60Z locked voted\n 1 relay ok 2017-01-01T00:00:16Z ok\n"
+               "2 relay 2017-01-01T00:00:00Z locked voted\n 2 relay ok 2017-01-01T00:00:18Z ok\n"
+               "3 relay 2017-01-01T00:00:01Z locked voted\n 3 relay ok 2017-01-01T00:00:18Z ok\n")
+        found = texts(plot(log, "--scenario", scenario)[1])
+        part = texts(plot(log, "--scenario", scenario, "--edges", "2-2")[1])
+        for text in ("1 to 3: 17 s ahead at first, 18 s ahead at last, port 1", "23:59:60", "2016-12-31",
+                     "00:00:00", "2017-01-01", "00:00:01", "edge (one a second), and UTC"):
             self.assertIn(text, found)
-        self.assertIn("2: 17 s ahead at first, 18 s ahead at last, port 2", part)
-        self.assertNotIn("3: 1 h ahead", part)
+        self.assertIn("2: 17 s ahead at first, 18 s ahead at last, port 1", part)
         alone = texts(plot(log)[1])
-        self.assertIn("01:00:01", alone)
         self.assertFalse(any("ahead" in text for text in alone))
+        liars = "\n".join(example("two_liars"))
+        misled = texts(plot(liars, "--scenario", str(ROOT / "examples/two_liars.jsonl"))[1])
+        self.assertIn("7 to 10: 1 h ahead", misled)
+        self.assertFalse(any("port" in text for text in misled), "it has not what ports told")
+        self.assertIn("13:00:07", texts(plot(liars)[1]))
 
     def test_a_short_lie_is_drawn_wider(self) -> None:
         lines = [f" {edge} relay ok ok ok" for edge in range(1, 20_001)]
