@@ -146,7 +146,7 @@ fn a_write_that_breaks_leaves_a_front_of_the_text(rt: HostRuntime) {
 fn each_fault_has_its_text(rt: HostRuntime) -> Result<(), Fail> {
     let refused = SceneFault::Refused {
         line: 1,
-        number: 24,
+        refusal: Refusal::Json,
     };
     let rows = [
         (SceneFault::Read, "read failed"),
