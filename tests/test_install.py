@@ -1,6 +1,6 @@
 #!/usr/bin/env python3
-"""Tests of `make install`, `make uninstall`, `make deb` and packaging/release: which files stand where, and that
-what was put there runs with an empty environment, as on a machine without the toolchain.
+"""Tests of `make install`, `make uninstall`, `make deb`, of the same in c/, and of packaging/release: which files
+stand where, and that what was put there runs with an empty environment, as on a machine without the toolchain.
 tests/test_packaging.py has what packages are beyond their programs, that they are proved, and what is refused."""
 import gzip
 import hashlib
@@ -12,13 +12,18 @@ import subprocess
 import sys
 import tempfile
 import unittest
+from itertools import product
 from pathlib import Path
 
-ROOT = Path(__file__).resolve().parent.parent
+from as_module import loaded
+from case_files import PROGRAM, ROOT
+from stand_ins import files_below
+
 sys.path.insert(0, str(ROOT / "tools/tests"))
 
 import browser  # noqa: E402
-from stand_ins import files_below  # noqa: E402
+
+C = ROOT / "c"
 
 # docs/QUICKSTART.md: the first frame of the page.
 FRAME = (
@@ -108,8 +113,7 @@ class Installed(unittest.TestCase):
         subprocess.run(["dpkg-deb", "-x", package, top], check=True)
         self.runs(top / "usr/bin/irig")
         self.plays(top / "usr/bin/irig", top / "usr/share/doc/irig/examples")
-        built = ROOT / "crates/irig_main/out/irig_main"
-        self.assertEqual(self.code(top / "usr/bin/irig"), self.code(built))
+        self.assertEqual(self.code(top / "usr/bin/irig"), self.code(PROGRAM))
         manual = top / "usr/share/man/man1/irig.1.gz"
         self.assertEqual(gzip.decompress(manual.read_bytes()), (ROOT / "docs/irig.1").read_bytes())
         notice = (top / "usr/share/doc/irig/copyright").read_text()
@@ -150,22 +154,15 @@ BOARDS = {
 }
 
 
-class Release(unittest.TestCase):
-    """A release, as who has nothing else uses it."""
+class OnceForAll(unittest.TestCase):
+    """What is made once, in a folder for all tests of it."""
     folder: Path
-    top: Path
 
     @classmethod
     def setUpClass(cls) -> None:
-        commands = ("dpkg-shlibdeps", "wasm-opt", "aarch64-linux-gnu-gcc", "cmake")
-        if missing := [command for command in commands if not shutil.which(command)]:
-            print(f"skipped: a release: {missing[0]} is missing")
-            raise unittest.SkipTest(missing[0])
         folder = tempfile.TemporaryDirectory()
         cls.addClassCleanup(folder.cleanup)
         cls.folder = Path(folder.name)
-        cls.top = cls.folder / "release"
-        cls.said(ROOT / "packaging/release", cls.top)
 
     @classmethod
     def said(cls, *words: str | Path, **more: object) -> str:
@@ -174,6 +171,131 @@ class Release(unittest.TestCase):
         if ran.returncode:
             raise AssertionError(f"{words}: {ran.stdout}{ran.stderr}")
         return ran.stdout
+
+
+BOTH = """#include "irig.h"
+#include "irig_scene.h"
+int main(void) {
+    size_t whole = 0; irig_utc second = {6209, 0}; irig_coded coded;
+    return irig_run(NULL, 0, false, NULL, 0, &whole) + irig_coded_of(&second, 0, &coded);
+}
+"""
+
+
+class OfC(OnceForAll):
+    """What `make -C c` makes and installs here, for programs that know it by pkg-config, by CMake or by its place."""
+    prefix: Path
+    layout: str
+    path: dict[str, str]
+
+    @classmethod
+    def setUpClass(cls) -> None:
+        super().setUpClass()
+        cls.prefix = cls.folder / "usr"
+        lib = cls.prefix / "lib"
+        cls.path = {**os.environ, "PKG_CONFIG_PATH": str(lib / "pkgconfig"), "LD_LIBRARY_PATH": str(lib)}
+        (cls.layout,) = re.findall(r"^#define IRIG_LAYOUT (\d+)$", (C / "irig.h").read_text(), re.M)
+        make("-C", "c", "install", f"PREFIX={cls.prefix}")
+        (cls.folder / "both.c").write_text(BOTH)
+
+    def test_calls(self) -> None:
+        """Those that a header declares, by their names for the linker, are those that its library shows."""
+        for name in ("irig", "irig_scene"):
+            calls = re.findall(r"^[a-z].*[ *](irig_[a-z_]*)\(", (C / f"{name}.h").read_text(), re.M)
+            declared = [f"{call}_layout_{self.layout}" if call != "irig_version" else call for call in calls]
+            shown = self.said("nm", "-D", "--defined-only", C / f"out/lib{name}.so.{self.layout}")
+            self.assertEqual(sorted(declared), sorted(re.findall(r" T (.*)", shown)))
+
+    def test_page(self) -> None:
+        """The first block of code of docs/C.md, pasted, prints the second, behind what `make` prints."""
+        pasted, (shown,), *_ = loaded(ROOT / "tools/repo/commands").codes((ROOT / "docs/C.md").read_text())
+        top = self.folder / "page"
+        top.mkdir()
+        for name in ("c", "crates"):
+            (top / name).symlink_to(ROOT / name)
+        self.assertEqual(self.said("bash", "-ec", "\n".join(pasted), cwd=top).splitlines()[-1], shown)
+        self.assertEqual(self.said(PROGRAM, "frame", "2016-12-31T23:59:60Z").replace(" ", ""), f"{shown}\n")
+
+    def test_examples(self) -> None:
+        """By what pkg-config says, and with the static library."""
+        log = self.said(PROGRAM, "run", C / "examples/leap_second.jsonl", "--all")
+        inserted = ROOT / "examples/leap_inserted.jsonl"
+        for example, name, words, wanted in (
+            ("leap_second", "irig", [], "".join(log.splitlines(keepends=True)[:-1])),
+            ("run", "irig_scene", [inserted], inserted.with_suffix(".log").read_text()),
+        ):
+            flags = self.said("pkg-config", "--cflags", "--libs", name, env=self.path).split()
+            for found in (flags, [f"-I{self.prefix}/include", self.prefix / f"lib/lib{name}.a"]):
+                self.said("cc", C / f"examples/{example}.c", *found, "-o", example)
+                self.assertEqual(self.said(self.folder / example, *words, env=self.path), wanted)
+            version = self.said("pkg-config", "--modversion", name, env=self.path)
+            self.assertEqual(f"irig {version}", self.said(PROGRAM, "--version"))
+
+    def test_both_libraries(self) -> None:
+        """In one program, in either order, which ends by 3, NoPlant."""
+        found = [self.prefix / f"lib/lib{name}.a" for name in ("irig", "irig_scene")]
+        for libraries in (found, found[::-1]):
+            self.said("cc", f"-I{self.prefix}/include", "both.c", *libraries, "-o", "both")
+            self.assertEqual(subprocess.run([self.folder / "both"]).returncode, 3)
+
+    def test_layouts(self) -> None:
+        """What is compiled with these headers links, and with those of another layout it does not, whatever a
+        compiler and the linker leave out."""
+        other = shutil.copytree(self.prefix / "include", self.folder / "other")
+        header, before = other / "irig.h", int(self.layout) - 1
+        text = re.sub(r"(?m)^(#define IRIG_LAYOUT) .*", rf"\1 {before}", header.read_text())
+        header.write_text(text)
+        for compiler, kind in product(("gcc -std=c99", "clang -std=c99", "g++", "clang++"), ("a", "so")):
+            if not shutil.which(compiler.split()[0]):
+                print(f"skipped: layouts by {compiler}, which is missing")
+                continue
+            libraries = [self.prefix / f"lib/lib{name}.{kind}" for name in ("irig", "irig_scene")]
+            link = [*compiler.split(), "-O2", "-ffunction-sections", "-fdata-sections", "-Wl,--gc-sections", "both.c",
+                    *libraries, "-o", "linked"]
+            self.said(*link, f"-I{self.prefix}/include")
+            ran = subprocess.run([*link, f"-I{other}"], cwd=self.folder, capture_output=True, text=True)
+            missed = re.findall(rf"irig_(?:run|coded_of)_layout_{before}\b", ran.stderr)
+            self.assertEqual((ran.returncode != 0, len(missed)), (True, 2), f"{compiler}, .{kind}: {ran.stderr}")
+
+    def test_uninstall(self) -> None:
+        to = self.folder / "and away"
+        make("-C", "c", "install", f"PREFIX={to}")
+        self.assertRegex((to / "share/doc/libirig/THIRD_PARTY").read_text(), "(?m)^arrayvec ")
+        make("-C", "c", "uninstall", f"PREFIX={to}")
+        self.assertEqual(files_below(to), set())
+
+    def test_elsewhere(self) -> None:
+        """With DESTDIR, which stands in no file, and another LIBDIR."""
+        top = self.folder / "destination"
+        make("-C", "c", "install", f"DESTDIR={top}", "PREFIX=/usr", "LIBDIR=/usr/lib/here")
+        lib = top / "usr/lib/here"
+        for path in (lib / "pkgconfig").iterdir():
+            self.assertNotIn(str(top), path.read_text())
+        path = {**os.environ, "PKG_CONFIG_PATH": str(lib / "pkgconfig")}
+        self.assertEqual(self.said("pkg-config", "--variable=libdir", "irig", env=path), "/usr/lib/here\n")
+        if not shutil.which("cmake"):
+            print("skipped: what CMake finds: cmake is missing")
+            self.skipTest("cmake")
+        self.said("cmake", "-S", C / "examples", "-B", "by_cmake", f"-Dirig_DIR={lib}/cmake/irig")
+        self.said("cmake", "--build", "by_cmake")
+        inserted = ROOT / "examples/leap_inserted.jsonl"
+        wanted = inserted.with_suffix(".log").read_text()
+        self.assertEqual(self.said(self.folder / "by_cmake/run", inserted), wanted)
+
+
+class Release(OnceForAll):
+    """A release, as who has nothing else uses it."""
+    top: Path
+
+    @classmethod
+    def setUpClass(cls) -> None:
+        commands = ("dpkg-shlibdeps", "wasm-opt", "aarch64-linux-gnu-gcc", "cmake")
+        if missing := [command for command in commands if not shutil.which(command)]:
+            print(f"skipped: a release: {missing[0]} is missing")
+            raise unittest.SkipTest(missing[0])
+        super().setUpClass()
+        cls.top = cls.folder / "release"
+        cls.said(ROOT / "packaging/release", cls.top)
 
     def log(self, *words: str | Path) -> str:
         return self.said(self.top / "x86_64-linux-gnu/bin/irig", "run", *words, env={})
