@@ -80,15 +80,22 @@ class Lane { // one reader
     Object.assign(this, { reader, marks: [], ports: [], before: { edge: 1, day: -1, sod: 0, month: -1 } });
     this.runs = new Runs(Uint8Array, Uint8Array); // states and causes
     for (const name of ["edges", "told_edges", "ends"]) this[name] = new Numbers(Float64Array);
-    for (const name of ["lines", "told_lines", "makers"]) this[name] = new Numbers(Uint32Array);
+    for (const name of ["lines", "days", "sods", "told_lines", "makers"]) this[name] = new Numbers(Uint32Array);
+    this.lies = Object.fromEntries(["edges", "ports", "days", "sods"].map((name) => [name, new Numbers(Float64Array)]));
   }
 
-  add(edge, state, cause, line) {
+  add(edge, state, cause, line, day, sod) { // day and second are 0 in a silence
     const { last } = this.runs.lasts;
     if (edge > last + 1) this.runs.push(last + 1, edge - 1, NOT_ANNOUNCED, 0);
     this.runs.add(edge, state, cause);
     this.edges.push(edge);
     this.lines.push(line);
+    this.days.push(day);
+    this.sods.push(sod);
+  }
+
+  lie(...row) { // the edge, the port, and the day and second that it told
+    Object.values(this.lies).forEach((numbers, place) => numbers.push(row[place]));
   }
 
   make(edge, line) { // which line of the scenario asked for the edge
@@ -131,8 +138,9 @@ class Lane { // one reader
       const { kinds: [told], ...edges } = port.whole(first);
       return { ...edges, states: told };
     });
-    const names = ["edges", "lines", "told_edges", "told_lines", "ends", "makers"];
-    const numbers = Object.fromEntries(names.map((name) => [name, this[name].whole()]));
+    const names = ["edges", "lines", "days", "sods", "told_edges", "told_lines", "ends", "makers"];
+    const whole = (of, wanted) => Object.fromEntries(wanted.map((name) => [name, of[name].whole()]));
+    const numbers = { ...whole(this, names), lies: whole(this.lies, Object.keys(this.lies)) };
     const marks = this.marks.filter(([at]) => at > first - 0.5);
     return { reader: this.reader, marks, firsts, lasts, states, causes, ports, ...numbers };
   }

@@ -257,12 +257,12 @@ class ScenarioTab {
     const parts = [`${edge} ${lane.reader}: not announced, no line in this log`], told = lane.told_at(edge);
     if (line >= 0) {
       const run = first_after(lane.lasts, edge), [meaning, look] = data.causes[this.timeline.causes[lane.causes[run]]];
-      parts[0] = with_offsets(this.log.lines.at(line), this.clock(edge));
+      parts[0] = with_offsets(this.log.lines.at(line), lane.seconds_at(edge), this.clock.at(edge));
       parts.push(meaning + (look ? ` (${look})` : ""));
     }
     if (told >= 0) {
-      const words = this.log.lines.at(told).slice(` ${edge} ${lane.reader}`.length);
-      parts.push(`ports told:${with_offsets(words, this.clock(edge - 1))}`);
+      const words = with_offsets(this.log.lines.at(told), lane.lies_at(edge), this.clock.at(edge - 1));
+      parts.push(words.replace(` ${edge} ${lane.reader}`, "ports told:"));
     }
     if (!parts[0].includes(this.clock(edge))) parts.push(`edge ${edge} is ${this.clock(edge)}`);
     if (maker >= 0) parts.push(`scenario line ${maker + 1}: ${cut(this.ran[maker], 120)}`);

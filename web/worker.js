@@ -117,10 +117,11 @@ function lanes_of(ran, names, shown) {
     if (shown.all || shown.ports || !is_silent) drawn.add(lane);
     if (shown.all || !is_silent) {
       has_silences ||= is_silent;
-      lane.add(edge, STATE_OF_LOCK[get(view, at, ENTRY.lock)], get(view, at, ENTRY.cause) + 1, line++);
-      if (!is_silent) lane.announce(edge, get(view, at, ENTRY.day), get(view, at, ENTRY.sod));
+      const day = get(view, at, ENTRY.day), sod = get(view, at, ENTRY.sod);
+      lane.add(edge, STATE_OF_LOCK[get(view, at, ENTRY.lock)], get(view, at, ENTRY.cause) + 1, line++, day, sod);
+      if (!is_silent) lane.announce(edge, day, sod);
     }
-    if (shown.ports) lane.tell(edge, kinds_of(view, at, truth), line++);
+    if (shown.ports) tell_ports(lane, edge, view, at, truth, line++);
   }
   const told = [...drawn], first = has_silences ? Math.min(...told.map((lane) => lane.first)) : 1;
   const last = Math.max(1, ...told.map((lane) => lane.last)), { kind, edge, reader } = verdict_of(ran);
@@ -136,12 +137,14 @@ function verdict_of({ view, verdict }) { // nothing, if there was no run
   return Object.fromEntries(fields.map(([name, field]) => [name, verdict ? get(view, verdict, field) : 0]));
 }
 
-function kinds_of(view, at, truth) { // of what its ports told
+function tell_ports(lane, edge, view, at, truth, line) {
   const kinds = [];
   for (let port = 0; port < get(view, at, ENTRY.ports); port++) {
-    kinds.push(kind_of(view, at + ENTRY.told.at + port * TOLD.size, truth));
+    const told = at + ENTRY.told.at + port * TOLD.size, claim = told + TOLD.claim.at;
+    kinds.push(kind_of(view, told, truth));
+    if (kinds[port] === PORT.ANOTHER_SECOND) lane.lie(edge, port, get(view, claim, DAY), get(view, claim, SOD));
   }
-  return kinds;
+  lane.tell(edge, kinds, line);
 }
 
 // ---- the messages
@@ -183,7 +186,7 @@ function told_of({ module, text, shown, most }, tell) {
 
 function buffers_of(result) { // which go over without a copy
   const arrays = [result.log, result.starts];
-  for (const part of result.lanes.flatMap((lane) => [lane, ...lane.ports])) {
+  for (const part of result.lanes.flatMap((lane) => [lane, lane.lies, ...lane.ports])) {
     arrays.push(...Object.values(part).filter((numbers) => ArrayBuffer.isView(numbers)));
   }
   return arrays.map((array) => array.buffer);

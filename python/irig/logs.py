@@ -3,9 +3,11 @@ line by line (`read_lines`) or whole (`read_log`). It needs no library. docs/OUT
 from __future__ import annotations
 
 import re
+from array import array
 from dataclasses import dataclass, field
 from datetime import datetime
 from functools import cached_property, lru_cache
+from itertools import accumulate
 from typing import TYPE_CHECKING, Any, Callable, Dict, Iterable, Iterator, List, Optional, Sequence, Tuple
 from typing import Union, cast, overload
 
@@ -34,8 +36,16 @@ class Lines:
         self._write = write
 
     @cached_property
-    def all(self) -> List[str]:
-        return self._write().splitlines()
+    def text(self) -> str:
+        return self._write()
+
+    @cached_property
+    def starts(self) -> Sequence[int]:
+        """Where each line begins, and at last where they end."""
+        return array("Q", accumulate(map(len, self.text.splitlines(True)), initial=0))
+
+    def at(self, place: int) -> str:
+        return self.text[self.starts[place] : self.starts[place + 1] - 1]
 
 
 class InLog(Said):
@@ -47,7 +57,7 @@ class InLog(Said):
     @property
     def line(self) -> str:
         """The line, as the library or a file has it; empty if this is of no log."""
-        return self._lines if isinstance(self._lines, str) else self._lines.all[self._place]
+        return self._lines if isinstance(self._lines, str) else self._lines.at(self._place)
 
     def __str__(self) -> str:
         return self.line
@@ -129,15 +139,16 @@ class Ports(InLog):
     words: Tuple[str, ...]
     _lines: Union[Lines, str] = field(default="", compare=False)
     _place: int = field(default=0, compare=False)
-    _held: Optional[c.Entry] = field(default=None, compare=False)  # the numbers of a run
+    _held: bytes = field(default=b"", compare=False)  # the entry of a run
 
     @cached_property
     def told(self) -> Tuple[PortWord, ...]:
         """What each port told."""
-        if self._held is None:
+        if not self._held:
             return tuple(map(port_word, self.words))
-        truth = self._held.truth if self._held.has_truth else None
-        return tuple(word_of(text, told, truth) for text, told in zip(self.words, self._held.told))
+        held = c.Entry.from_buffer_copy(self._held)
+        truth = held.truth if held.has_truth else None
+        return tuple(word_of(text, told, truth) for text, told in zip(self.words, held.told))
 
 
 Entry = Union[Announced, Silent, Ports]
@@ -414,9 +425,10 @@ class Log(Sequence[Entry]):
     @cached_property
     def text(self) -> str:
         """Its lines, as the program prints them; of a run that was refused all but the last."""
+        if self._lines and len(self._lines.starts) == len(self.entries) + 2:  # it has them all, and a last line
+            return self._lines.text if self.verdict else self._lines.text[: self._lines.starts[-2]]
         said = (*self.entries, self.verdict) if self.verdict else self.entries
-        lines = self._lines.all[: len(said)] if self._lines else map(str, said)
-        return "".join(f"{line}\n" for line in lines)
+        return "".join(f"{line}\n" for line in said)
 
     @property
     def ports(self) -> Tuple[Ports, ...]:

@@ -89,10 +89,10 @@ def run(source: Source, all: bool = False, ports: bool = False) -> Log:
 
 def _entries(ran: _Ran, names: Sequence[str], lines: Lines, all: bool, ports: bool) -> Iterator[Entry]:
     """What the lines of a log say, by the numbers of a run."""
-    memory = memoryview(ran.entries).cast("B")[: ran.whole * ctypes.sizeof(c.Entry)]
+    size, place = ctypes.sizeof(c.Entry), -1
+    memory = memoryview(ran.entries).cast("B")[: ran.whole * size]
     numbers = c.unpacked(c.Entry, memory, "edge", "lock_count", "day", "sod", "reader", "announces", "lock", "cause")
-    place, held = -1, iter(ran.entries)
-    for edge, turns, day, sod, reader, announces, lock, cause in numbers:
+    for number, (edge, turns, day, sod, reader, announces, lock, cause) in enumerate(numbers):
         name = names[reader]
         if announces:
             place += 1
@@ -102,8 +102,8 @@ def _entries(ran: _Ran, names: Sequence[str], lines: Lines, all: bool, ports: bo
             yield Silent(edge, name, LOCKS[lock], turns, CAUSES[cause], lines, place)
         if ports:
             place += 1
-            words = tuple(map(intern, lines.all[place].split()[2:]))
-            yield Ports(edge, name, words, lines, place, next(held))
+            words = tuple(map(intern, lines.at(place).split()[2:]))
+            yield Ports(edge, name, words, lines, place, bytes(memory[number * size : (number + 1) * size]))
 
 
 def _verdict(held: c.Verdict, names: Sequence[str]) -> Optional[Verdict]:

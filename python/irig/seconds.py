@@ -54,8 +54,8 @@ class Second:
     sod: int
 
     def __post_init__(self) -> None:
-        is_whole = type(self.day) is type(self.sod) is int
-        if is_whole and FIRST_DAY <= self.day <= LAST_DAY and 0 <= self.sod < DAY:
+        day, sod = self.day, self.sod
+        if type(day) is type(sod) is int and FIRST_DAY <= day <= LAST_DAY and 0 <= sod < DAY:
             return  # most of a log's
         within("day", self.day, FIRST_DAY, LAST_DAY)
         within("sod", self.sod, 0, DAY if is_month_end(self.day) else DAY - 1)

@@ -5,6 +5,7 @@ import pickle
 import tempfile
 import threading
 import unittest
+from dataclasses import replace
 from itertools import product
 from pathlib import Path
 from typing import Callable
@@ -111,6 +112,10 @@ class Logs(unittest.TestCase):
             self.assertIn(word, wanted)
         log = irig.run(text, all=True, ports=True)
         self.assertEqual("".join(f"{line}\n" for line in (*log, log.verdict)), wanted)
+        first = replace(log, entries=log.entries[:2])
+        self.assertEqual(first.text, "".join(f"{line}\n" for line in (*wanted.splitlines()[:2], log.verdict)))
+        again = pickle.loads(pickle.dumps(log))
+        self.assertEqual((again, again.text, again.ports[0].told), (log, wanted, log.ports[0].told))
 
     def test_verdicts(self) -> None:
         self.assertEqual(irig.run(example("one_liar")).verdict, PremisesKept())

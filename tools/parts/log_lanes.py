@@ -11,7 +11,7 @@ from typing import get_args
 from parts import package  # noqa: F401
 
 from irig.faults import Fault
-from irig.logs import ENTRIES, Announced, LastLine, Ports, PremiseBroken, Reading, RefusedLine, Silent, Tick
+from irig.logs import ENTRIES, Announced, Entry, LastLine, Ports, PremiseBroken, Reading, RefusedLine, Silent, Tick
 from irig.logs import read_lines, ticks_of
 from irig.scenarios import Timeline, made_edges, plant_in
 from irig.seconds import EPOCH, Second, day_number
@@ -232,24 +232,18 @@ def _runs(entries: list[Announced | Silent], first: int, last: int) -> Iterator[
 
 def _marks(entries: list[Announced], first: int) -> Iterator[Mark]:
     """The leap seconds that a reader announces, and the month ends between what it announces."""
-    before_edge, before = first, ""
+    before_edge, before_sod, before_month = first, 0, (0, 0)
     for edge, second in ((entry.edge, entry.second) for entry in entries):
-        time = str(second)
+        day = EPOCH + timedelta(second.day)
         if second.is_leap:
             yield Mark(edge, "leap second")
-        if time[:7] != before[:7]:
-            if edge == before_edge + 1 and (before[11:], time[11:]) == ("23:59:58Z", "00:00:00Z"):
+        if (day.year, day.month) != before_month:
+            if edge == before_edge + 1 and (before_sod, second.sod) == (86_398, 0):
                 yield Mark(edge - 0.5, "deleted second")
-            begins = edge - _seconds_of_month(second)
+            begins = edge - 86_400 * (day.day - 1) - second.sod  # leap seconds come at its end alone
             if before_edge < begins <= edge:
                 yield Mark(begins - 0.5, "month end")
-        before_edge, before = edge, time
-
-
-def _seconds_of_month(second: Second) -> int:
-    """How many seconds of its month are before this one: leap seconds come at its end alone."""
-    day = EPOCH + timedelta(second.day)
-    return 86_400 * (day.day - 1) + second.sod
+        before_edge, before_sod, before_month = edge, second.sod, (day.year, day.month)
 
 
 # ---- for pages
@@ -266,17 +260,39 @@ def _columns(runs: list[Run], names: Iterable[str]) -> dict[str, list[int]]:
 
 def dues_of(scenario: str) -> list[list[int]]:
     """The seconds of a scenario where they do not just count on as days do: the first one, and those at leap
-    seconds, each with its edge, day and second of the day; none if there is no plant."""
+    seconds, each with its edge, day and second of the day; none if it has no plant that says which."""
     plant = plant_in(scenario)
-    if not plant:
+    try:
+        timeline = plant.timeline if plant else Timeline("")
+        days = [(day_number(leap.day), leap.kind) for leap in timeline.leaps]
+        start, found = Second.of(timeline.start), [Second(day + 1, 0) for day, _ in days]
+        found += [Second(day, 86_400) for day, kind in days if kind == "insert"]
+        later = [start, *sorted(second for second in found if second > start)]
+        return [[timeline.edge_of(second), second.day, second.sod] for second in later]
+    except (ValueError, TypeError):
         return []
-    start, found = Second.of(plant.timeline.start), []
-    for leap in plant.timeline.leaps:
-        day = day_number(leap.day)
-        found += [Second(day, 86_400)] if leap.kind == "insert" else []
-        found += [Second(day + 1, 0)]
-    later = [start, *sorted(second for second in found if second > start)]
-    return [[plant.timeline.edge_of(second), second.day, second.sod] for second in later]
+
+
+def _placed() -> dict:
+    """Where a reader's edges stand in a log, with the seconds that it announced there, and others that ports told."""
+    lies: dict[str, list] = {"edges": [], "ports": [], "days": [], "sods": []}
+    return {"edges": [], "lines": [], "days": [], "sods": [], "told_edges": [], "told_lines": [], "lies": lies}
+
+
+def _place(lane: dict, entry: Entry, number: int) -> None:
+    """Takes up an entry, which is that line of a log."""
+    told = "told_" if isinstance(entry, Ports) else ""
+    lane[f"{told}edges"].append(entry.edge)
+    lane[f"{told}lines"].append(number)
+    if isinstance(entry, Ports):
+        seconds = ((port, word.second) for port, word in enumerate(entry.told) if word.second)
+        rows = [(entry.edge, port, second.day, second.sod) for port, second in seconds]
+        for numbers, found in zip(lane["lies"].values(), zip(*rows)):
+            numbers += found
+    else:
+        second = entry.second if isinstance(entry, Announced) else None
+        lane["days"].append(second.day if second else 0)
+        lane["sods"].append(second.sod if second else 0)
 
 
 def drawn(log: list[str], scenario: list[str]) -> dict:
@@ -287,10 +303,7 @@ def drawn(log: list[str], scenario: list[str]) -> dict:
         entry = reading.take(line)
         said += [entry] if entry else []
         if isinstance(entry, ENTRIES):
-            lane = places.setdefault(entry.reader, {"edges": [], "lines": [], "told_edges": [], "told_lines": []})
-            told = "told_" if isinstance(entry, Ports) else ""
-            lane[f"{told}edges"].append(entry.edge)
-            lane[f"{told}lines"].append(number)
+            _place(places.setdefault(entry.reader, _placed()), entry, number)
     last = said[-1] if said else None
     refused = last.line if isinstance(last, RefusedLine) else None
     broken = {"edge": last.edge, "reader": last.reader} if isinstance(last, PremiseBroken) else None

@@ -34,6 +34,19 @@ class LaneOfEdges { // a lane, and which line tells of an edge
     return this.told_edges[place] === edge ? this.told_lines[place] : -1;
   }
 
+  seconds_at(edge) { // what its line announces, with the place of the word
+    const place = first_after(this.edges, edge);
+    return this.edges[place] === edge && this.days[place] ? [[2, [this.days[place], this.sods[place]]]] : [];
+  }
+
+  lies_at(edge) { // the other seconds that its ports told, so, too
+    const { edges, ports, days, sods } = this.lies, found = [];
+    for (let row = first_after(edges, edge); edges[row] === edge; row++) {
+      found.push([3 + ports[row], [days[row], sods[row]]]);
+    }
+    return found;
+  }
+
   edge_of(line) {
     for (const [lines, edges] of [[this.lines, this.edges], [this.told_lines, this.told_edges]]) {
       const place = first_after(lines, line);

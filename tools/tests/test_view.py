@@ -98,6 +98,9 @@ class Page(InAFolder):
                  '["tick"', '{"tick":' * 100_000, '{"do":"tick","r":["relay"]}', '{"do":"carry","g":0,"r":"relay"}']
         self.assertEqual(made_edges(lines, ["relay"]), {"relay": []})
         self.assertIsNone(plant_in("[" * 100_000))
+        for day in ("2016-02-30", "2099-12-31", 5):
+            plant = {"start": "2016-06-30T23:59:59Z", "leaps": [{"day": day, "kind": "insert"}], "readers": []}
+            self.assertEqual(dues_of(json.dumps(plant)), [])
 
     def test_a_run_of_the_program(self) -> None:
         if not PROGRAM.exists():
