@@ -62,6 +62,10 @@ class InLog(Said):
     def __str__(self) -> str:
         return self.line
 
+    def __repr__(self) -> str:
+        fields = (f"{name}={value!r}" for name, value in vars(self).items() if name[0] != "_")
+        return super().__repr__() if self.line else f"{type(self).__name__}({', '.join(fields)})"
+
 
 @dataclass(frozen=True, repr=False)
 class Announced(InLog):

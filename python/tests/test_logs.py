@@ -46,7 +46,9 @@ class Lines(unittest.TestCase):
             Ports(2, "relay", ("ok", "2016-12-31T23:59:52Z", "poor:11")),
         ])
         self.assertEqual("".join(f"{line}\n" for line in read_lines(LINES.splitlines())), LINES)
-        self.assertEqual(str(Silent(1, "meter", "unlocked", 0, "no-vote")), "", "it is of no log")
+        by_hand = Silent(1, "meter", "unlocked", 0, "no-vote")
+        says = "Silent(edge=1, reader='meter', lock='unlocked', count=0, cause='no-vote')"
+        self.assertEqual((str(by_hand), repr(by_hand)), ("", says))
 
     def test_words_of_ports(self) -> None:
         words = "ok silence fault:3:Pulse:12 fault:1:Short:50 fault:17:Parity".split()
