@@ -41,9 +41,13 @@ static uint32_t stamp(uint32_t time_us, irig_stamp *s) {
 
 static uint32_t rate(irig_rate *r) { return irig_timekeeper_rate(&keeper, r); }
 
+static uint32_t line(uint8_t number, irig_line_said *said) {
+    return irig_timekeeper_line(&keeper, number, said);
+}
+
 void flip_library(uint32_t bit) { ((uint8_t *)&keeper)[bit / 8] ^= (uint8_t)(1u << bit % 8); }
 
-const subject library_subject = {"library", begin, hear, tick, wait, restart, stamp, rate, NULL, false};
+const subject library_subject = {"library", begin, hear, tick, wait, restart, stamp, rate, line, NULL, false};
 
 /* ---- with the model */
 
@@ -99,4 +103,4 @@ static void restart_both(void) {
 }
 
 const subject both_subject = {"both", begin_both, hear_both, tick_both, wait_both, restart_both,
-                              stamp_both, rate_both, NULL, false};
+                              stamp_both, rate_both, line, NULL, false};

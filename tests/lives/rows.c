@@ -95,7 +95,7 @@ static int64_t announced(const irig_report *r) {
     X("bad_drift", IRIG_FAULT_DRIFT) X("no_port", IRIG_NO_PORT) X("ignored", IRIG_SBS_IGNORE)                    \
     X("sod_bit", 8 * (offsetof(irig_timekeeper, state) + offsetof(irig_state, sod)) + 2)                         \
     X("nominal", NOMINAL) X("wide", WIDE) X("at_bound", AT_BOUND) X("shifted", SHIFTED) X("walking", WALKING)    \
-    X("of_leap", SAYS_LEAP) X("holes", HOLES) X("last_moved", LAST_MOVED)
+    X("of_leap", SAYS_LEAP) X("holes", HOLES) X("last_moved", LAST_MOVED) X("odd", IRIG_PARITY_ODD)
 
 static int64_t value_of(const char *name) {
     const life *l = row.life;
@@ -249,6 +249,7 @@ static void set(char **word) {
     SETS("lock_after", l->setup.lock_after)
     SETS("holdover", l->setup.holdover)
     SETS("sbs", l->setup.sbs)
+    SETS("parity", l->setup.parity)
     SETS("poor_from", l->setup.poor_from)
     SETS("within", l->world.within_us)
     SETS("drift", l->world.drift_us)
@@ -459,6 +460,17 @@ static void expect_heard(char **word) {
     expect(row.subject->hear((uint8_t)number(word[1]), rise_us, (uint32_t)number(word[3])) == number(word[4]));
 }
 
+/* What lines are when all is over, and that one ended last so many us behind the first other one. */
+static void expect_line(char **word) {
+    static const char *const STATES[] = {"silent", "broken", "faulty", "uneven", "poor", "unjudged",
+                                         "agreed", "apart", "differed"};
+    irig_line_said said = {0};
+    if (!row.subject->line) return;
+    expect(row.subject->line((uint8_t)number(word[1]), &said) == IRIG_DONE);
+    expect(are_same(word[2], STATES[said.state]));
+    if (word[3]) expect(said.off_us == number(word[3]));
+}
+
 static void expect_begun(char **word) {
     irig_wires wires = wires_of(&row.life->world);
     row.is_played = true;
@@ -522,7 +534,7 @@ static const struct {
     {"pulse", send_pulse, 3}, {"elements", send_elements, 6}, {"lose", change_elements, 2},
     {"false", change_elements, 3}, {"play", play_world, 0}, {"expect", expect_now, 1}, {"says", compare, 2},
     {"never", compare, 2}, {"told", compare, 2}, {"tick", expect_tick, 2}, {"stamp", expect_stamp, 2},
-    {"hear", expect_heard, 4}, {"begin", expect_begun, 1}, {"quality", expect_quality, 2},
+    {"hear", expect_heard, 4}, {"is", expect_line, 2}, {"begin", expect_begun, 1}, {"quality", expect_quality, 2},
 };
 
 static void obey(char **word) {

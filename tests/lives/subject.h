@@ -13,6 +13,7 @@ typedef struct subject {
     void (*restart)(void);
     uint32_t (*stamp)(uint32_t time_us, irig_stamp *); /* or null */
     uint32_t (*rate)(irig_rate *);                     /* or null */
+    uint32_t (*line)(uint8_t line, irig_line_said *);  /* or null */
     void (*flip)(uint32_t bit); /* a bit of one that then begins afresh, or null */
     bool is_by_wait;            /* it has no other ticks */
 } subject;
