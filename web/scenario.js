@@ -252,21 +252,14 @@ class ScenarioTab {
     part("to-verdict").onclick = go_there;
   }
 
-  told_of(lane, edge) { // what there is to say of an edge
-    const line = lane.line_at(edge), maker = lane.maker_of(edge);
-    const parts = [`${edge} ${lane.reader}: not announced, no line in this log`], told = lane.told_at(edge);
-    if (line >= 0) {
-      const run = first_after(lane.lasts, edge), [meaning, look] = data.causes[this.timeline.causes[lane.causes[run]]];
-      parts[0] = with_offsets(this.log.lines.at(line), lane.seconds_at(edge), this.clock.at(edge));
-      parts.push(meaning + (look ? ` (${look})` : ""));
-    }
-    if (told >= 0) {
-      const words = with_offsets(this.log.lines.at(told), lane.lies_at(edge), this.clock.at(edge - 1));
-      parts.push(words.replace(` ${edge} ${lane.reader}`, "ports told:"));
-    }
-    if (!parts[0].includes(this.clock(edge))) parts.push(`edge ${edge} is ${this.clock(edge)}`);
-    if (maker >= 0) parts.push(`scenario line ${maker + 1}: ${cut(this.ran[maker], 120)}`);
-    return parts.join("\n");
+  told_of(lane, edge) {
+    const says = () => {
+      const run = first_after(lane.lasts, edge), cause = this.timeline.causes[lane.causes[run]];
+      const [meaning, look] = data.causes[cause];
+      return [meaning + (look ? ` (${look})` : "")];
+    };
+    const log = (number) => this.log.lines.at(number), scenario = (number) => this.ran[number];
+    return lines_of_edge(lane, edge, { clock: this.clock, log, scenario, ports: "ports told:", says });
   }
 
   on_choice(lane, edge, from) {

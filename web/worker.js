@@ -89,7 +89,9 @@ function starts_of(log) { // of its lines, and at last where they end
 // ---- the lanes of the entries
 
 const STATE_OF_LOCK = LOCKS.map((lock) => STATE_NAMES.indexOf(lock));
-const PORT_OF_TOLD = [PORT.SILENT, PORT.FAULTY, PORT.POOR]; // by the kind of what it told, if that is no claim
+const PORT_OF_TOLD = { // by the kind of what it told, if that is no claim
+  [NUMBERS.TOLD_SILENCE]: PORT.SILENT, [NUMBERS.TOLD_FAULT]: PORT.FAULTY, [NUMBERS.TOLD_POOR]: PORT.POOR,
+};
 const [DAY, SOD] = [UTC.day, UTC.sod].map((field) => ({ ...field, at: CLAIM.at.at + field.at })); // of a claim
 
 // What a port told, beside the true claim, of which the place is 0 if there is none.

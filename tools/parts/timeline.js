@@ -61,6 +61,19 @@ class LaneOfEdges { // a lane, and which line tells of an edge
   }
 }
 
+// What there is to say of an edge: its line of the log and what is said of that, what its ports told, and which second
+// it is, with the scenario's line that asked for it; log and scenario tell a line by its number.
+function lines_of_edge(lane, edge, { clock, log, scenario, ports, says = () => [] }) {
+  const line = lane.line_at(edge), told = lane.told_at(edge), maker = lane.maker_of(edge), due = clock(edge);
+  const none = `${edge} ${lane.reader}: not announced, no line in this log`;
+  const lines = line < 0 ? [none] : [with_offsets(log(line), lane.seconds_at(edge), clock.at(edge)), ...says()];
+  const words = told < 0 ? "" : with_offsets(log(told), lane.lies_at(edge), clock.at(edge - 1));
+  if (words) lines.push(words.replace(` ${edge} ${lane.reader}`, ports));
+  if (!lines[0].includes(due)) lines.push(`edge ${edge} is ${due}`);
+  if (maker >= 0) lines.push(`scenario line ${maker + 1}: ${cut(scenario(maker), 120)}`);
+  return lines.join("\n");
+}
+
 class Timeline {
   constructor(on_choice) {
     Object.assign(this, { on_choice, lanes: [], causes: [], found: [], lies: [] });

@@ -13,18 +13,9 @@ const reading = data.drawn, clock = clock_of(data.dues);
 
 const lane_named = (reader) => timeline.lanes.find((lane) => lane.reader === reader);
 
-function told_of(lane, edge) { // what there is to say of an edge
-  const line = lane.line_at(edge), told = lane.told_at(edge), maker = lane.maker_of(edge);
-  const none = `${edge} ${lane.reader}: not announced, no line in this log`;
-  const parts = [line < 0 ? none : with_offsets(data.log[line], lane.seconds_at(edge), clock.at(edge))];
-  if (told >= 0) {
-    const words = with_offsets(data.log[told], lane.lies_at(edge), clock.at(edge - 1));
-    parts.push(words.replace(` ${edge} ${lane.reader}`, "ports:"));
-  }
-  if (!parts[0].includes(clock(edge))) parts.push(`edge ${edge} is ${clock(edge)}`);
-  if (maker >= 0) parts.push(`scenario line ${maker + 1}: ${cut(data.scenario[maker], 120)}`);
-  return parts.join("\n");
-}
+const told_of = (lane, edge) => lines_of_edge(lane, edge, {
+  clock, log: (number) => data.log[number], scenario: (number) => data.scenario[number], ports: "ports:",
+});
 
 function on_choice(lane, edge, from) { // the lists follow, but for one that leads
   const line = lane.line_at(edge);
