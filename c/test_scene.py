@@ -31,9 +31,9 @@ TIMES = "2016-12-31T23:59:59Z", "2024-07-01T12:00:00Z"
 
 
 def typed(name: str) -> Callable[..., int]:
-    """A call of the library with the types of its parameters."""
+    """A call of the library with the types of its parameters, which LIBRARY's own are without."""
     _, answers, *kinds = _library.CALLS[name]
-    call = getattr(LIBRARY, _library.symbol(name))
+    call = getattr(ctypes.CDLL(sys.argv[1]), _library.symbol(name))
     call.restype, call.argtypes = answers, kinds
     return call
 
