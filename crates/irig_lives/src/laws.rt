@@ -435,7 +435,8 @@ pub fn waiting_is_right()
         → vote.edge_us ≡ edge % 2 ^ 32 → edge ≤ now + 17000 → now ≤ edge + 94000
         → now + wait_at (life_of made calls) (now % 2 ^ 32) ≤ then → then ≤ edge + 94000
         → vote_at (life_of made calls) (then % 2 ^ 32) ≡ Some vote }
-    ensures counts { (pace : Option Pace) (e edge tick now more : ℕ) → IsEdgeAt e edge tick → tick ≤ now
+    ensures counts { (pace : Option Pace) (e edge tick now more : ℕ)
+        → IsEdgeAt e edge tick → tick ≤ now
         → now + wait_by (now % 2 ^ 32) (Some e) None + more ≤ tick + 1800000000
         → 1 ≤ edges_own pace (Some e) ((now + wait_by (now % 2 ^ 32) (Some e) None + more) % 2 ^ 32) }
     ensures waits { (pace : Option Pace) (e edge tick now : ℕ) → IsEdgeAt e edge tick → tick ≤ now

@@ -14,18 +14,22 @@ ghost use Rattle.irig_lives.specs.Decided.{in_order, are_lately, are_true_lately
 pub fn conditions_compute()
     ensures order { (start : ℕ) (redundancy : Redundancy) (calls : List Call)
         → AreInOrder start redundancy calls ↔ (in_order start redundancy calls ≡ true) }
-    ensures line { (within : ℕ) (line : ℕ → Symbol) (edges : ℕ → ℕ) (now next : ℕ) (pulses : List Pulse)
+    ensures line { (within : ℕ) (line : ℕ → Symbol) (edges : ℕ → ℕ) (now next : ℕ)
+        (pulses : List Pulse)
         → ArePulsesLately within line edges now next pulses
         ↔ (are_lately within line edges now (Some next) pulses ≡ true) }
-    ensures lines { (within : ℕ) (line : ℕ → Symbol) (edges : ℕ → ℕ) (next f now : ℕ) (calls : List Call)
+    ensures lines { (within : ℕ) (line : ℕ → Symbol) (edges : ℕ → ℕ) (next f now : ℕ)
+        (calls : List Call)
         → AreTrueLately (λ at pulses. ArePulsesLately within line edges at next pulses) f now calls
         ↔ (are_true_lately (λ at pulses. are_lately within line edges at (Some next) pulses) f now calls
         ≡ true) }
-    ensures ticks { (within : ℕ) (line : ℕ → Symbol) (edges : ℕ → ℕ) (next f : ℕ) (calls : List Call)
+    ensures ticks { (within : ℕ) (line : ℕ → Symbol) (edges : ℕ → ℕ) (next f : ℕ)
+        (calls : List Call)
         → AreTrueAtTicks (λ at pulses. ArePulsesLately within line edges at next pulses) f calls
         ↔ (are_true_at_ticks (λ at pulses. are_lately within line edges at (Some next) pulses) f calls
         ≡ true) }
-    ensures over { (within : ℕ) (line : ℕ → Symbol) (edges : ℕ → ℕ) (next f : ℕ) (calls before : List Call)
+    ensures over { (within : ℕ) (line : ℕ → Symbol) (edges : ℕ → ℕ) (next f : ℕ)
+        (calls before : List Call)
         → AreTrueOver (λ at pulses. ArePulsesLately within line edges at next pulses) f calls before
         ↔ (are_true_over (λ at pulses. are_lately within line edges at (Some next) pulses) f calls before
         ≡ true) }

@@ -82,8 +82,8 @@ pub fn clocks_off_tell_truly()
         → answer_at (life_of made calls) (now % 2 ^ 32) ≡ Some beat
         → off + beat.bound_us < 500000 }
     // A line that is true by the seconds of UTC is true by those of a clock that may be off.
-    ensures right { (off d : ℕ) (within : Within) (rules : Rules) (t : TimelineValue) (edges : ℕ → ℕ)
-        (now : ℕ) (pulses : List Pulse) → IsQuartz d edges
+    ensures right { (off d : ℕ) (within : Within) (rules : Rules) (t : TimelineValue)
+        (edges : ℕ → ℕ) (now : ℕ) (pulses : List Pulse) → IsQuartz d edges
         → IsTrueLately within.us rules t edges now pulses
         → IsTrueByItsClock off within.us d rules t edges now pulses }
 {}
@@ -137,15 +137,15 @@ pub fn quality_is_in_the_bound()
         → stamp_at (life_of made calls) (time % 2 ^ 32) ≡ Some stamp
         → IsStampedTruly t edges 0 time stamp }
     // No vote contradicts those before it.
-    ensures strays { (t : TimelineValue) (edges : ℕ → ℕ) (made : Made) (start : ℕ) (calls : List Call)
-        → LivesTruly (IsTrueByItsQuality made.clock) t edges made start calls
+    ensures strays { (t : TimelineValue) (edges : ℕ → ℕ) (made : Made) (start : ℕ)
+        (calls : List Call) → LivesTruly (IsTrueByItsQuality made.clock) t edges made start calls
         → (life_of made calls).state.strays ≡ 0 }
     // The bound of a vote is 2,899 us at most, whatever the setup.
     ensures small { (clock : ClockRules) (d : ℕ) → d ≤ most_drift_us
         → vote_us clock d ≤ most_vote_us }
     // A line that is true by the seconds of UTC is no further off than it says, whatever it says.
-    ensures right { (clock : ClockRules) (rules : Rules) (t : TimelineValue) (edges : ℕ → ℕ) (now : ℕ)
-        (pulses : List Pulse) → IsQuartz clock.drift_us edges
+    ensures right { (clock : ClockRules) (rules : Rules) (t : TimelineValue) (edges : ℕ → ℕ)
+        (now : ℕ) (pulses : List Pulse) → IsQuartz clock.drift_us edges
         → IsTrueLately clock.within.us rules t edges now pulses
         → IsTrueByItsQuality clock rules t edges now pulses }
 {}
