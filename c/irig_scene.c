@@ -17,6 +17,10 @@ uint8_t irig_scene_c_run_stretches(const uint8_t *text, size_t count, irig_stret
                                    size_t room, size_t *whole, irig_verdict *verdict,
                                    uint8_t *reason, size_t reason_room, irig_refusal *refusal);
 
+uint8_t irig_scene_c_run_lanes(const uint8_t *text, size_t count, irig_lane *lanes, size_t room,
+                               size_t *whole, irig_verdict *verdict, uint8_t *reason,
+                               size_t reason_room, irig_refusal *refusal);
+
 uint8_t irig_scene_c_frame_text(const char *time, size_t count, const irig_frame_options *options,
                                 char text[110]);
 
@@ -86,6 +90,22 @@ uint8_t irig_run_stretches(const uint8_t *text, size_t count, irig_stretch *stre
                                                  room, whole, verdict,
                                                  (reason != NULL) ? reason : &no_reason,
                                                  reason_room, refusal)
+                    : refused;
+}
+
+uint8_t irig_run_lanes(const uint8_t *text, size_t count, irig_lane *lanes, size_t room,
+                       size_t *whole, irig_verdict *verdict, uint8_t *reason, size_t reason_room,
+                       irig_refusal *refusal) {
+    static const uint8_t refused = IRIG_RUN_NULL;
+    const uint8_t no_text = 0U;
+    irig_lane no_lane = {0};
+    uint8_t no_reason = 0U;
+    bool is_there = (whole != NULL) && (verdict != NULL) && (refusal != NULL) &&
+                    leads(text, count) && leads(lanes, room) && leads(reason, reason_room);
+    return is_there ? irig_scene_c_run_lanes((text != NULL) ? text : &no_text, count,
+                                             (lanes != NULL) ? lanes : &no_lane, room, whole,
+                                             verdict, (reason != NULL) ? reason : &no_reason,
+                                             reason_room, refusal)
                     : refused;
 }
 

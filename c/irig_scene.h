@@ -7,9 +7,9 @@
  * `memcpy`, `memmove` and `memset` of the C library and `__udivti3`, which compilers bring along.
  *
  * Pointers. `text` leads to `count` bytes that no other call writes meanwhile, `log` to `room`
- * bytes, `entries` and `stretches` to `room` of these, `reason` to `reason_room` bytes, `whole`,
- * `verdict` and `refusal` each to one object; no other call reads or writes these meanwhile, and none of them
- * overlap. Of no bytes a pointer may be null; any other null pointer is answered with IRIG_RUN_NULL.
+ * bytes, `entries`, `stretches` and `lanes` to `room` of these, `reason` to `reason_room` bytes,
+ * `whole`, `verdict` and `refusal` each to one object; no other call reads or writes these meanwhile,
+ * and none of them overlap. Of no bytes a pointer may be null; any other null pointer is answered with IRIG_RUN_NULL.
  * What the text says is no duty of the caller: any bytes are a scenario, or are refused.
  *
  * Threads. Calls on different objects may run at the same time, as `malloc` lets them. A line whose
@@ -33,6 +33,7 @@ extern "C" {
 #define irig_run_shown IRIG_NAME(irig_run_shown, IRIG_LAYOUT)
 #define irig_run_entries IRIG_NAME(irig_run_entries, IRIG_LAYOUT)
 #define irig_run_stretches IRIG_NAME(irig_run_stretches, IRIG_LAYOUT)
+#define irig_run_lanes IRIG_NAME(irig_run_lanes, IRIG_LAYOUT)
 #define irig_frame_text IRIG_NAME(irig_frame_text, IRIG_LAYOUT)
 #define irig_frame_lines IRIG_NAME(irig_frame_lines, IRIG_LAYOUT)
 
@@ -177,6 +178,43 @@ IRIG_ASSERT((sizeof(irig_stretch) == 120u) && (offsetof(irig_stretch, first_offs
 uint8_t irig_run_stretches(const uint8_t *text, size_t count, irig_stretch *stretches, size_t room,
                            size_t *whole, irig_verdict *verdict, uint8_t *reason,
                            size_t reason_room, irig_refusal *refusal);
+
+enum {
+    IRIG_LANE_STOOD = 1, /* how the reader stood: its lock, and why */
+    IRIG_LANE_TOLD = 2,  /* what one of its ports told */
+    IRIG_LANE_MARK = 3   /* what came at the edge, by the true seconds */
+};
+
+enum {
+    IRIG_MARK_LEAP = 1,    /* a leap second begins, 23:59:60 */
+    IRIG_MARK_DELETED = 2, /* a month begins, whose last second, 23:59:59, was left out */
+    IRIG_MARK_MONTH = 3    /* a month begins */
+};
+
+/* A longest run of a reader's edges at which it stood alike, or one of its ports told alike; or a mark,
+ * of one edge: what a picture of a run shows. What is of another kind of lane is 0. */
+typedef struct irig_lane {
+    uint64_t first_edge;
+    uint64_t last_edge;
+    uint8_t kind;   /* IRIG_LANE_STOOD .. */
+    uint8_t reader; /* its place in the plant line, 0 to 15 */
+    uint8_t port;   /* of IRIG_LANE_TOLD: 0 to 4 */
+    uint8_t state;  /* IRIG_LOCK_UNLOCKED ..; of IRIG_LANE_TOLD 0 if it told the truth, and else
+                     * IRIG_STRETCH_SILENT ..; IRIG_MARK_LEAP .. */
+    uint8_t cause;  /* of IRIG_LANE_STOOD: IRIG_CAUSE_VOTED .. */
+} irig_lane;
+IRIG_ASSERT((sizeof(irig_lane) == 24u) && (offsetof(irig_lane, kind) == 16u) &&
+            (offsetof(irig_lane, reader) == 17u) && (offsetof(irig_lane, port) == 18u) &&
+            (offsetof(irig_lane, state) == 19u) && (offsetof(irig_lane, cause) == 20u));
+
+/* The same run, of which the lanes are written: each lane where its reader's next edge ends it, first
+ * that of the reader and then those of its ports, each mark behind these, and at the end the lanes that
+ * are open, reader by reader. As many are written as `room` holds; those of `lanes` after that stay as
+ * they were. `*whole` is how many there are. If that is more than `room`, call again with so many. All
+ * else is as with `irig_run_entries`. */
+uint8_t irig_run_lanes(const uint8_t *text, size_t count, irig_lane *lanes, size_t room,
+                       size_t *whole, irig_verdict *verdict, uint8_t *reason, size_t reason_room,
+                       irig_refusal *refusal);
 
 /* ---- the texts of frames */
 

@@ -22,11 +22,13 @@ ghost use Rattle.c_scenario.specs.Entries.{entries_of, verdict_by};
 ghost use Rattle.c_scenario.specs.Frames.{are_options, are_rules, options_in, rules_in};
 ghost use Rattle.c_scenario.specs.TrueEntries.{AreTrueBefore};
 ghost use Rattle.c_scenario.specs.Stretches.{stretches_of};
+ghost use Rattle.c_scenario.specs.Lanes.{lanes_of};
 ghost use Rattle.c_scenario.specs.Runs.{HasWholeLog, IsRefusalOf, IsStatus, shown_of, written_over};
 
 mod entry;
 mod entry_log;
 mod frame;
+mod lane;
 mod refusal;
 mod run;
 mod stretch;
@@ -36,8 +38,11 @@ pub use entry::{IrigEntry, IrigVerdict};
 use entry_log::{hear_text, write_entries};
 pub use frame::IrigFrameOptions;
 use irig_scene::Shown;
+pub use lane::IrigLane;
+use lane::write_lanes;
 pub use refusal::{IrigRefusal, IrigSpan};
 use report_found::find;
+use report_lanes::draw;
 use std::alloc::Global;
 use stretch::write_stretches;
 pub use stretch::{IrigOffset, IrigStretch};
@@ -209,6 +214,47 @@ pub extern "C" fn irig_scene_c_run_stretches(
     *whole = found.findings.len();
     *refusal = run::explain(alloc, &found.answer, &found.refused, reason);
     run::status_of(&found.answer)
+}
+
+/// The same run, of which is written into `lanes` what a picture of it shows, as many as it has room
+/// for: each lane where its reader's next tick ends it, and each mark at its tick, and then the lanes
+/// that are open, reader by reader. `whole` is then how many there are, and `verdict` says whether the
+/// premises held.
+///
+/// 0 if the run was done, and 3 if a line is refused, as `refusal` and `reason` say. 6 if there was no
+/// memory for the run, and 5 if there was none to say what is refused: nothing is written into `lanes`
+/// then, and `whole` is 0.
+#[unsafe(no_mangle)]
+pub extern "C" fn irig_scene_c_run_lanes(
+    alloc: Global,
+    text: &[u8],
+    lanes: &mut [IrigLane],
+    whole: &mut usize,
+    verdict: &mut IrigVerdict,
+    reason: &mut [u8],
+    refusal: &mut IrigRefusal,
+) -> u8
+    ensures status { IsStatus result }
+    ensures done { result ≡ 0 → (meaning_of text.now).refused ≡ None }
+    ensures refused { result ≡ 3 → IsSome (meaning_of text.now).refused }
+    ensures refusal { HasWholeLog result
+        → IsRefusalOf (meaning_of text.now).refused refusal.new.line refusal.new.number }
+    // each lane and mark, in their order, as far as there is room
+    ensures lanes { HasWholeLog result
+        → lanes.new ≡ written_over lanes.old (lanes_of text.now) }
+    ensures whole { HasWholeLog result → whole.new ≡ length (lanes_of text.now) }
+    ensures unchanged { 4 ≤ result → lanes.new ≡ lanes.old }
+    ensures none { 4 ≤ result → whole.new ≡ 0 }
+    ensures verdict { result ≡ 0 → (at : Scene) → (meaning_of text.now).scene ≡ Some at
+        → verdict.new ≡ verdict_by (audit_in at) }
+    ensures no_verdict { result ≢ 0 → verdict.new.kind ≡ 0 }
+{
+    let drawn = draw(alloc, text);
+    *verdict = verdict_for_c(&drawn.answer);
+    write_lanes(lanes, &drawn.lanes);
+    *whole = drawn.lanes.len();
+    *refusal = run::explain(alloc, &drawn.answer, &drawn.refused, reason);
+    run::status_of(&drawn.answer)
 }
 
 /// Writes the frame of the UTC second whose text this is, as `irig frame` prints it: ten groups of

@@ -199,7 +199,8 @@ fn second_of(second: Option<UtcSecond>) -> UtcSecond
     }
 }
 
-fn kind_of(kind: Kind) -> u8
+/// The number of a kind; of agreed ticks there is no stretch.
+pub(crate) fn kind_of(kind: Kind) -> u8
     ensures { result ≡ kind_of kind }
 {
     match kind {

@@ -47,8 +47,7 @@ pub fn logs_are_true()
     // If the last line says which edge broke the premises, the lines until then are true.
     ensures broken { (x : List ℕ) (all : Bool) (written rest : List ℕ)
         → output x all ≡ written ++ rest → VouchesUntilBroken x written }
-    // With port lines too, the line of a vote is true by the one behind it, whatever the last line
-    // says.
+    // With port lines a voted line is true by the one behind it, whatever the last line says.
     ensures ports { (shown : Shown) (x written rest : List ℕ)
         → output_shown x shown ≡ written ++ rest → VouchesByPorts x written }
 {}
@@ -103,8 +102,7 @@ pub fn a_second_has_a_tick_a_reader()
     ensures { (generators readers : ℕ) → ticks_among (second_of generators readers) ≡ readers }
 {}
 
-/// A healthy plant announces, over bytes: of a plant line and whole seconds that the timeline has,
-/// all that is written is known.
+/// A healthy plant announces, over bytes: what is written of a plant line and its seconds is known.
 pub fn healthy_scenarios_announce()
     // No line is refused, and all the seconds are played.
     ensures meaning { (x : List ℕ) (plan : Plan) (n : ℕ) → IsOfSeconds x plan n

@@ -24,8 +24,7 @@ use std::alloc::Global;
 use std::io::Write;
 use text_faults::Refusal;
 
-/// Plays a line that isn't too long, and writes what is said of it; if it is refused, what is open
-/// and the refusal.
+/// Plays a line that isn't too long, and writes what is said of it, or what is open and a refusal.
 pub(crate) fn run_line<L: Listener, P: Port, W: Write>(
     alloc: Global,
     asked: L::Asked,

@@ -51,9 +51,8 @@ impl Listener for Log {
         _names: &IndexSet<String>,
         _ports: u8,
     ) -> Result<Log, AllocError> {
-        Ok(Log {
-            last: ReportText::new(alloc),
-        })
+        let last = ReportText::new(alloc);
+        Ok(Log { last })
     }
 
     fn echoes_plant_line(_shown: Shown) -> bool {

@@ -282,8 +282,7 @@ impl<L: Listener, P: Port> Player<L, P> {
         Ok(self.stage.write(output)?)
     }
 
-    // Plays so many whole seconds, up to an event that is refused, and writes what is said of
-    // several of them at once.
+    // Plays whole seconds, up to a refused event, and writes what is said of several at once.
     fn play_seconds<W: Write>(
         &mut self,
         asked: L::Asked,

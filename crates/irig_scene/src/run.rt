@@ -30,8 +30,7 @@ pub struct Run<L> {
     pub answer: Result<Outcome, SceneFault>,
     /// Who listened; none before the plant line.
     pub listener: Option<L>,
-    /// If the listener counts entries: how many there were where each line began, and perhaps once
-    /// more behind the last line.
+    /// If entries are counted: how many there were as each line began, and perhaps behind the last.
     pub starts: Vec<u64>,
     /// What explains the refusal, if a line is refused.
     pub refused: Option<RefusedLine>,

@@ -25,8 +25,7 @@ impl<P: Port> SteppedPlant<P> {
         SteppedPlant { plant }
     }
 
-    /// Lets the log go, and takes an event, or refuses it and stands as it stood. `Memory` if there
-    /// was none for its entry.
+    /// Lets the log go, and takes an event, or refuses it or fails and stands as it stood.
     #[inline(always)]
     pub(crate) fn step(&mut self, event: &Event) -> Result<(), Stop>
         ensures { Steps self.old.plant event.now result self.new.plant }

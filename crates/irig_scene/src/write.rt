@@ -57,8 +57,6 @@ pub fn write_text<W: Write>(output: &mut Watched<W>, text: &str) -> Result<(), F
         (W.contents (device_of output.old)) (W.contents (device_of output.new)) text.now }
     ensures note { has_failed output.new ≡ (has_failed output.old || failed_write result) }
 {
-    match output.write_all(text.as_bytes()) {
-        Ok(()) => Ok(()),
-        Err(_) => Err(Failure::Write),
-    }
+    let written = output.write_all(text.as_bytes());
+    written.map_err(|_| Failure::Write)
 }

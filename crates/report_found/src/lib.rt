@@ -24,3 +24,5 @@ pub use laws::{
     untrue_seconds_are_not_those_of_their_edges,
 };
 pub use run::{Found, find};
+pub use stretch::same_cause;
+pub use tick::{Tick, first_tick};

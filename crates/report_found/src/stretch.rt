@@ -125,7 +125,7 @@ impl Silence {
 }
 
 /// Whether two causes are the same.
-pub(crate) fn same_cause(cause: Cause, other: Cause) -> bool
+pub fn same_cause(cause: Cause, other: Cause) -> bool
     ensures { result ≡ same_cause cause other }
 {
     cause == other

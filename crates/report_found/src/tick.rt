@@ -14,10 +14,11 @@ use irig_time::{Claim, UtcSecond, next, valid};
 use irig_vote::vote;
 use report_log::{Offset, offset_between};
 
-/// What was logged of a tick.
+/// A tick of a reader, by its entry in the log.
 #[derive(Clone, Copy)]
-pub(crate) struct Tick {
-    pub(crate) entry: Entry,
+pub struct Tick {
+    /// The entry of the log.
+    pub entry: Entry,
 }
 
 impl Tick {
@@ -35,8 +36,8 @@ impl Tick {
         }
     }
 
-    /// Its kind.
-    pub(crate) fn kind(&self, port: u8) -> Kind
+    /// Of which kind that was, of a port 0 to 4.
+    pub fn kind(&self, port: u8) -> Kind
         ensures { result ≡ kind_at port self.now }
     {
         Kind::of(self.entry.truth, self.told_by(port))
@@ -60,16 +61,16 @@ impl Tick {
         }
     }
 
-    /// The second of the true frame that ended at the edge.
-    pub(crate) fn frame(&self) -> Option<UtcSecond>
+    /// The second of the true frame that ended at the edge, if that is of the years served.
+    pub fn frame(&self) -> Option<UtcSecond>
         ensures exact { result ≡ frame_at self.now }
         ensures valid { IfSome result IsValid }
     {
         frame_of(self.entry.truth)
     }
 
-    /// The second that begins at the edge.
-    pub(crate) fn second(&self) -> Option<UtcSecond>
+    /// The true second that begins at the edge, if that is of the years served.
+    pub fn second(&self) -> Option<UtcSecond>
         ensures exact { result ≡ second_at self.now }
         ensures valid { IfSome result IsValid }
     {
@@ -118,7 +119,7 @@ impl Tick {
 }
 
 /// The first of some entries, as a tick.
-pub(crate) fn first_tick(entries: &[Entry]) -> Option<Tick>
+pub fn first_tick(entries: &[Entry]) -> Option<Tick>
     requires { All IsToldSoundly entries.now }
     ensures exact { result ≡ first_tick entries.now }
     ensures sound { IfSome result IsSoundTick }

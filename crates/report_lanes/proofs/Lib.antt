@@ -1,0 +1,4 @@
+pub mod LaneLaws
+pub mod EventLaws
+pub mod LongestLaws
+pub mod StretchLaws

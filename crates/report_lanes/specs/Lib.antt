@@ -1,0 +1,4 @@
+pub mod Lanes
+pub mod Scenes
+pub mod Runs
+pub mod LongestRuns
