@@ -187,6 +187,21 @@ class Stretches(unittest.TestCase):
             self.assertTrue(room.holds(wanted), f"{place} stretches of room")
 
 
+class Reasons(unittest.TestCase):
+    def test_room(self) -> None:
+        """Of a run that has no log: why a scenario is refused, as the program says it."""
+        found = re.match(r"line 1: (\d+) \w+: (.*)", printed("run", "-", given=b"x")[2])
+        assert found
+        number, reason = int(found[1]), found[2].encode()
+        calls = ("run_entries", Entry), ("run_stretches", Stretch)
+        for name, kind, room in ((*call, room) for call in calls for room in rooms(len(reason))):
+            refusal, held, whole = Refusal(), kind(), c_size_t()
+            answer = called(name, b"x", c_size_t(1), ctypes.byref(held), c_size_t(1), ctypes.byref(whole),
+                            ctypes.byref(Verdict()), *room.words[:2], ctypes.byref(refusal))
+            self.assertEqual((answer, refusal.whole, refusal.number), (REFUSED, len(reason), number))
+            self.assertTrue(room.has(reason), f"{room.size} bytes of room")
+
+
 class Frames(unittest.TestCase):
     def made(self, time: str, *options: int) -> bytes | None:
         room = Room(110)

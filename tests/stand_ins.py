@@ -41,8 +41,12 @@ class SideBySide(unittest.TestSuite):
     """Tests of which each waits most of its time for scripts in a folder of its own."""
 
     def run(self, result: unittest.TestResult, debug: bool = False) -> unittest.TestResult:
+        def begin(test: unittest.TestCase) -> None:
+            if not result.shouldStop:
+                test.run(result)
+
         with ThreadPoolExecutor(6) as pool:
-            for done in [pool.submit(test.run, result) for test in each(self)]:
+            for done in [pool.submit(begin, test) for test in each(self)]:
                 done.result()
         return result
 

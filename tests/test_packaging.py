@@ -6,6 +6,7 @@ from __future__ import annotations
 
 import atexit
 import hashlib
+import json
 import os
 import re
 import shutil
@@ -182,6 +183,100 @@ class Packages(InAFolder):
         ran = subprocess.run(words, cwd=folder, env=self.environment, user=another, group=another, umask=0o077,
                              capture_output=True, text=True, timeout=60)
         self.assertEqual(ran.returncode, 0, ran.stdout + ran.stderr)
+
+
+class Notices(InAFolder):
+    """What is said of the crates of others, over a kit that has no other crate than `clap`, which uses `strsim`."""
+
+    def setUp(self) -> None:
+        super().setUp()
+        for name in ("packaging", "LICENSE-MIT"):
+            (shutil.copytree if (ROOT / name).is_dir() else shutil.copy)(ROOT / name, self.root / name)
+        write(self.root / "crates.txt", "c_reader staticlib: irig_time\nc_scenario staticlib:\n"
+              "irig_main: irig_time clap\nirig_time: std\n")
+        write(self.root / "docs/irig.1", '.TH IRIG 1 2026-01-01 "irig 2.0.0"\n')
+        write(self.root / "packaging/third_party", "# a comment\nclap | clap 4.6.7 | MIT | its authors\n"
+              "strsim | strsim 0.11.1 | Apache-2.0 AND MIT | others\n")
+        write(self.kit / "bin/rt", RT)
+        for name, told, uses in (("clap", "a port of clap 4.6.7", "dep strsim\ndep std\n"),
+                                 ("strsim", "a port of strsim 0.11.1", ""), ("std", "", "")):
+            write(self.kit / "rattle" / name / "README.md", told)
+            write(self.kit / f"rlibs/{name}.rlib/format", f"rattle rlib\n{uses}")
+        write(self.kit / "rattle/clap/LICENSE-MIT", "by clap's authors\n")
+        write(self.kit / "rattle/clap/LICENSE-APACHE", "not taken\n")
+        write(self.kit / "rattle/strsim/LICENSE-A", "first of strsim\n")
+        write(self.kit / "rattle/strsim/LICENSE-B", "second of strsim\n")
+
+    def notices(self, *words: str | Path, status: int = 0) -> str:
+        ran = self.run_here("packaging/notices", *words, SOURCE_DATE_EPOCH=str(EPOCH))
+        self.assertEqual(ran.returncode, status, ran.stderr)
+        return ran.stderr if status else ran.stdout
+
+    def test_texts(self) -> None:
+        """One licence where a crate may be used under MIT, and all of another one."""
+        line = "-" * 72
+        self.assertEqual(self.notices("texts"), (ROOT / "packaging/THIRD_PARTY").read_text() + (
+            f"\n{line}\nclap 4.6.7 (MIT)\n\nby clap's authors\n"
+            f"\n{line}\nstrsim 0.11.1 (Apache-2.0 AND MIT)\n\nfirst of strsim\n"
+            f"\n{line}\nstrsim 0.11.1 (Apache-2.0 AND MIT)\n\nsecond of strsim\n"))
+
+    def test_copyright(self) -> None:
+        """The grant of LICENSE-MIT alone, as Debian has it: a blank line is a dot."""
+        write(self.root / "packaging/copyright", "Copyright: us\n@OTHERS@\n")
+        write(self.root / "LICENSE-MIT", "MIT\n\nby us\n\nas is\n")
+        self.assertEqual(self.notices("copyright"), "Copyright: us\n its authors (clap 4.6.7)\n"
+                         " others (strsim 0.11.1)\n by us\n .\n as is\n")
+
+    def test_another_version(self) -> None:
+        write(self.kit / "rattle/strsim/README.md", "a port of strsim 0.11.2")
+        told = "notices: the kit has another version of strsim than packaging/third_party\n"
+        self.assertEqual(self.notices("texts", status=1), told)
+
+    def test_a_crate_without_a_row(self) -> None:
+        """The kit has a licence for it."""
+        write(self.kit / "rattle/std/LICENSE", "whose?\n")
+        told = "notices: packaging/third_party has no row for std\n"
+        self.assertEqual(self.notices("texts", status=1), told)
+
+    def test_a_bill(self) -> None:
+        """Its code is by SPDX 2.3, 7.9: the SHA1 of the files' SHA1s, sorted, one behind another."""
+        files = {"x86_64-linux-gnu/bin/irig": b"p", "x86_64-linux-gnu/lib/libirig.a": b"a",
+                 "x86_64-linux-gnu/lib/libirig.so.6": b"s"}
+        top = self.folder / "top"
+        for name, data in files.items():
+            write(top / name, data.decode())
+        bill = json.loads(self.notices("sbom", top))
+        code = hashlib.sha1("".join(sorted(hashlib.sha1(data).hexdigest() for data in files.values())).encode())
+        packages = {it["name"]: it for it in bill["packages"]}
+        self.assertEqual({name: it["versionInfo"] for name, it in packages.items()}, {
+            "irig": "2.0.0", "rattle": "a-kit", "libgcc": "NOASSERTION", "clap": "4.6.7", "strsim": "0.11.1"})
+        self.assertEqual(packages["irig"]["packageVerificationCode"]["packageVerificationCodeValue"], code.hexdigest())
+        self.assertEqual([name for name, it in packages.items() if it["filesAnalyzed"]], ["irig"])
+        self.assertEqual((bill["name"], bill["creationInfo"]["created"]), ("irig-2.0.0", "2026-01-01T00:00:00Z"))
+        linked = [(it["spdxElementId"].split("-")[-1], it["relatedSpdxElement"].removeprefix("SPDXRef-"))
+                  for it in bill["relationships"] if it["relationshipType"] == "STATIC_LINK"]
+        self.assertEqual(linked, [("irig", "rattle"), ("irig", "libgcc"), ("irig", "clap"), ("irig", "strsim"),
+                                  ("libirig.a", "rattle"), ("libirig.so.6", "rattle"), ("libirig.so.6", "libgcc")])
+        others = [it for it in bill["relationships"] if it["relationshipType"] != "STATIC_LINK"]
+        self.assertEqual([(it["relationshipType"], it["spdxElementId"]) for it in others],
+                         [("DESCRIBES", "SPDXRef-DOCUMENT"), ("BUILD_TOOL_OF", "SPDXRef-rattle"),
+                          *[("CONTAINS", "SPDXRef-irig")] * 3])
+
+    def test_words(self) -> None:
+        self.assertIn("packaging/notices texts ", self.notices("none", status=1))
+
+
+class WithoutCommands(InAFolder):
+    def test_a_package(self) -> None:
+        """Without dpkg-dev it says so, and begins with nothing."""
+        (self.kit / "bin").mkdir(parents=True)
+        for name in ("bash", "dirname", "readlink"):
+            (self.kit / "bin" / name).symlink_to(shutil.which(name) or "")
+        shutil.copytree(ROOT / "packaging", self.root / "packaging")
+        ran = self.run_here(self.kit / "bin/bash", "packaging/deb", "to", PATH=f"{self.kit}/bin")
+        told = "deb: no command dpkg-deb; it comes with Debian's package dpkg-dev\n"
+        self.assertEqual((ran.returncode, ran.stdout, ran.stderr), (2, "", told))
+        self.assertFalse((self.root / "to").exists())
 
 
 class NothingUnproved(Packages):

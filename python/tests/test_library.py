@@ -48,6 +48,14 @@ class Texts(unittest.TestCase):
         self.assertEqual(library.irig_version().decode(), irig.__version__)
 
 
+class Widths(unittest.TestCase):
+    def test_of_each_symbol(self) -> None:
+        """2, 5 and 8 ms of a zero, a one and a marker, by IRIG Standard 200-16, and nothing of any other byte."""
+        widths = (ctypes.c_uint32 * 100)(*[1] * 100)
+        _library.widths_us((ctypes.c_uint8 * 100)(*range(100)), widths)
+        self.assertEqual(list(widths), [2000, 5000, 8000, *[0] * 97])
+
+
 POINTER = ctypes.c_void_p
 
 
