@@ -1,7 +1,7 @@
 #!/usr/bin/env python3
-"""Compares the calls of irig_scene.h with the program, `test_scene.py LIBRARY PROGRAM`: logs, reasons, entries
-and stretches, whatever room there is for them, and frames. A call writes the front of what the program prints, and what
-lies behind the room stays; null pointers are answered."""
+"""Compares the calls of irig_scene.h with the program, `test_scene.py LIBRARY PROGRAM`: logs, reasons, entries,
+stretches and lanes, whatever room there is for them, and frames. A call writes the front of what the program prints,
+and what lies behind the room stays; null pointers are answered."""
 from __future__ import annotations
 
 import ctypes
@@ -10,18 +10,20 @@ import sys
 import unittest
 from collections.abc import Callable, Iterator, Sequence
 from ctypes import c_bool, c_size_t, c_uint8
-from itertools import product
+from itertools import groupby, product
 from pathlib import Path
 
 ROOT = Path(__file__).resolve().parent.parent
 sys.path[:0] = [str(ROOT / "tests"), str(ROOT / "python")]
 
 from case_files import answer, scenarios  # noqa: E402
+from model import meaning  # noqa: E402
+from model.times import Timeline, is_month_end, second_at  # noqa: E402
 import irig  # noqa: E402
 from irig import _library, scenes  # noqa: E402
-from irig._library import Entry, FrameOptions, Refusal, Stretch, Verdict  # noqa: E402
-from irig.scenarios import made_edges, plant_in  # noqa: E402
+from irig._library import Entry, FrameOptions, Lane, Refusal, Stretch, Verdict  # noqa: E402
 from irig.stretches import stretches_of  # noqa: E402
+from irig.words import CAUSES, LOCKS, MARKS  # noqa: E402
 
 LIBRARY, PROGRAM = ctypes.CDLL(sys.argv[1]), sys.argv[2]
 DONE, BAD, NULL, REFUSED = 0, 1, 2, 3
@@ -38,7 +40,7 @@ def typed(name: str) -> Callable[..., int]:
     return call
 
 
-RUN_STRETCHES = typed("run_stretches")
+RUN_STRETCHES, RUN_LANES = typed("run_stretches"), typed("run_lanes")
 for of_package in ("run_entries", "run_shown", "run_stretches"):  # which the package calls then
     setattr(_library, of_package, typed(of_package))
 
@@ -62,7 +64,7 @@ class Room:
         front = text[: self.size]
         return self.bytes.raw == front + UNTOUCHED * (len(self.bytes) - len(front))
 
-    def holds(self, wanted: Sequence[Entry] | Sequence[Stretch]) -> bool:
+    def holds(self, wanted: Sequence[Entry] | Sequence[Stretch] | Sequence[Lane]) -> bool:
         """Whether as many of these stand there as there is room for, and behind them nothing else. What lies
         between their numbers says nothing."""
         size = ctypes.sizeof(wanted[0])
@@ -117,6 +119,18 @@ def log_of(source: Callable[..., irig.Log], *words: object) -> tuple[irig.Log, o
         return why.log, (why.line, why.number, why.name)
 
 
+def asked_in(text: bytes) -> Iterator[tuple[int, int]]:
+    """For each tick of a scenario the line that asks for it, and its reader's place."""
+    names: list[str] = []
+    for number, said in meaning.lines(text):
+        if isinstance(said, meaning.Plant):
+            names = list(said.readers)
+        elif said["do"] == "tick":
+            yield number, names.index(said["r"])
+        elif said["do"] == "seconds":
+            yield from ((number, place) for _ in range(said["n"]) for place in range(len(names)))
+
+
 class Entries(unittest.TestCase):
     def test_logs(self) -> None:
         """Of all cases and examples: the package has by their numbers what it reads in the program's lines."""
@@ -130,22 +144,16 @@ class Entries(unittest.TestCase):
                 self.assertTrue(lines.startswith(ran[0].text))
 
     def test_lines(self) -> None:
-        """Which line of a scenario that runs to its end asked for which edges."""
+        """Which line of a scenario that runs to its end asked for which tick, as tests/model reads its lines."""
         for name, text in scenarios((0,)).items():
-            ran, readers = scenes._run(text, scenes.ROOM, 0), plant_in(text).readers
-            made: dict[str, list[list[int]]] = {reader: [] for reader in readers}
-            for held in ran.entries[: ran.whole]:
-                found = made[readers[held.reader]]
-                if found and found[-1][1] == held.line:
-                    found.pop()
-                found.append([held.edge, held.line])
+            held = scenes.played(scenes.c.run_entries, Entry, text).found
             with self.subTest(name):
-                self.assertEqual(made, made_edges(text.decode().split("\n"), readers))
+                self.assertEqual([(one.line, one.reader) for one in held], list(asked_in(text)))
 
     def test_room(self) -> None:
         text, size = (ROOT / "examples/one_liar.jsonl").read_bytes(), ctypes.sizeof(Entry)
-        every = scenes._run(text, scenes.ROOM, 0)
-        wanted = every.entries[: every.whole]
+        every = scenes.played(scenes.c.run_entries, Entry, text)
+        wanted = every.found
         for count in (0, 1, every.whole - 1, every.whole, every.whole + 1):
             room, whole, verdict, refusal = Room(count * size), c_size_t(), Verdict(), Refusal()
             entries = ctypes.cast(room.bytes, ctypes.POINTER(Entry))
@@ -187,13 +195,113 @@ class Stretches(unittest.TestCase):
             self.assertTrue(room.holds(wanted), f"{place} stretches of room")
 
 
+# By the words of a log, and where none fits another second was told.
+WORDS = {"ok": 0, "silence": 1, "fault": 2, "poor": 3, **dict.fromkeys(MARKS, 5)}
+STOOD, TOLD, MARK = 1, 2, 3
+BEHIND_PORTS = 6
+Numbers = tuple[int, ...]  # of a lane: its reader, kind, port, state and cause, first edge and last
+
+
+class Told:
+    """What a log with silences and ports says, with the true seconds of tests/model, as lanes."""
+
+    def __init__(self, log: Sequence[str], plant: meaning.Plant) -> None:
+        self.names, self.timeline = list(plant.readers), plant.timeline
+        self.ticks: dict[tuple[int, int], int] = {}  # by reader and edge its place in the log
+        self.tracks: dict[Numbers, list[Numbers]] = {}  # by reader, kind and port what was at each edge
+        for line in log:
+            edge, name, *words = line.split()
+            reader = self.names.index(name)
+            self.ticks.setdefault((reader, int(edge)), len(self.ticks))
+            if line[0] == " ":
+                for port, word in enumerate(words):
+                    self.put((reader, TOLD, port), WORDS.get(word.split(":")[0], 4), 0)
+            else:
+                self.put((reader, STOOD, 0), LOCKS.index(words[1].split(":")[0]), CAUSES.index(words[2]))
+
+    def put(self, track: Numbers, *stood: int) -> None:
+        self.tracks.setdefault(track, []).append(stood)
+
+    def lanes(self) -> list[Numbers]:
+        """In the order of c/irig_scene.h."""
+        return sorted([*self.runs(), *self.marks()], key=self.place)
+
+    def runs(self) -> Iterator[Numbers]:
+        for track, found in self.tracks.items():
+            for stood, edges in groupby(enumerate(found, 1), key=lambda pair: pair[1]):
+                first, *more = (edge for edge, _ in edges)
+                yield *track, *stood, first, more[-1] if more else first
+
+    def marks(self) -> Iterator[Numbers]:
+        for reader, edge in self.ticks:
+            mark = mark_at(self.timeline, edge)
+            if mark:
+                yield reader, MARK, 0, mark, 0, edge, edge
+
+    def place(self, lane: Numbers) -> Numbers:
+        """A run stands where its reader's next edge ends it, a mark behind those; open ones stand at the end."""
+        reader, kind, port, *_, last = lane
+        if kind == MARK:
+            return self.ticks[reader, last], BEHIND_PORTS
+        own = 0 if kind == STOOD else 1 + port
+        ended = self.ticks.get((reader, last + 1))
+        return (len(self.ticks), reader, own) if ended is None else (ended, own)
+
+
+def mark_at(timeline: Timeline, edge: int) -> int:
+    """What begins at an edge: 1 a leap second, 2 a month behind a deleted second, 3 another month, else 0."""
+    before, second = second_at(timeline, edge - 1), second_at(timeline, edge)
+    if second is None or before is None:
+        return 0
+    if second.of_day == 86_400:
+        return 1
+    if second.day == before.day or not is_month_end(before.day):
+        return 0
+    return 2 if before.of_day == 86_398 else 3
+
+
+class Lanes(unittest.TestCase):
+    def ran(self, text: bytes, room: int) -> tuple[int, int, list[Lane], Verdict, Refusal]:
+        lanes, whole, verdict, refusal = (Lane * room)(), c_size_t(7), Verdict(), Refusal()
+        status = RUN_LANES(text, len(text), lanes, room, whole, verdict, None, 0, refusal)
+        return status, whole.value, lanes[: whole.value], verdict, refusal
+
+    def test_logs(self) -> None:
+        """Of all cases and examples: what the program's log says, and no more."""
+        states = set()
+        for name, text in scenarios().items():
+            status, log, _ = printed("run", "-", "--all", "--ports", given=text)
+            answer, whole, lanes, verdict, refusal = self.ran(text, 5000)
+            plant = next((said for _, said in meaning.lines(text) if isinstance(said, meaning.Plant)), None)
+            wanted = Told(log.decode().splitlines()[:-1], plant).lanes() if plant else []
+            found = [(one.reader, one.kind, one.port, one.state, one.cause, one.first_edge, one.last_edge)
+                     for one in lanes]
+            states |= {(one.kind, one.state) for one in lanes}
+            with self.subTest(name):
+                self.assertLess(whole, 5000)
+                self.assertEqual((answer, found), (status, wanted))
+                self.assertEqual((refusal.line > 0, verdict.kind > 0), (status == REFUSED, status == DONE))
+        each = ((STOOD, range(4)), (TOLD, range(6)), (MARK, range(1, 4)))
+        self.assertEqual(states, {(kind, state) for kind, numbers in each for state in numbers})
+
+    def test_room(self) -> None:
+        text, size = (ROOT / "examples/two_liars.jsonl").read_bytes(), ctypes.sizeof(Lane)
+        _, count, wanted, kept, _ = self.ran(text, 100)
+        for place in (0, 1, count - 1, count, count + 1):
+            room, whole, verdict, refusal = Room(place * size), c_size_t(), Verdict(), Refusal()
+            held = ctypes.cast(room.bytes, ctypes.POINTER(Lane))
+            answer = RUN_LANES(text, len(text), held, place, whole, verdict, None, 0, refusal)
+            self.assertEqual((answer, whole.value, verdict.kind, verdict.edge), (DONE, count, kept.kind, kept.edge))
+            self.assertTrue(room.holds(wanted), f"{place} lanes of room")
+
+
 class Reasons(unittest.TestCase):
     def test_room(self) -> None:
         """Of a run that has no log: why a scenario is refused, as the program says it."""
         found = re.match(r"line 1: (\d+) \w+: (.*)", printed("run", "-", given=b"x")[2])
         assert found
         number, reason = int(found[1]), found[2].encode()
-        calls = ("run_entries", Entry), ("run_stretches", Stretch)
+        calls = ("run_entries", Entry), ("run_stretches", Stretch), ("run_lanes", Lane)
         for name, kind, room in ((*call, room) for call in calls for room in rooms(len(reason))):
             refusal, held, whole = Refusal(), kind(), c_size_t()
             answer = called(name, b"x", c_size_t(1), ctypes.byref(held), c_size_t(1), ctypes.byref(whole),
@@ -262,6 +370,7 @@ class Null(unittest.TestCase):
             ("run_shown", b"x", one, c_bool(), c_bool(), *log, *why),
             ("run_entries", b"x", one, Entry(), one, ctypes.byref(whole), Verdict(), (c_uint8 * 1)(), one, refusal),
             ("run_stretches", b"x", one, Stretch(), one, ctypes.byref(whole), Verdict(), (c_uint8 * 1)(), one, refusal),
+            ("run_lanes", b"x", one, Lane(), one, ctypes.byref(whole), Verdict(), (c_uint8 * 1)(), one, refusal),
             ("frame_text", b"x", one, ctypes.byref(options), room.bytes),
             ("frame_lines", b"P", one, c_uint8(), c_uint8(), c_uint8(), *log),
         ):

@@ -10,7 +10,8 @@ codec, the proved reader, and the proved runner of scenarios.
     Sync                        which element of a frame a pulse on a line is
     Timekeeper                  a device that keeps time by lines and a counter of its own
     quality_of                  the time quality that it may send on
-    run, Log                    scenarios to logs; `Log.blame`: who lied, and what it cost
+    run, Log                    scenarios to logs; `Log.blame`: who lied, and what it cost;
+                                `Log.lanes`: what a picture of the run shows
     irig.scenarios              builds scenarios
     irig.logs                   reads logs
     Fault, Refused              what they raise
@@ -24,6 +25,7 @@ from .frames import (
     Coded, Control, claim, classify, coded, decode, encode, frame, has_parity, symbols, widths,
     with_parity,
 )
+from .lanes import Lane
 from .lines import Sync
 from .logs import (
     Announced, Entry, Log, Ports, PortWord, PremiseBroken, PremisesKept, Refused, Silent,
@@ -38,7 +40,7 @@ from .timekeepers import Beat, Line, Pace, Rate, Stamp, Timekeeper, quality_of
 __version__ = "3.0.0"
 
 __all__ = [
-    "Announced", "Beat", "Claim", "Coded", "Control", "Entry", "Fault", "Faulty", "Leap", "Line", "Log",
+    "Announced", "Beat", "Claim", "Coded", "Control", "Entry", "Fault", "Faulty", "Lane", "Leap", "Line", "Log",
     "Pace", "Poor", "PortWord", "Ports", "PremiseBroken", "PremisesKept", "Rate", "Reader", "Refused", "Report",
     "Second", "Silence", "Silent", "Stamp", "Stretch", "Sync", "TableBroken", "Timekeeper",
     "Told", "Verdict", "Zone", "claim", "classify", "coded", "decode", "encode", "frame",

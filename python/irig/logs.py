@@ -17,6 +17,7 @@ from .seconds import Second
 from .words import CAUSES, MARKS, Cause, Lock, Mark, PortKind
 
 if TYPE_CHECKING:
+    from .lanes import Lane
     from .stretches import Stretch
 
 # ---- what a line says
@@ -30,10 +31,12 @@ class Said:
 
 
 class Lines:
-    """The lines of a log that was run. The library writes them when one is first asked for."""
+    """The lines of a log that was run, which the library writes when one is first asked for; and `asked`, by
+    their places which line of the scenario asked for the tick."""
 
     def __init__(self, write: Callable[[], str]) -> None:
         self._write = write
+        self.asked = array("Q")
 
     @cached_property
     def text(self) -> str:
@@ -58,6 +61,11 @@ class InLog(Said):
     def line(self) -> str:
         """The line, as the library or a file has it; empty if this is of no log."""
         return self._lines if isinstance(self._lines, str) else self._lines.at(self._place)
+
+    @property
+    def asked(self) -> Optional[int]:
+        """The line of the scenario that asked for the tick, from 1; None of a log that was read."""
+        return None if isinstance(self._lines, str) else self._lines.asked[self._place]
 
     def __str__(self) -> str:
         return self.line
@@ -153,6 +161,13 @@ class Ports(InLog):
         held = c.Entry.from_buffer_copy(self._held)
         truth = held.truth if held.has_truth else None
         return tuple(word_of(text, told, truth) for text, told in zip(self.words, held.told))
+
+    @property
+    def truth(self) -> Optional[Second]:
+        """The true second of the frame that ended at the edge, which is the one before that which begins there;
+        None of a log that was read."""
+        held = c.Entry.from_buffer_copy(self._held) if self._held else None
+        return Second(held.truth.at.day, held.truth.at.sod) if held and held.has_truth else None
 
 
 Entry = Union[Announced, Silent, Ports]
@@ -459,9 +474,19 @@ class Log(Sequence[Entry]):
         ValueError if a log was read without its scenario."""
         from .stretches import stretches_of
 
+        return stretches_of(self._known_scenario())
+
+    def lanes(self) -> List[Lane]:
+        """What a picture of the run shows: how each reader stood, what its ports told, and where leap seconds and
+        months begin. Raises ValueError if a log was read without its scenario."""
+        from .lanes import lanes_of
+
+        return lanes_of(self._known_scenario())
+
+    def _known_scenario(self) -> bytes:
         if self.scenario is None:
-            raise ValueError("who lied is said by the scenario, which read_log takes as its second argument")
-        return stretches_of(self.scenario)
+            raise ValueError("what is true is said by the scenario, which read_log takes as its second argument")
+        return self.scenario
 
     def __len__(self) -> int:
         return len(self.entries)
@@ -555,7 +580,7 @@ class Refused(ValueError):
 def read_log(text: str, scenario: Union[str, bytes, None] = None) -> Log:
     """The log of this text, as the program prints it, whole. Raises what `run` raises of such a log.
 
-    scenario: the text of its scenario, if it is at hand; `Log.blame` then knows what is true
+    scenario: the text of its scenario, if it is at hand; `Log.blame` and `Log.lanes` then know what is true
     """
     *entries, last = [None, *read_lines(text.split("\n"))] if text.endswith("\n") else [None]
     if last is None or isinstance(last, ENTRIES):

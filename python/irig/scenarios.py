@@ -1,5 +1,4 @@
-"""Builds scenarios line by line (docs/SCENARIOS.md), and says what the lines of one do. It needs no
-library.
+"""Builds scenarios line by line (docs/SCENARIOS.md), and says which readers one has. It needs no library.
 
     from irig.scenarios import Leap, Reader, Replay, Scenario
 
@@ -14,8 +13,7 @@ from __future__ import annotations
 import json
 from dataclasses import dataclass
 from pathlib import Path
-from typing import Any, Dict, Iterable, Iterator, List, Mapping, NamedTuple, Optional, Sequence
-from typing import Tuple, Union
+from typing import Any, Dict, Iterable, Iterator, List, Mapping, Optional, Sequence, Tuple, Union
 
 from .faults import VALUE, Fault
 from .seconds import Day, Leap, Second, Time, day_number
@@ -27,7 +25,7 @@ Value = Dict[str, Any]  # of a line, or of a part of one
 
 __all__ = [
     "Change", "Damage", "Generator", "Heard", "Leap", "Lost", "Raw", "Reader", "Replay", "Scenario",
-    "Table", "Timeline", "line_of", "made_edges", "plant_in", "plant_value",
+    "Table", "Timeline", "line_of", "plant_value", "readers_in",
 ]
 
 
@@ -350,51 +348,12 @@ class Scenario:
 # ---- what a scenario says
 
 
-class Plant(NamedTuple):
-    """What a plant line says of the true seconds, and the names of its readers."""
-
-    timeline: Timeline
-    readers: Sequence[str]
-
-
-def plant_in(scenario: Union[str, bytes]) -> Optional[Plant]:
-    """What the plant line of a scenario says; None if the program refuses it, as far as that is seen
-    here."""
+def readers_in(scenario: Union[str, bytes]) -> List[str]:
+    """The names of the readers, by the plant line of a scenario; none if the program refuses it, as far as
+    that is seen here."""
     text = scenario.decode(errors="replace") if isinstance(scenario, bytes) else scenario
     first = next((line for line in text.split("\n") if line.strip()), "")
     try:
-        value = json.loads(first)
-        leaps = [Leap(leap["day"], leap["kind"]) for leap in value["leaps"]]
-        timeline = Timeline(Second.read(value["start"]), leaps)
-        return Plant(timeline, [reader["name"] for reader in value["readers"]])
+        return [reader["name"] for reader in json.loads(first)["readers"]]
     except (ValueError, TypeError, KeyError, RecursionError):
-        return None
-
-
-def made_edges(lines: Iterable[str], readers: Iterable[str]) -> Dict[str, List[List[int]]]:
-    """Which lines of a scenario made a reader's edges: for each line that gave it some, the last of
-    them, and the number of the line, from 1."""
-    edges = dict.fromkeys(readers, 0)
-    found: Dict[str, List[List[int]]] = {reader: [] for reader in edges}
-    for number, line in enumerate(lines, 1):
-        for reader, count in _edges_of_line(line, edges):
-            edges[reader] += count
-            found[reader].append([edges[reader], number])
-    return found
-
-
-def _edges_of_line(line: str, readers: Iterable[str]) -> List[Tuple[str, int]]:
-    """How many edges a line gives to which readers; the program has judged the line."""
-    if '"tick"' not in line and '"seconds"' not in line:
         return []
-    try:
-        value = json.loads(line)
-    except (ValueError, RecursionError):
-        return []
-    if not isinstance(value, dict):
-        return []
-    count, reader = value.get("n"), value.get("r")
-    if value.get("do") == "seconds" and isinstance(count, int) and count > 0:
-        return [(name, count) for name in readers]
-    is_known = isinstance(reader, str) and reader in readers
-    return [(str(reader), 1)] if value.get("do") == "tick" and is_known else []

@@ -7,17 +7,17 @@ import os
 from functools import partial
 from pathlib import Path
 from sys import intern
-from typing import Iterator, NamedTuple, Optional, Sequence, Union
+from typing import Any, Iterator, NamedTuple, Optional, Sequence, Union
 
 from . import _library as c
 from .faults import MEANINGS
 from .logs import Announced, Entry, Lines, Log, Ports, PremiseBroken, PremisesKept, Refused, Silent
 from .logs import TableBroken, Verdict
-from .scenarios import Scenario, plant_in
+from .scenarios import Scenario, readers_in
 from .seconds import Second
 from .words import CAUSES, LOCKS
 
-# Room for entries, and for the bytes of a log, at first: pages that are not written cost nothing.
+# Room for what a run has, and for the bytes of a log, at first: pages that are not written cost nothing.
 ROOM = 1 << 18
 LOG_ROOM = 1 << 25
 REASON_ROOM = 1 << 12
@@ -28,26 +28,41 @@ Source = Union[str, bytes, "os.PathLike[str]", Scenario]
 
 
 class _Ran(NamedTuple):
-    """What a run answers: its status, how many entries it has, as many of them as there was room for,
-    and its verdict; of a refused line the program's words and where in them is what."""
+    """What a run answers: its status, how many entries it has, or stretches or lanes, as many of them as there
+    was room for, and its verdict; of a refused line the program's words and where in them is what."""
 
     status: int
     whole: int
-    entries: "ctypes.Array[c.Entry]"
+    held: "ctypes.Array[Any]"
     verdict: c.Verdict
     reason: bytes
     refusal: c.Refusal
 
+    @property
+    def found(self) -> Sequence[Any]:
+        """The entries, stretches or lanes."""
+        return self.held[: self.whole]
 
-def _run(text: bytes, room: int, reason_room: int) -> _Ran:
-    """One call of the library, for the numbers of a log."""
-    memory, whole = mmap.mmap(-1, room * ctypes.sizeof(c.Entry)), ctypes.c_size_t()
-    entries, verdict = (c.Entry * room).from_buffer(memory), c.Verdict()
+
+def _ran(call: Any, kind: Any, text: bytes, room: int, reason_room: int) -> _Ran:
+    """One call of the library, for what a run has of this kind."""
+    memory, whole = mmap.mmap(-1, room * ctypes.sizeof(kind)), ctypes.c_size_t()
+    held, verdict = (kind * room).from_buffer(memory), c.Verdict()
     reason, refusal = (ctypes.c_uint8 * reason_room)(), c.Refusal()
-    status = c.run_entries(
-        text, len(text), entries, room, whole, verdict, reason, len(reason), refusal
-    )
-    return _Ran(status, whole.value, entries, verdict, bytes(reason[: refusal.whole]), refusal)
+    status = call(text, len(text), held, room, whole, verdict, reason, len(reason), refusal)
+    return _Ran(status, whole.value, held, verdict, bytes(reason[: refusal.whole]), refusal)
+
+
+def played(call: Any, kind: Any, text: bytes) -> _Ran:
+    """What a run of a scenario has, as `run_entries` of `c.Entry`: by one call of the library, and another one if
+    there was too little room. Raises MemoryError if memory is out."""
+    ran = _ran(call, kind, text, ROOM, REASON_ROOM)
+    is_cut = ran.whole > ROOM or ran.refusal.whole > REASON_ROOM
+    if ran.status in ENDED and is_cut:
+        ran = _ran(call, kind, text, max(ran.whole, ROOM), max(ran.refusal.whole, REASON_ROOM))
+    if ran.status not in ENDED:
+        raise MemoryError("no memory for the run of a scenario")
+    return ran
 
 
 def _written(text: bytes, all: bool, ports: bool, room: int) -> str:
@@ -72,14 +87,7 @@ def run(source: Source, all: bool = False, ports: bool = False) -> Log:
     is out.
     """
     text = _text_of(source)
-    ran = _run(text, ROOM, REASON_ROOM)
-    is_cut = ran.whole > ROOM or ran.refusal.whole > REASON_ROOM
-    if ran.status in ENDED and is_cut:
-        ran = _run(text, max(ran.whole, ROOM), max(ran.refusal.whole, REASON_ROOM))
-    if ran.status not in ENDED:
-        raise MemoryError("no memory for the run of a scenario")
-    plant = plant_in(text)
-    names = plant.readers if plant else ()
+    ran, names = played(c.run_entries, c.Entry, text), readers_in(text)
     lines = Lines(partial(_written, text, all, ports, LOG_ROOM))
     log = Log(tuple(_entries(ran, names, lines, all, ports)), _verdict(ran.verdict, names), text, lines)
     if ran.refusal.line:
@@ -89,19 +97,23 @@ def run(source: Source, all: bool = False, ports: bool = False) -> Log:
 
 def _entries(ran: _Ran, names: Sequence[str], lines: Lines, all: bool, ports: bool) -> Iterator[Entry]:
     """What the lines of a log say, by the numbers of a run."""
-    size, place = ctypes.sizeof(c.Entry), -1
-    memory = memoryview(ran.entries).cast("B")[: ran.whole * size]
-    numbers = c.unpacked(c.Entry, memory, "edge", "lock_count", "day", "sod", "reader", "announces", "lock", "cause")
-    for number, (edge, turns, day, sod, reader, announces, lock, cause) in enumerate(numbers):
+    size, place, asked = ctypes.sizeof(c.Entry), -1, lines.asked.append
+    memory = memoryview(ran.held).cast("B")[: ran.whole * size]
+    fields = "edge", "line", "lock_count", "day", "sod", "reader", "announces", "lock", "cause"
+    numbers = c.unpacked(c.Entry, memory, *fields)
+    for number, (edge, line, turns, day, sod, reader, announces, lock, cause) in enumerate(numbers):
         name = names[reader]
         if announces:
             place += 1
+            asked(line)
             yield Announced(edge, name, Second(day, sod), LOCKS[lock], turns, CAUSES[cause], lines, place)
         elif all:
             place += 1
+            asked(line)
             yield Silent(edge, name, LOCKS[lock], turns, CAUSES[cause], lines, place)
         if ports:
             place += 1
+            asked(line)
             words = tuple(map(intern, lines.at(place).split()[2:]))
             yield Ports(edge, name, words, lines, place, bytes(memory[number * size : (number + 1) * size]))
 

@@ -2,14 +2,14 @@
 silences of readers and their untrue seconds."""
 from __future__ import annotations
 
-import ctypes
 from dataclasses import dataclass
 from typing import Dict, List, Literal, Optional, Sequence, Tuple, Union, get_args
 
 from . import _library as c
 from .faults import detail_of, words_of
 from .logs import UNTRUE, Said
-from .scenarios import plant_in
+from .scenarios import readers_in
+from .scenes import played
 from .seconds import DAY, Second
 from .words import CAUSES, MARKS, Cause, PortKind
 
@@ -18,7 +18,6 @@ StretchKind = Union[PortKind, ReaderKind]
 
 # By the numbers of C, of which the first is 1.
 KINDS: Tuple[StretchKind, ...] = (*get_args(PortKind)[1:], *get_args(ReaderKind))
-ROOM = 1 << 10  # stretches, at first
 
 DID: Dict[str, str] = {
     "silent": "was silent",
@@ -139,18 +138,8 @@ class Stretch(Said):
 def stretches_of(scenario: bytes) -> List[Stretch]:
     """The stretches of a scenario, each at the edge that ends it, and at the end those that are open: what
     `irig blame` has a line of. Raises MemoryError if memory is out."""
-    plant = plant_in(scenario)
-    names = plant.readers if plant else ()
-    return [_stretch(held, names) for held in _found(scenario, ROOM)]
-
-
-def _found(scenario: bytes, room: int) -> List[c.Stretch]:
-    """What the library finds, by one call of it, and another one if there was too little room."""
-    held, whole, verdict, refusal = (c.Stretch * room)(), ctypes.c_size_t(), c.Verdict(), c.Refusal()
-    status = c.run_stretches(scenario, len(scenario), held, room, whole, verdict, None, 0, refusal)
-    if status not in (c.NUMBERS["RUN_DONE"], c.NUMBERS["RUN_REFUSED"]):
-        raise MemoryError("no memory for the run of a scenario")
-    return list(held[: whole.value]) if whole.value <= room else _found(scenario, whole.value)
+    names = readers_in(scenario)
+    return [_stretch(held, names) for held in played(c.run_stretches, c.Stretch, scenario).found]
 
 
 def _stretch(held: c.Stretch, names: Sequence[str]) -> Stretch:

@@ -1,7 +1,6 @@
 """Building scenarios: edges and UTC seconds, the lines, and what the program makes of them."""
 from __future__ import annotations
 
-import json
 import subprocess
 import sys
 import tempfile
@@ -13,7 +12,7 @@ from typing import List
 from irig import Second, _library
 from irig.scenarios import (
     Change, Damage, Generator, Leap, Lost, Raw, Reader, Replay, Scenario, Table, Timeline,
-    made_edges, plant_in,
+    readers_in,
 )
 from program import ROOT, printed
 
@@ -171,18 +170,11 @@ class Said(unittest.TestCase):
     """What is read of a scenario."""
 
     def test_a_plant_line(self) -> None:
-        plant = plant_in("\n  \n" + example("leap_inserted.jsonl"))
-        assert plant
-        self.assertEqual(plant.readers, ["relay", "recorder"])
-        self.assertEqual(plant.timeline.second_at(10), "2016-12-31T23:59:60Z")
-        for text in ("", "{", "[]", '{"start":"noon","leaps":[],"readers":[]}'):
-            self.assertIsNone(plant_in(text))
-
-    def test_which_lines_made_edges(self) -> None:
-        tick = json.dumps({"do": "tick", "r": "relay"})
-        lines = ["{}", '{"do":"seconds","n":10}', tick, "", '{"do":"seconds","n":1}']
-        made = made_edges(lines, ["relay", "meter"])
-        self.assertEqual(made, {"relay": [[10, 2], [11, 3], [12, 5]], "meter": [[10, 2], [11, 5]]})
+        text = "\n  \n" + example("leap_inserted.jsonl")
+        for scenario in (text, text.encode()):
+            self.assertEqual(readers_in(scenario), ["relay", "recorder"])
+        for text in ("", "{", "[]", '{"start":"noon","leaps":[]}', '{"readers":[5]}', "[" * 100_000):
+            self.assertEqual(readers_in(text), [])
 
 
 class Alone(unittest.TestCase):

@@ -8,13 +8,12 @@ import unittest
 from dataclasses import replace
 from itertools import product
 from pathlib import Path
-from typing import Callable
+from typing import Callable, List
 from unittest import mock
 
 import irig
-from irig import Announced, PremiseBroken, PremisesKept, Second, Silent, TableBroken
-from irig.scenarios import Reader, Scenario
-from irig.stretches import ROOM
+from irig import Announced, Lane, PremiseBroken, PremisesKept, Second, Silent, TableBroken
+from irig.scenarios import Leap, Reader, Scenario
 from program import ROOT, all_cases, cases, printed, told
 
 
@@ -197,11 +196,84 @@ class Blame(unittest.TestCase):
         self.assertEqual((held.vote, held.ports), (1, ()))
 
     def test_more_than_there_is_room_for(self) -> None:
-        plant = Scenario("2016-06-15T12:00:00Z", [Reader("relay", 1, 10)])
-        for _ in range(400):
-            plant.dark(1)
-            plant.seconds(1)
-        self.assertGreater(len(irig.run(plant).blame()), ROOM)
+        log = irig.run(example("one_liar"))
+        with mock.patch("irig.scenes.ROOM", 1):
+            self.assertEqual([str(stretch) for stretch in log.blame()], self.WANTED)
+
+
+class Lanes(unittest.TestCase):
+    """What a picture of a run shows. c/test_scene.py compares the lanes of all cases with the program's logs."""
+
+    # As examples/README.md says of it, with the words of docs/OUTPUT.md.
+    WANTED = [
+        Lane("relay", None, "stood", 1, 1, "acquiring", "acquiring"),
+        Lane("relay", None, "stood", 2, 16, "locked", "voted"),
+        Lane("relay", None, "mark", 12, 12, "month end", None),
+        Lane("relay", 0, "told", 1, 16, "agreed", None),
+        Lane("relay", 1, "told", 1, 4, "agreed", None),
+        Lane("relay", 1, "told", 5, 8, "another second", None),
+        Lane("relay", 1, "told", 9, 12, "another mark", None),
+        Lane("relay", 1, "told", 13, 16, "agreed", None),
+        Lane("relay", 2, "told", 1, 16, "agreed", None),
+    ]
+
+    @staticmethod
+    def sorted_of(log: irig.Log) -> List[Lane]:
+        return sorted(log.lanes(), key=lambda it: (it.reader, -1 if it.port is None else it.port, it.first))
+
+    def test_one_liar(self) -> None:
+        path = ROOT / "examples/one_liar.jsonl"
+        for log in (irig.run(path, ports=True), irig.run(path)):
+            self.assertEqual(self.sorted_of(log), self.WANTED)
+        with self.assertRaises(irig.Refused) as caught:
+            irig.run(example("one_liar") + "[]\n")
+        self.assertEqual(self.sorted_of(caught.exception.log), self.WANTED)
+        read = irig.read_log("1 relay - unlocked no-vote\npremises kept\n", path.read_bytes())
+        self.assertEqual(self.sorted_of(read), self.WANTED)
+        with mock.patch("irig.scenes.ROOM", 1):
+            self.assertEqual(self.sorted_of(read), self.WANTED)
+
+    def test_marks(self) -> None:
+        """At the edges that examples/README.md names: also in a silence, and beside a false table, are they the
+        scenario's."""
+        for name, wanted in (
+            ("leap_inserted", [(10, "leap second"), (11, "month end")]), ("leap_deleted", [(9, "deleted second")]),
+            ("month_end_guard", [(62, "month end")]), ("misled_by_table", [(60, "leap second")]),
+            ("plain_minute", []),
+        ):
+            lanes = irig.run(example(name)).lanes()
+            found = [(it.first, it.state) for it in lanes if (it.kind, it.reader) == ("mark", "relay")]
+            with self.subTest(name):
+                self.assertEqual(found, wanted)
+
+    def test_no_memory(self) -> None:
+        log = irig.run(example("one_liar"))
+        for name in ("run_lanes", "run_stretches"):
+            with mock.patch(f"irig._library.{name}", lambda *words: 6, create=True):
+                self.assertRaises(MemoryError, log.lanes if name == "run_lanes" else log.blame)
+
+
+class Asked(unittest.TestCase):
+    """Which line of the scenario asked for a tick, and what was true there."""
+
+    def test_lines(self) -> None:
+        """Seconds of both readers, then a tick of one, an empty line, a fault that asks for none, and seconds."""
+        plant = Scenario("2016-12-31T23:59:58Z", [Reader("relay", 1), Reader("meter", 1)], leaps=[Leap("2016-12-31")])
+        plant.seconds(2)
+        plant.event("tick", r="meter")
+        text = plant.text() + '\n{"do":"fault","g":0,"kind":"silent"}\n{"do":"seconds","n":1}\n'
+        ticks = [(1, "relay", 2), (1, "meter", 2), (2, "relay", 2), (2, "meter", 2), (3, "meter", 3), (3, "relay", 6),
+                 (4, "meter", 6)]
+        for log, count in ((irig.run(text, all=True), 1), (irig.run(text, all=True, ports=True), 2)):
+            wanted = [tick for tick in ticks for _ in range(count)]
+            self.assertEqual([(it.edge, it.reader, it.asked) for it in log], wanted)
+            again = pickle.loads(pickle.dumps(log))
+            self.assertEqual([it.asked for it in again], [it.asked for it in log])
+        read = irig.read_log(log.text)
+        self.assertEqual((read, {it.asked for it in read}, {it.truth for it in read.ports}), (log, {None}, {None}))
+        self.assertEqual([str(it.truth) for it in log.ports if it.reader == "meter"], [
+            "2016-12-31T23:59:58Z", "2016-12-31T23:59:59Z", "2016-12-31T23:59:60Z", "2017-01-01T00:00:00Z",
+        ])
 
 
 class Refusals(unittest.TestCase):

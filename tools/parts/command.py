@@ -30,9 +30,14 @@ def program() -> str:
     return os.environ.get("IRIG", str(ROOT / "irig"))
 
 
+def warn(name: str, reason: object) -> None:
+    """Says what is wrong, in the name of a command."""
+    print(f"{name}: {reason}", file=sys.stderr)
+
+
 def fail(name: str, reason: object) -> NoReturn:
     """Ends the command of this name."""
-    print(f"{name}: {reason}", file=sys.stderr)
+    warn(name, reason)
     sys.exit(2)
 
 
@@ -83,7 +88,7 @@ def shown(text: str) -> str:
     return "".join(letter if letter.isprintable() else ascii(letter)[1:-1] for letter in text)
 
 
-def reason_of(error: OSError | ValueError) -> str:
+def reason_of(error: ImportError | OSError | ValueError) -> str:
     """What is wrong, in words."""
     if isinstance(error, UnicodeDecodeError):
         return "it is no text"

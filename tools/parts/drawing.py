@@ -1,4 +1,4 @@
-"""Draws the bars of a log with matplotlib: for tools/plot."""
+"""Draws the bars of a run with matplotlib: for tools/plot."""
 from __future__ import annotations
 
 from collections import Counter
@@ -15,8 +15,10 @@ from matplotlib.patches import Patch, Rectangle
 from matplotlib.textpath import TextPath
 from matplotlib.ticker import MaxNLocator
 
-from parts.log_lanes import PORT_STATES, STATES, Bars, Lane, Run, State
+from parts.log_lanes import PORT_STATES, STATES, Bars, Offset, ReaderLanes, State
 from parts.layout import Label, Scale, chosen, ways
+
+from irig import Lane
 
 matplotlib.rcdefaults()  # a picture is the same whatever the user's own settings are
 matplotlib.rcParams.update({"svg.hashsalt": "irig", "hatch.linewidth": 0.8})
@@ -90,11 +92,11 @@ def draw_axis(axes: Axes, bars: Bars, scale: Scale) -> None:
     axes.set_xticks([scale.place(edge) for edge in ticks], texts_of(bars, ticks))
     axes.set_yticks([])
     axes.tick_params(labelsize=NORMAL)
-    label = f"edge (one a second), and UTC{'' if bars.timeline else ' as announced'}"
+    label = "edge (one a second), and UTC"
     if scale.is_cut:
         label += "; at slanted lines nothing changes, and the axis is shortened"
     if any(is_widened(run, scale) for lane in bars.lanes for run in amiss_in(lane)):
-        label += f"; short silences{' and lies' if has_ports(bars) else ''} are drawn wider than they are"
+        label += "; short silences and lies are drawn wider than they are"
     axes.set_xlabel(label, size=NORMAL)
     for side in ("left", "right", "top"):
         axes.spines[side].set_visible(False)
@@ -139,21 +141,17 @@ def write(axes: Axes, label: Label, height: float) -> None:
 # ---- a reader
 
 
-def has_ports(bars: Bars) -> bool:
-    return any(lane.ports for lane in bars.lanes)
-
-
-def amiss_in(lane: Lane) -> list[Run]:
+def amiss_in(lane: ReaderLanes) -> list[Lane]:
     """The silences of a reader, and the lies of its ports."""
     silent = [run for run in lane.runs if not STATES[run.state].is_high]
     return silent + [run for runs in lane.ports for run in runs if PORT_STATES[run.state].is_high]
 
 
-def is_widened(run: Run, scale: Scale) -> bool:
+def is_widened(run: Lane, scale: Scale) -> bool:
     return scale.place(run.last + 0.5) - scale.place(run.first - 0.5) < NARROW - 1e-9
 
 
-def ends_of(runs: Iterable[Run], scale: Scale) -> list[tuple[float, float]]:
+def ends_of(runs: Iterable[Lane], scale: Scale) -> list[tuple[float, float]]:
     """Where runs begin and end; narrow ones that touch are one, as no more can be seen."""
     found: list[tuple[float, float]] = []
     for run in runs:
@@ -170,18 +168,15 @@ def ends_of(runs: Iterable[Run], scale: Scale) -> list[tuple[float, float]]:
 
 def look_of(name: str, state: State) -> dict:
     """How a state is drawn, in bars and in the legend."""
-    is_dashed = name == "not announced"
-    edge = {"not announced": "#555555", "silent": "#BBBBBB"}.get(name, "white")
     return {
         "facecolor": state.colour,
-        "edgecolor": edge,
-        "linestyle": (0, (3, 2)) if is_dashed else "solid",
+        "edgecolor": "#BBBBBB" if name == "silent" else "white",
         "linewidth": 0.6,
         "hatch": HATCHES[state.pattern],
     }
 
 
-def draw_bars(axes: Axes, lane: Lane, scale: Scale, foot: float) -> None:
+def draw_bars(axes: Axes, lane: ReaderLanes, scale: Scale, foot: float) -> None:
     """High bars first, then low ones before white: a silence is a gap, however short."""
     for name, state in STATES.items():
         look, height = look_of(name, state), HIGH if state.is_high else LOW
@@ -201,7 +196,7 @@ def draw_boxes(
     axes.add_collection(PatchCollection(boxes, **look))
 
 
-def draw_ports(axes: Axes, lane: Lane, scale: Scale, top: float) -> float:
+def draw_ports(axes: Axes, lane: ReaderLanes, scale: Scale, top: float) -> float:
     """What each port told, from this height down, and where that ends. Lies are as high as their
     lane, and drawn last; a silence is a gap."""
     for port, runs in enumerate(lane.ports):
@@ -222,7 +217,7 @@ def draw_ports(axes: Axes, lane: Lane, scale: Scale, top: float) -> float:
     return ends
 
 
-def draw_marks(axes: Axes, lane: Lane, scale: Scale, foot: float) -> None:
+def draw_marks(axes: Axes, lane: ReaderLanes, scale: Scale, foot: float) -> None:
     top = foot + HIGH + 0.1
     for mark in lane.marks:
         place = scale.place(mark.at)
@@ -234,12 +229,13 @@ def draw_marks(axes: Axes, lane: Lane, scale: Scale, foot: float) -> None:
                       mfc="white" if mark.kind == "deleted second" else "black", mec="black", zorder=4)
 
 
-def causes_of(lane: Lane, scale: Scale) -> tuple[list[list[Label]], int]:
+def causes_of(lane: ReaderLanes, scale: Scale) -> tuple[list[list[Label]], int]:
     """Labels for silences, rare causes first, then long ones, and for offsets; and how many there are."""
     silent = [run for run in lane.runs if not STATES[run.state].is_high]
     counts = Counter(run.cause for run in silent)
     silent.sort(key=lambda run: (counts[run.cause], run.first - run.last, run.first))
-    labels, amiss = [], silent + lane.offsets
+    amiss: list[Lane | Offset] = [*silent, *lane.offsets]
+    labels = []
     for run in amiss[:MOST_LABELS]:
         edges = f"{run.first}" if run.first == run.last else f"{run.first} to {run.last}"
         left, right = scale.place(run.first - 0.5), scale.place(run.last + 0.5)
@@ -247,7 +243,7 @@ def causes_of(lane: Lane, scale: Scale) -> tuple[list[list[Label]], int]:
     return labels, len(amiss)
 
 
-def draw_causes(axes: Axes, lane: Lane, scale: Scale, top: float) -> float:
+def draw_causes(axes: Axes, lane: ReaderLanes, scale: Scale, top: float) -> float:
     """Writes the causes of silences and the offsets below a bar, and says where they end."""
     labels, count = causes_of(lane, scale)
     found = chosen(labels, MOST_ROWS)
@@ -264,7 +260,7 @@ def draw_causes(axes: Axes, lane: Lane, scale: Scale, top: float) -> float:
     return top - ROW * depth
 
 
-def draw_lane(axes: Axes, lane: Lane, scale: Scale, top: float) -> float:
+def draw_lane(axes: Axes, lane: ReaderLanes, scale: Scale, top: float) -> float:
     """Draws a reader from this height down, and says where it ends."""
     foot = top - ABOVE - HIGH
     axes.text(-0.12, foot + HIGH / 2, lane.reader, size=NORMAL, ha="right", va="center")
@@ -289,14 +285,9 @@ def draw_top(axes: Axes, bars: Bars, scale: Scale) -> float:
     return ROW * (max((row for _, row in found), default=-1) + 1)
 
 
-def verdict_of(bars: Bars) -> tuple[str, str]:
-    """The last line of the log, and what it means."""
-    if bars.verdict is None:
-        return "no last line", "the run did not end, or the log was cut"
-    for beginning, meaning in VERDICTS.items():
-        if bars.verdict.startswith(beginning):
-            return bars.verdict, meaning
-    return bars.verdict, ""
+def meaning_of(last_line: str) -> str:
+    """What the last line of a log means."""
+    return next(meaning for beginning, meaning in VERDICTS.items() if last_line.startswith(beginning))
 
 
 def patches_of(bars: Bars) -> list[list[Patch]]:
@@ -334,8 +325,7 @@ def draw_words(figure: Figure, bars: Bars, title: str, left: float) -> None:
     def say(inches: float, text: str, size: float, **look: str) -> None:
         figure.text(left / width, inches / height, text, size=size, va="center", **look)
 
-    ports = ", and what its ports told" if has_ports(bars) else ""
-    heading = f"{title}: how each reader stood{ports}".replace("$", r"\$")  # no formula
+    heading = f"{title}: how each reader stood, and what its ports told".replace("$", r"\$")  # no formula
     wide = width_of(heading, LARGE) * BOLD
     say(height - 0.28, heading, LARGE * min(1.0, WIDTH / wide), weight="bold")
     told = "no second is announced"
@@ -344,10 +334,9 @@ def draw_words(figure: Figure, bars: Bars, title: str, left: float) -> None:
         first, last = (f"{entry.second} at edge {entry.edge}" for entry in ends)
         told = f"first announced: {first}; last: {last}"
     say(height - 0.52, told, SMALL, color="#444444")
-    verdict, meaning = verdict_of(bars)
-    sign = "\N{CHECK MARK}" if verdict == "premises kept" else "\N{BALLOT X}"
-    say(0.42, f"{sign} {verdict}", NORMAL, weight="bold")
-    say(0.2, meaning, SMALL, color="#444444")
+    sign = "\N{CHECK MARK}" if bars.last_line == "premises kept" else "\N{BALLOT X}"
+    say(0.42, f"{sign} {bars.last_line}", NORMAL, weight="bold")
+    say(0.2, meaning_of(bars.last_line), SMALL, color="#444444")
 
 
 def picture_of(bars: Bars, title: str) -> Figure:

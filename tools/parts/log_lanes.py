@@ -1,21 +1,20 @@
-"""What a log of irig shows as bars: for each reader runs of edges at which it stood alike, for each of
-its ports runs at which it told alike, and marks at leap seconds, month ends and where a premise broke.
-tools/plot draws them, and the page of tools/view; web/worker.js makes the same of the entries of a run."""
+"""What a run of a scenario shows as bars, as the library finds it: for each reader runs of edges at which it stood
+alike, for each of its ports runs at which it told alike, and marks at leap seconds, month ends and where a premise
+broke. tools/plot draws them, and the page of tools/view; web/worker.js makes the same of the entries of a run."""
 from __future__ import annotations
 
-from collections.abc import Iterable, Iterator
-from dataclasses import dataclass, field
-from datetime import timedelta
-from typing import get_args
+from collections.abc import Iterable
+from dataclasses import dataclass, field, replace
+from typing import TypeVar
 
 from parts import package  # noqa: F401
+from parts.command import read_text, shown, warn
 
+import irig
 from irig.faults import Fault
-from irig.logs import ENTRIES, Announced, Entry, LastLine, Ports, PremiseBroken, Reading, RefusedLine, Silent, Tick
-from irig.logs import read_lines, ticks_of
-from irig.scenarios import Timeline, made_edges, plant_in
-from irig.seconds import EPOCH, Second, day_number
-from irig.stretches import Stretch, stretches_of
+from irig.logs import Announced, PremiseBroken, RefusedLine, Tick
+from irig.seconds import Second
+from irig.stretches import Stretch
 from irig.words import CAUSES
 
 
@@ -30,7 +29,7 @@ class State:
     meaning: str
 
 
-NO_LINE = "not announced"  # of an edge that has none
+NO_LINE = "not announced"  # for web/: of an edge that has no line
 
 STATES = {
     "locked": State("#0072B2", "plain", True, "announces by a vote"),
@@ -56,18 +55,50 @@ KINDS = {  # for the scripts of pages: states in the order in which they are dra
     "PORT": {name.upper().replace(" ", "_"): place for place, name in enumerate(PORT_STATES)},
 }
 
-LAST_LINES = get_args(LastLine)
+
+# ---- a run
 
 
-@dataclass
-class Run:
-    """Edges of a reader, `first` to `last`, at which it stood alike for one cause; or of one of its
-    ports, at which it told alike: then `cause` is its word at the first of them."""
+@dataclass(frozen=True)
+class Ran:
+    """A run of a scenario, with silences and what ports told, up to a line that is refused, if one is."""
 
-    first: int
-    last: int
-    state: str
-    cause: str
+    log: irig.Log
+    refused: irig.Refused | None = None
+
+    @property
+    def last_line(self) -> str:
+        """The last line of its log."""
+        why = self.refused
+        return str(RefusedLine(why.line, why.number, why.name) if why else self.log.verdict)
+
+    @property
+    def last_edge(self) -> int:
+        return max((entry.edge for entry in self.log), default=1)
+
+
+def run_of(scenario: bytes) -> Ran:
+    try:
+        return Ran(irig.run(scenario, all=True, ports=True))
+    except irig.Refused as refused:
+        return Ran(refused.log, refused)
+
+
+def run_of_file(name: str) -> Ran:
+    """The run of the scenario in a file, or on standard input if the name is `-`. A ValueError if it is none."""
+    text = read_text(name)
+    if not text.lstrip().startswith("{"):
+        raise ValueError("it does not begin with a plant line; a picture is made of a scenario, not of its log")
+    return run_of(text.encode())
+
+
+def warn_of_refusal(command: str, ran: Ran) -> None:
+    """Says, in the name of a command, which line was refused, if one was."""
+    if ran.refused:
+        warn(command, f"{shown(str(ran.refused))}; what comes before that line is shown")
+
+
+# ---- what is drawn of it
 
 
 @dataclass(frozen=True)
@@ -78,178 +109,172 @@ class Mark:
     kind: str
 
 
+# By the state of a lane how far from its edge which marks stand.
+MARKED = {
+    "leap second": [(0, "leap second")],
+    "deleted second": [(-0.5, "deleted second"), (-0.5, "month end")],
+    "month end": [(-0.5, "month end")],
+}
+
+
+@dataclass(frozen=True)
+class Offset:
+    """Edges at which ports of a reader told another second than the scenario has, or the reader itself did; the
+    cause says who, and how far it was."""
+
+    first: int
+    last: int
+    cause: str
+
+
 @dataclass
-class Lane:
-    """What one reader did, and what its ports told, if the log has that; and `offsets`, the runs at which
-    one of them told another second than the scenario has: their causes say who, and how far it was."""
+class ReaderLanes:
+    """What one reader did: the lanes of how it stood and of what its ports told, marks, and offsets."""
 
     reader: str
-    runs: list[Run] = field(default_factory=list)
+    runs: list[irig.Lane] = field(default_factory=list)
     marks: list[Mark] = field(default_factory=list)
-    ports: list[list[Run]] = field(default_factory=list)
-    offsets: list[Run] = field(default_factory=list)
+    ports: list[list[irig.Lane]] = field(default_factory=list)
+    offsets: list[Offset] = field(default_factory=list)
+
+    def take(self, lane: irig.Lane) -> None:
+        """Takes up a lane, in the order of edges and ports."""
+        if lane.kind == "mark":
+            self.marks += [Mark(lane.first + by, kind) for by, kind in MARKED[lane.state]]
+        elif lane.kind == "stood":
+            self.runs.append(lane)
+        else:
+            self.ports += [[]] if lane.port == len(self.ports) else []
+            self.ports[lane.port].append(lane)
+
+    def part(self, first: int, last: int) -> ReaderLanes:
+        """These edges alone."""
+        marks = [mark for mark in self.marks if first - 0.5 < mark.at < last + 0.5]
+        ports = [_cut(runs, first, last) for runs in self.ports]
+        return ReaderLanes(self.reader, _cut(self.runs, first, last), marks, ports, _cut(self.offsets, first, last))
+
+
+Edges = TypeVar("Edges", irig.Lane, Offset)
+
+
+def _cut(runs: Iterable[Edges], first: int, last: int) -> list[Edges]:
+    """What is of these edges."""
+    found = (run for run in runs if run.first <= last and first <= run.last)
+    return [replace(run, first=max(run.first, first), last=min(run.last, last)) for run in found]
+
+
+Dues = list[tuple[int, Second]]
 
 
 @dataclass
 class Bars:
-    """The lanes of a log, over the edges `first` to `last`, and its last line."""
+    """What is drawn of a run over the edges `first` to `last`, what its readers announced, the last line of its log,
+    and the true seconds where they do not just count on as days do, with their edges, from edge 0 on."""
 
-    lanes: list[Lane]
+    lanes: list[ReaderLanes]
     first: int
     last: int
-    verdict: str | None
+    last_line: str
     announced: list[Announced]
-    timeline: Timeline | None = None
+    dues: Dues
 
     def utc(self, edge: int) -> Second | None:
-        """The second that begins at an edge, by the scenario; if that is not known, as it is announced."""
-        announced = (entry.second for entry in self.announced if entry.edge == edge)
-        return due(self.timeline, edge) if self.timeline else next(announced, None)
+        """The true second that begins at an edge; None beyond the years served."""
+        since, second = next(due for due in reversed(self.dues) if due[0] <= edge)
+        try:
+            return second + (edge - since)
+        except Fault:
+            return None
 
     def part(self, first: int, last: int) -> Bars:
         """These edges alone."""
-        lanes = [
-            Lane(
-                lane.reader,
-                _cut(lane.runs, first, last),
-                [mark for mark in lane.marks if first - 0.5 < mark.at < last + 0.5],
-                [_cut(runs, first, last) for runs in lane.ports],
-                _cut(lane.offsets, first, last),
-            )
-            for lane in self.lanes
-        ]
+        lanes = [lane.part(first, last) for lane in self.lanes]
         announced = [entry for entry in self.announced if first <= entry.edge <= last]
-        return Bars(lanes, first, last, self.verdict, announced, self.timeline)
+        return replace(self, lanes=lanes, first=first, last=last, announced=announced)
 
 
-def _cut(runs: list[Run], first: int, last: int) -> list[Run]:
-    """What is of these edges."""
-    return [
-        Run(max(run.first, first), min(run.last, last), run.state, run.cause)
-        for run in runs
-        if run.first <= last and first <= run.last
-    ]
-
-
-def due(timeline: Timeline, edge: int) -> Second | None:
-    """The second that begins at an edge; None beyond the years served."""
-    try:
-        return timeline.second(edge)
-    except Fault:
-        return None
-
-
-def bars_of(lines: Iterable[str], scenario: str = "") -> Bars:
-    """What is drawn of a log, and of its scenario, if that is known; a ValueError if there is nothing to
-    draw, or a line is none of a log."""
-    said = list(read_lines(lines))
-    if not any(isinstance(line, ENTRIES) for line in said):
-        raise ValueError(f"no edges to draw: {_why_none(said[-1] if said else None)}")
-    plant = plant_in(scenario)
-    return _bars_of(said, plant.timeline, stretches_of(scenario.encode())) if plant else _bars_of(said)
-
-
-def _bars_of(said: list, timeline: Timeline | None = None, found: Iterable[Stretch] = ()) -> Bars:
-    """What is drawn of these lines, perhaps nothing, and of what a scenario's readers and ports did wrong."""
-    verdict = said.pop() if said and isinstance(said[-1], LAST_LINES) else None
-    ticks = list(ticks_of(said))
-    of_readers: dict[str, list[Tick]] = {}
-    for tick in ticks:
-        of_readers.setdefault(tick.reader, []).append(tick)
-    has_silences = any(isinstance(tick.said, Silent) for tick in ticks)
-    first = min(tick.edge for tick in ticks) if has_silences else 1
-    last = max((tick.edge for tick in ticks), default=1)
-    lanes = [lane_of(reader, ticks, first, last) for reader, ticks in of_readers.items()]
+def bars_of(ran: Ran) -> Bars:
+    """What is drawn of a run; a ValueError if it has no edges."""
+    if not ran.log:
+        raise ValueError(f"no edges to draw: {ran.refused or f'it says {ran.last_line!r} alone'}")
+    found, stretches = ran.log.lanes(), ran.log.blame()
+    lanes = readers_of(ran, found)
     for lane in lanes:
-        own = (one for one in found if one.reader == lane.reader and (one.port is None or lane.ports))
-        lane.offsets = _cut(_offset_runs(own), first, last)
-        if isinstance(verdict, PremiseBroken) and lane.reader == verdict.reader:
-            lane.marks.append(Mark(verdict.edge, "premise broken"))
-    announced = [tick.said for tick in ticks if isinstance(tick.said, Announced)]
-    return Bars(lanes, first, last, None if verdict is None else str(verdict), announced, timeline)
+        lane.offsets = offsets_of(one for one in stretches if one.reader == lane.reader)
+    announced = [entry for entry in ran.log if isinstance(entry, Announced)]
+    return Bars(lanes, 1, ran.last_edge, ran.last_line, announced, dues_of(ran.log, found))
 
 
-def lane_of(reader: str, ticks: list[Tick], first: int, last: int) -> Lane:
-    said = [tick.said for tick in ticks if tick.said]
-    announced = [entry for entry in said if isinstance(entry, Announced)]
-    runs, marks = list(_runs(said, first, last)), list(_marks(announced, first))
-    return Lane(reader, runs, marks, _port_runs(ticks))
+def readers_of(ran: Ran, lanes: Iterable[irig.Lane]) -> list[ReaderLanes]:
+    """The lanes of each reader that has edges."""
+    found = {reader: ReaderLanes(reader) for reader in ran.log.readers}
+    for lane in sorted(lanes, key=lambda it: (it.first, it.port or 0)):
+        found[lane.reader].take(lane)
+    verdict = ran.log.verdict
+    if isinstance(verdict, PremiseBroken):
+        found[verdict.reader].marks.append(Mark(verdict.edge, "premise broken"))
+    return list(found.values())
 
 
-def _why_none(verdict: LastLine | None) -> str:
-    if verdict is None:
-        return "it is empty"
-    is_refused = isinstance(verdict, RefusedLine)
-    hint = "" if is_refused else "; silent edges have lines if it is made with --all"
-    return f"it says '{verdict}' alone{hint}"
-
-
-def _port_runs(ticks: list[Tick]) -> list[list[Run]]:
-    """For each port the runs of edges at which it told alike."""
-    found: list[list[Run]] = []
-    for tick in ticks:
-        for port, word in enumerate(tick.ports.told if tick.ports else ()):
-            if port == len(found):
-                found.append([])
-            runs = found[port]
-            if runs and (runs[-1].last, runs[-1].state) == (tick.edge - 1, word.kind):
-                runs[-1].last = tick.edge
-            else:
-                runs.append(Run(tick.edge, tick.edge, word.kind, word.text))
-    return found
-
-
-def _offset_runs(stretches: Iterable[Stretch]) -> list[Run]:
-    """The runs of seconds that are not the scenario's; ports that are as far from it at the same edges have
-    one, and the reader has its own."""
+def offsets_of(stretches: Iterable[Stretch]) -> list[Offset]:
+    """Where seconds are not the scenario's; ports that are as far from it at the same edges have one offset, and
+    the reader has its own."""
     found: dict[tuple, list[str]] = {}
     for one in stretches:
         if one.offset:
             ports = found.setdefault((one.first, one.last, one.kind, one.offset), [])
             ports += [] if one.port is None else [f"port {one.port}"]
-    return [
-        Run(first, last, kind, ", ".join([offset, *ports]))
-        for (first, last, kind, offset), ports in found.items()
-    ]
+    return [Offset(first, last, ", ".join([offset, *ports])) for (first, last, _, offset), ports in found.items()]
 
 
-def _runs(entries: list[Announced | Silent], first: int, last: int) -> Iterator[Run]:
-    """The runs of one reader; edges without a line are runs of their own."""
-    run = Run(first, first - 1, "", "")
-    for entry in entries:
-        if entry.edge > run.last + 1:
-            yield from [run] if run.state else []
-            run = Run(run.last + 1, entry.edge - 1, NO_LINE, NO_LINE)
-        if (entry.lock, entry.cause) == (run.state, run.cause):
-            run.last = entry.edge
-        else:
-            yield from [run] if run.state else []
-            run = Run(entry.edge, entry.edge, entry.lock, entry.cause)
-    yield from [run] if run.state else []
-    if run.last < last:
-        yield Run(run.last + 1, last, NO_LINE, NO_LINE)
+NEXT = {"leap second": "insert", "deleted second": "delete", "month end": "no-leap"}  # what frames say before a mark
 
 
-def _marks(entries: list[Announced], first: int) -> Iterator[Mark]:
-    """The leap seconds that a reader announces, and the month ends between what it announces."""
-    before_edge, before_sod, before_month = first, 0, (0, 0)
-    for edge, second in ((entry.edge, entry.second) for entry in entries):
-        day = EPOCH + timedelta(second.day)
-        if second.is_leap:
-            yield Mark(edge, "leap second")
-        if (day.year, day.month) != before_month:
-            if edge == before_edge + 1 and (before_sod, second.sod) == (86_398, 0):
-                yield Mark(edge - 0.5, "deleted second")
-            begins = edge - 86_400 * (day.day - 1) - second.sod  # leap seconds come at its end alone
-            if before_edge < begins <= edge:
-                yield Mark(begins - 0.5, "month end")
-        before_edge, before_sod, before_month = edge, second.sod, (day.year, day.month)
+def dues_of(log: irig.Log, lanes: Iterable[irig.Lane]) -> Dues:
+    """The first true second, at edge 0, and those that do not just count on, at leap seconds and behind them."""
+    told = {entry.edge: entry for entry in log.ports}
+    found = [(0, told[1].truth)] if told else []
+    marks = {lane.first: lane.state for lane in lanes if lane.kind == "mark"}
+    for edge, kind in sorted(marks.items()):
+        before = told[edge].truth
+        if kind != "month end" or before.is_leap:
+            found.append((edge, before.next(NEXT[kind])))
+    return found
 
 
 # ---- for pages
 
 
-def _columns(runs: list[Run], names: Iterable[str]) -> dict[str, list[int]]:
+def drawn(scenario: bytes) -> dict:
+    """The bars of a scenario for a page."""
+    return drawn_of(run_of(scenario))
+
+
+def drawn_of(ran: Ran) -> dict:
+    """The bars of a run for a page, by numbers, with which lines of its log and of its scenario are of which edges."""
+    found, causes, verdict = ran.log.lanes(), [NO_LINE, *CAUSES], ran.log.verdict
+    ticks: dict[str, list[tuple[int, Tick]]] = {}
+    for number, tick in enumerate(ran.log.ticks()):
+        ticks.setdefault(tick.reader, []).append((number, tick))
+    lanes = [
+        {
+            "reader": lane.reader,
+            "marks": [[mark.at, mark.kind] for mark in lane.marks],
+            **_columns(lane.runs, STATES),
+            "causes": [causes.index(run.cause) for run in lane.runs],
+            "ports": [_columns(runs, PORT_STATES) for runs in lane.ports],
+            **_placed(ticks[lane.reader]),
+            "lies": _lies(lane, {tick.edge: tick for _, tick in ticks[lane.reader]}),
+        }
+        for lane in readers_of(ran, found)
+    ]
+    broken = {"edge": verdict.edge, "reader": verdict.reader} if isinstance(verdict, PremiseBroken) else None
+    dues = [[edge, second.day, second.sod] for edge, second in dues_of(ran.log, found)]
+    return {"lanes": lanes, "causes": causes, "first": 1, "last": ran.last_edge, "verdict": ran.last_line,
+            "broken": broken, "refused": ran.refused and ran.refused.line, "dues": dues}
+
+
+def _columns(runs: list[irig.Lane], names: Iterable[str]) -> dict[str, list[int]]:
     places = {name: place for place, name in enumerate(names)}
     return {
         "firsts": [run.first for run in runs],
@@ -258,68 +283,32 @@ def _columns(runs: list[Run], names: Iterable[str]) -> dict[str, list[int]]:
     }
 
 
-def dues_of(scenario: str) -> list[list[int]]:
-    """The seconds of a scenario where they do not just count on as days do: the first one, and those at leap
-    seconds, each with its edge, day and second of the day; none if it has no plant that says which."""
-    plant = plant_in(scenario)
-    try:
-        timeline = plant.timeline if plant else Timeline("")
-        days = [(day_number(leap.day), leap.kind) for leap in timeline.leaps]
-        start, found = Second.of(timeline.start), [Second(day + 1, 0) for day, _ in days]
-        found += [Second(day, 86_400) for day, kind in days if kind == "insert"]
-        later = [start, *sorted(second for second in found if second > start)]
-        return [[timeline.edge_of(second), second.day, second.sod] for second in later]
-    except (ValueError, TypeError):
-        return []
+def _placed(ticks: list[tuple[int, Tick]]) -> dict[str, list[int]]:
+    """Which lines of the log are of a reader's ticks, which are so many in the log and have two lines each; the
+    seconds that it announced; and the last edge of each line of the scenario that asked for some."""
+    edges, lines = [tick.edge for _, tick in ticks], [2 * number for number, _ in ticks]
+    seconds = [tick.second for _, tick in ticks]
+    made = dict(zip((tick.said.asked - 1 for _, tick in ticks), edges))
+    return {
+        "edges": edges,
+        "lines": lines,
+        "days": [second.day if second else 0 for second in seconds],
+        "sods": [second.sod if second else 0 for second in seconds],
+        "told_edges": edges,
+        "told_lines": [line + 1 for line in lines],
+        "ends": [*made.values()],
+        "makers": [*made],
+    }
 
 
-def _placed() -> dict:
-    """Where a reader's edges stand in a log, with the seconds that it announced there, and others that ports told."""
-    lies: dict[str, list] = {"edges": [], "ports": [], "days": [], "sods": []}
-    return {"edges": [], "lines": [], "days": [], "sods": [], "told_edges": [], "told_lines": [], "lies": lies}
-
-
-def _place(lane: dict, entry: Entry, number: int) -> None:
-    """Takes up an entry, which is that line of a log."""
-    told = "told_" if isinstance(entry, Ports) else ""
-    lane[f"{told}edges"].append(entry.edge)
-    lane[f"{told}lines"].append(number)
-    if isinstance(entry, Ports):
-        seconds = ((port, word.second) for port, word in enumerate(entry.told) if word.second)
-        rows = [(entry.edge, port, second.day, second.sod) for port, second in seconds]
-        for numbers, found in zip(lane["lies"].values(), zip(*rows)):
-            numbers += found
-    else:
-        second = entry.second if isinstance(entry, Announced) else None
-        lane["days"].append(second.day if second else 0)
-        lane["sods"].append(second.sod if second else 0)
-
-
-def drawn(log: list[str], scenario: list[str]) -> dict:
-    """The bars of a log for a page, by numbers, with which lines of the log and of its scenario are of which
-    edges; a ValueError if a line is none."""
-    reading, said, places = Reading(), [], {}
-    for number, line in enumerate(log):
-        entry = reading.take(line)
-        said += [entry] if entry else []
-        if isinstance(entry, ENTRIES):
-            _place(places.setdefault(entry.reader, _placed()), entry, number)
-    last = said[-1] if said else None
-    refused = last.line if isinstance(last, RefusedLine) else None
-    broken = {"edge": last.edge, "reader": last.reader} if isinstance(last, PremiseBroken) else None
-    made, bars, causes = made_edges(scenario[:refused], places), _bars_of(said), [NO_LINE, *CAUSES]
-    lanes = [
-        {
-            "reader": lane.reader,
-            "marks": [[mark.at, mark.kind] for mark in lane.marks],
-            **_columns(lane.runs, STATES),
-            "causes": [causes.index(run.cause) for run in lane.runs],
-            "ports": [_columns(runs, PORT_STATES) for runs in lane.ports],
-            **places[lane.reader],
-            "ends": [last for last, _ in made[lane.reader]],
-            "makers": [line - 1 for _, line in made[lane.reader]],
-        }
-        for lane in bars.lanes
-    ]
-    return {"lanes": lanes, "causes": causes, "first": bars.first, "last": bars.last, "verdict": bars.verdict,
-            "broken": broken, "refused": refused}
+def _lies(lane: ReaderLanes, ticks: dict[int, Tick]) -> dict[str, list[int]]:
+    """The other seconds that the ports of a reader told, edge by edge."""
+    runs = ((port, run) for port, runs in enumerate(lane.ports) for run in runs if run.state == "another second")
+    places = sorted((edge, port) for port, run in runs for edge in range(run.first, run.last + 1))
+    seconds = [ticks[edge].ports.told[port].second for edge, port in places]
+    return {
+        "edges": [edge for edge, _ in places],
+        "ports": [port for _, port in places],
+        "days": [second.day for second in seconds],
+        "sods": [second.sod for second in seconds],
+    }

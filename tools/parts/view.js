@@ -9,7 +9,7 @@ class Lines {
 const timeline = new Timeline(on_choice);
 const log = new List(part("log"), on_line);
 const scenario = new List(part("scenario"), on_scenario_line);
-const reading = data.drawn, clock = clock_of(data.dues);
+const reading = data.drawn, clock = clock_of(reading.dues);
 
 const lane_named = (reader) => timeline.lanes.find((lane) => lane.reader === reader);
 
@@ -18,8 +18,7 @@ const told_of = (lane, edge) => lines_of_edge(lane, edge, {
 });
 
 function on_choice(lane, edge, from) { // the lists follow, but for one that leads
-  const line = lane.line_at(edge);
-  if (from !== log) log.show(line < 0 ? lane.told_at(edge) : line);
+  if (from !== log) log.show(lane.line_at(edge));
   if (from !== scenario) scenario.show(lane.maker_of(edge));
 }
 
@@ -57,7 +56,7 @@ function go_to_text() { // the next line of the log with this text, below the ch
 function add_verdict() {
   const { verdict, broken, refused } = reading, lane = broken && lane_named(broken.reader);
   const sign = verdict === "premises kept" ? "\u2713" : "\u2717";
-  part("verdict").textContent = `${sign} ${verdict || "no last line: the run did not end, or it was cut"}`;
+  part("verdict").textContent = `${sign} ${verdict}`;
   if (lane) {
     to_verdict(`go to edge ${broken.edge}`, () => timeline.choose(lane, broken.edge));
   } else if (refused) {

@@ -191,7 +191,8 @@ class Driven(unittest.TestCase):
         """Where an edge of a lane is on the screen."""
         box = self.place("canvas")
         x = float(str(self.page.ask(f"{self.timeline}.x_of({edge})")))
-        return box["x"] + x, box["y"] + 14 + 46 * lane + 18
+        top = float(str(self.page.ask(f"{self.timeline}.top_of({self.timeline}.lanes[{lane}])")))
+        return box["x"] + x, box["y"] + top + 18
 
     def colours(self, at: str) -> list[str]:
         """Those of the points of a part of the timeline: its left, top, width and height."""

@@ -1,5 +1,5 @@
 #!/usr/bin/env python3
-"""Tests of plot: what it draws of logs, where it puts labels, what it says of files that are no logs, and
+"""Tests of plot: what it draws of scenarios, where it puts labels, what it says of files that are none, and
 that the pictures of docs/gallery are what it draws now. Needs matplotlib for the pictures."""
 import io
 import os
@@ -16,22 +16,41 @@ from pathlib import Path
 from unittest import mock
 
 from loading import ROOT, compare_pictures, loaded
-from parts.log_lanes import PORT_STATES, STATES, Bars, Lane, Mark, Run, bars_of
+from parts.log_lanes import PORT_STATES, STATES, Bars, Mark, ReaderLanes, bars_of, run_of
 from parts.command import DEBIAN
 from parts.layout import Label, Scale, chosen, rows_of, ways
 
+import irig
+from irig.scenarios import Leap, Reader, Replay, Scenario
+
 PLOT = ROOT / "tools/plot"
-PROGRAM = ROOT / "crates/irig_main/out/irig_main"
-ONE_EDGE = "1 relay 2016-06-15T12:00:01Z locked voted\npremises kept\n"
+START = "2016-06-15T12:00:00Z"
 
 
-def example(name: str) -> list[str]:
-    return (ROOT / f"examples/{name}.log").read_text().splitlines()
+def scenario(seconds: int, *names: str) -> Scenario:
+    plant = Scenario(START, [Reader(name, 1) for name in names or ["relay"]])
+    plant.seconds(seconds)
+    return plant
 
 
-def lane_of(lines: list[str]) -> Lane:
-    (lane,) = bars_of(lines).lanes
+ONE_EDGE = scenario(1).text()
+
+
+def example(name: str) -> str:
+    return (ROOT / f"examples/{name}.jsonl").read_text()
+
+
+def bars(text: str) -> Bars:
+    return bars_of(run_of(text.encode()))
+
+
+def lane_of(text: str) -> ReaderLanes:
+    (lane,) = bars(text).lanes
     return lane
+
+
+def runs_of(lanes: list[irig.Lane]) -> list[tuple]:
+    return [(lane.first, lane.last, lane.state, lane.cause) for lane in lanes]
 
 
 TOOL = loaded(PLOT)
@@ -50,7 +69,7 @@ def run(words: list[str], text: str) -> subprocess.CompletedProcess:
 
 
 def plot(text: str, *options: str, name: str = "a.svg") -> tuple[subprocess.CompletedProcess, str]:
-    """What plot says of a log on standard input, and the picture."""
+    """What plot says of a scenario on standard input, and the picture."""
     with tempfile.TemporaryDirectory() as folder:
         file = Path(folder) / name
         ran = run([str(PLOT), "-", "-o", str(file), *options], text)
@@ -69,21 +88,16 @@ def why_not() -> str:
 
 
 class Runs(unittest.TestCase):
-    """Runs of a log; what is expected is said of these examples in examples/README.md."""
+    """Runs of a scenario; what is expected is said of these examples in examples/README.md."""
 
-    def test_not_announced(self) -> None:
-        self.assertEqual(
-            lane_of(example("dark_hour")).runs,
-            [
-                Run(1, 4, "not announced", "not announced"),
-                Run(5, 8, "locked", "voted"),
-                Run(9, 18, "holdover", "held"),
-                Run(19, 3612, "not announced", "not announced"),
-                Run(3613, 3616, "locked", "voted"),
-            ],
-        )
+    DARK = [(1, 4, "acquiring", "acquiring"), (5, 8, "locked", "voted"), (9, 18, "holdover", "held"),
+            (19, 19, "unlocked", "expired"), (20, 3608, "unlocked", "no-vote"),
+            (3609, 3612, "acquiring", "acquiring"), (3613, 3616, "locked", "voted")]
 
-    def test_silent_lines(self) -> None:
+    def test_silences(self) -> None:
+        self.assertEqual(runs_of(lane_of(example("dark_hour")).runs), self.DARK)
+
+    def test_causes(self) -> None:
         runs = lane_of(example("replay_attack")).runs
         self.assertEqual(
             [(run.first, run.last, run.cause) for run in runs],
@@ -91,48 +105,43 @@ class Runs(unittest.TestCase):
              (12, 13, "voted")],
         )
 
-    def test_a_reader_that_falls_silent_for_ever(self) -> None:
-        bars = bars_of(
-            [
-                "2 relay 2016-06-15T12:00:02Z locked voted",
-                "2 meter 2016-06-15T12:00:02Z locked voted",
-                "3 meter 2016-06-15T12:00:03Z locked voted",
-            ]
-        )
-        relay, meter = bars.lanes
-        self.assertEqual(relay.runs[-1], Run(3, 3, "not announced", "not announced"))
-        self.assertEqual(meter.runs[-1], Run(2, 3, "locked", "voted"))
-        self.assertIsNone(bars.verdict)
+    def test_a_reader_that_ticks_no_more(self) -> None:
+        plant = scenario(2, "relay", "meter")
+        plant.event("tick", r="meter")
+        drawn = bars(plant.text())
+        relay, meter = drawn.lanes
+        self.assertEqual((relay.reader, runs_of(relay.runs)), ("relay", [(1, 2, "locked", "voted")]))
+        self.assertEqual(meter.runs[-1].last, 3)
+        self.assertEqual((drawn.first, drawn.last, drawn.last_line), (1, 3, "premises kept"))
+
+    def test_a_reader_that_never_ticks(self) -> None:
+        plant = scenario(0, "relay", "meter")
+        plant.event("tick", r="meter")
+        self.assertEqual([lane.reader for lane in bars(plant.text()).lanes], ["meter"])
 
     def test_ports(self) -> None:
-        """The liar of one_liar.log: the words are those of docs/OUTPUT.md."""
-        words = {5: "2017-06-30T23:59:57Z", 6: "2017-06-30T23:59:58Z", 7: "2017-06-30T23:59:59Z",
-                 8: "2017-07-01T00:00:00Z", **dict.fromkeys(range(9, 13), "insert")}
-        lines = [" 1 relay ok ok ok"]
-        for edge, line in enumerate(example("one_liar")[:-1], 2):
-            lines += [line, f" {edge} relay ok {words.get(edge, 'ok')} ok"]
-        lane = lane_of([*lines, "premises kept"])
-        self.assertEqual(lane.ports, [
-            [Run(1, 16, "agreed", "ok")],
-            [Run(1, 4, "agreed", "ok"), Run(5, 8, "another second", "2017-06-30T23:59:57Z"),
-             Run(9, 12, "another mark", "insert"), Run(13, 16, "agreed", "ok")],
-            [Run(1, 16, "agreed", "ok")],
+        """The liar of one_liar."""
+        ports = [[(lane.first, lane.last, lane.state) for lane in runs] for runs in lane_of(example("one_liar")).ports]
+        self.assertEqual(ports, [
+            [(1, 16, "agreed")],
+            [(1, 4, "agreed"), (5, 8, "another second"), (9, 12, "another mark"), (13, 16, "agreed")],
+            [(1, 16, "agreed")],
         ])
-        self.assertEqual((lane.runs, lane.marks), (lane_of(example("one_liar")).runs, lane.marks))
 
     def test_a_part(self) -> None:
-        part = bars_of(example("dark_hour")).part(10, 20)
+        part = bars(example("dark_hour")).part(10, 20)
         self.assertEqual(
-            part.lanes[0].runs,
-            [Run(10, 18, "holdover", "held"), Run(19, 20, "not announced", "not announced")],
+            runs_of(part.lanes[0].runs),
+            [(10, 18, "holdover", "held"), (19, 19, "unlocked", "expired"), (20, 20, "unlocked", "no-vote")],
         )
+        self.assertEqual((part.first, part.last, len(part.announced)), (10, 20, 9))
 
 
 class Marks(unittest.TestCase):
     """Marks of the examples; an edge and a half is between two edges."""
 
     def marks(self, name: str) -> list[Mark]:
-        return bars_of(example(name)).lanes[0].marks
+        return bars(example(name)).lanes[0].marks
 
     def test_leap_seconds(self) -> None:
         self.assertEqual(
@@ -144,42 +153,64 @@ class Marks(unittest.TestCase):
 
     def test_month_ends(self) -> None:
         self.assertEqual(self.marks("month_end_with_table"), [Mark(61.5, "month end")])
-        with self.subTest("in a silence, from 23:59:58 at edge 60 on"):
+        with self.subTest("in a silence, from 23:59:58 at edge 60 on, in which no second was deleted"):
             self.assertEqual(self.marks("month_end_guard"), [Mark(61.5, "month end")])
         with self.subTest("a minute's end is none"):
             self.assertEqual(self.marks("plain_minute"), [])
 
-    def test_a_month_end_in_a_silence_of_days(self) -> None:
-        lane = lane_of(
-            [
-                "10 relay 2016-06-30T23:59:59Z locked voted",
-                "86416 relay 2016-07-02T00:00:05Z locked voted",
-            ]
-        )
-        self.assertEqual(lane.marks, [Mark(10.5, "month end")])
-
-    def test_a_silent_second_is_not_deleted(self) -> None:
-        lane = lane_of(
-            [
-                "5 relay 2016-06-30T23:59:58Z locked voted",
-                "7 relay 2016-07-01T00:00:00Z locked voted",
-            ]
-        )
-        self.assertEqual(lane.marks, [Mark(6.5, "month end")])
+    def test_what_is_never_announced(self) -> None:
+        """Edge 1 is 23:59:59, edge 2 the leap second."""
+        plant = Scenario("2016-12-31T23:59:58Z", [Reader("relay")], leaps=[Leap("2016-12-31")])
+        plant.dark(4)
+        self.assertEqual(lane_of(plant.text()).marks, [Mark(2, "leap second"), Mark(2.5, "month end")])
 
     def test_a_jump_to_another_month_is_no_month_end(self) -> None:
-        lane = lane_of(
-            [
-                "2 relay 2016-06-15T12:00:02Z locked voted",
-                "3 relay - unlocked jump",
-                "4 relay 2016-07-15T12:00:04Z locked voted",
-            ]
-        )
-        self.assertEqual(lane.marks, [])
+        plant = scenario(3)
+        for generator in range(3):
+            plant.fault(generator, "skew", by=30 * 86_400)
+        plant.seconds(3)
+        lane = lane_of(plant.text())
+        self.assertEqual(runs_of(lane.runs)[1:], [(4, 4, "unlocked", "jump"), (5, 6, "locked", "voted")])
+        self.assertEqual(lane.marks, [Mark(4, "premise broken")])
 
     def test_broken_premises(self) -> None:
         self.assertEqual(self.marks("two_liars"), [Mark(5, "premise broken")])
-        self.assertEqual(self.marks("misled_by_table"), [Mark(59.5, "month end")])
+        with self.subTest("by a table, that denies the leap second"):
+            self.assertEqual(self.marks("misled_by_table"), [Mark(60, "leap second")])
+
+
+class Seconds(unittest.TestCase):
+    """True seconds at edges, where leap seconds come, and behind the years served."""
+
+    def utc(self, plant: Scenario, edges: int) -> list[str]:
+        drawn = bars(plant.text())
+        self.assertEqual(drawn.last, edges)
+        return [str(drawn.utc(edge)) for edge in range(edges + 1)]
+
+    def test_inserted(self) -> None:
+        plant = Scenario("2016-06-30T23:59:58Z", [Reader("relay")], leaps=[Leap("2016-06-30")])
+        plant.seconds(2)
+        wanted = [f"2016-06-30T23:59:{second}Z" for second in (58, 59, 60)]
+        self.assertEqual(self.utc(plant, 2), wanted)
+        plant.seconds(2)
+        self.assertEqual(self.utc(plant, 4), [*wanted, "2016-07-01T00:00:00Z", "2016-07-01T00:00:01Z"])
+
+    def test_a_start_in_a_leap_second(self) -> None:
+        plant = Scenario("2016-12-31T23:59:60Z", [Reader("relay")], leaps=[Leap("2016-12-31")])
+        plant.seconds(2)
+        self.assertEqual(self.utc(plant, 2), ["2016-12-31T23:59:60Z", "2017-01-01T00:00:00Z", "2017-01-01T00:00:01Z"])
+
+    def test_deleted(self) -> None:
+        plant = Scenario("2029-06-30T23:59:57Z", [Reader("relay")], leaps=[Leap("2029-06-30", "delete")])
+        plant.seconds(3)
+        wanted = ["2029-06-30T23:59:57Z", "2029-06-30T23:59:58Z", "2029-07-01T00:00:00Z", "2029-07-01T00:00:01Z"]
+        self.assertEqual(self.utc(plant, 3), wanted)
+
+    def test_behind_the_last_year(self) -> None:
+        plant = Scenario("2099-12-30T23:59:58Z", [Reader("relay")])
+        plant.seconds(1)
+        plant.event("tick", r="relay")
+        self.assertEqual(self.utc(plant, 2), ["2099-12-30T23:59:58Z", "2099-12-30T23:59:59Z", "None"])
 
 
 class Look(unittest.TestCase):
@@ -209,12 +240,13 @@ class Layout(unittest.TestCase):
     """Places on the axis, and labels."""
 
     def test_an_even_axis(self) -> None:
-        scale = Scale(Bars([Lane("relay", [Run(1, 5, "locked", "voted")])], 1, 10, None, []), 10.0)
+        run = irig.Lane("relay", None, "stood", 1, 5, "locked", "voted")
+        scale = Scale(Bars([ReaderLanes("relay", [run])], 1, 10, "premises kept", [], []), 10.0)
         self.assertFalse(scale.is_cut)
         self.assertEqual([scale.place(edge) for edge in (0.5, 1, 10.5)], [0.0, 0.5, 10.0])
 
     def test_a_shortened_axis(self) -> None:
-        scale = Scale(bars_of(example("dark_hour")), 7.6)
+        scale = Scale(bars(example("dark_hour")), 7.6)
         self.assertTrue(scale.is_cut)
         places = [scale.place(edge) for edge in (0.5, 4.5, 8.5, 18.5, 3612.5, 3616.5)]
         self.assertEqual(places, sorted(places))
@@ -255,54 +287,55 @@ class Pictures(unittest.TestCase):
             raise unittest.SkipTest(why)
 
     def test_what_is_written(self) -> None:
-        ran, picture = plot("\n".join(example("month_end_guard")), "--title", "a <month> end")
+        ran, picture = plot(example("month_end_guard"), "--title", "a <month> end")
         self.assertEqual((ran.returncode, ran.stderr), (0, ""))
         found = texts(picture)
         for text in ("61: leap-guard", "62 to 64: no-vote", "month ends", "relay", "23:59:58",
-                     "edge (one a second), and UTC as announced", "holdover: announces, counting alone"):
+                     "edge (one a second), and UTC", "holdover: announces, counting alone"):
             self.assertIn(text, found)
         self.assertTrue(any("premises kept" in text for text in found))
 
     def test_ports_are_written(self) -> None:
-        lines = [" 1 relay ok silence insert", ONE_EDGE.replace("1 relay", "2 relay").splitlines()[0],
-                 " 2 relay ok poor:10 2016-06-15T12:00:00Z", "premises kept"]
-        ran, picture = plot("\n".join(lines))
+        """Port 0 is silent, then of poor quality, and port 2 then lies; that of one_liar lies of a leap second too."""
+        plant = scenario(1)
+        plant.fault(0, "silent")
+        plant.seconds(1)
+        plant.fault(0, "quality", q=10)
+        plant.fault(2, "skew", by=5)
+        plant.seconds(1)
+        ran, picture = plot(plant.text())
         self.assertEqual((ran.returncode, ran.stderr), (0, ""))
         found = texts(picture)
         for text in ("0", "1", "2", "port: agreed with the scenario", "port: told nothing",
-                     "port: told a poor quality", "port: told another second", "port: told another mark"):
+                     "port: told a poor quality", "port: told another second", "3: 5 s ahead, port 2"):
             self.assertIn(text, found)
         self.assertNotIn("port: told a fault", found)
         self.assertIn("standard input: how each reader stood, and what its ports told", found)
+        self.assertIn("port: told another mark", texts(plot(example("one_liar"))[1]))
 
     def test_utc_and_offsets(self) -> None:
         """The plant starts at 23:59:59: edge 1 is the leap second, and of a clock that has none the first frame
         is 17 s ahead, the next ones 18 s. In two_liars the reader is an hour ahead from edge 7 on."""
-        scenario = str(ROOT / "cases/blame_gps_time_over_a_leap/scenario.jsonl")
-        log = ("1 relay 2016-12-31T23:59:60Z locked voted\n 1 relay ok 2017-01-01T00:00:16Z ok\n"
-               "2 relay 2017-01-01T00:00:00Z locked voted\n 2 relay ok 2017-01-01T00:00:18Z ok\n"
-               "3 relay 2017-01-01T00:00:01Z locked voted\n 3 relay ok 2017-01-01T00:00:18Z ok\n")
-        found = texts(plot(log, "--scenario", scenario)[1])
-        part = texts(plot(log, "--scenario", scenario, "--edges", "2-2")[1])
+        text = (ROOT / "cases/blame_gps_time_over_a_leap/scenario.jsonl").read_text()
+        found, part = texts(plot(text)[1]), texts(plot(text, "--edges", "2-2")[1])
         for text in ("1 to 3: 17 s ahead at first, 18 s ahead at last, port 1", "23:59:60", "2016-12-31",
                      "00:00:00", "2017-01-01", "00:00:01", "edge (one a second), and UTC"):
             self.assertIn(text, found)
         self.assertIn("2: 17 s ahead at first, 18 s ahead at last, port 1", part)
-        alone = texts(plot(log)[1])
-        self.assertFalse(any("ahead" in text for text in alone))
-        liars = "\n".join(example("two_liars"))
-        misled = texts(plot(liars, "--scenario", str(ROOT / "examples/two_liars.jsonl"))[1])
-        self.assertIn("7 to 10: 1 h ahead", misled)
-        self.assertFalse(any("port" in text for text in misled), "it has not what ports told")
-        self.assertIn("13:00:07", texts(plot(liars)[1]))
+        misled = texts(plot(example("two_liars"))[1])
+        for text in ("7 to 10: 1 h ahead", "5 to 10: 1 h ahead, port 0, port 1", "12:00:07"):
+            self.assertIn(text, misled)
 
     def test_a_short_lie_is_drawn_wider(self) -> None:
-        lines = [f" {edge} relay ok ok ok" for edge in range(1, 20_001)]
-        lines[9_999] = " 10000 relay ok insert ok"
-        rare = [f" {edge} relay ok {'insert' if edge % 50 == 7 else 'ok'} ok" for edge in range(1, 20_001)]
+        rare, one = scenario(0), scenario(9_999)
+        one.second({(1, "relay"): Replay(0)})
+        one.seconds(10_000)
+        for _ in range(400):
+            rare.second({(1, "relay"): Replay(0)})
+            rare.seconds(49)
         says = "short silences and lies are drawn wider than they are"
-        self.assertFalse(any(says in text for text in texts(plot("\n".join(lines))[1])), "it is cut")
-        self.assertTrue(any(says in text for text in texts(plot("\n".join(rare))[1])))
+        self.assertFalse(any(says in text for text in texts(plot(one.text())[1])), "it is cut")
+        self.assertTrue(any(says in text for text in texts(plot(rare.text())[1])))
 
     def test_a_title_is_no_formula(self) -> None:
         ran, picture = plot(ONE_EDGE, "--title", "$x^2$ " * 30)
@@ -310,53 +343,69 @@ class Pictures(unittest.TestCase):
         self.assertTrue(any("$x^2$ $x^2$" in text for text in texts(picture)))
 
     def test_last_lines(self) -> None:
-        edge = ONE_EDGE.splitlines()[0]
-        for last in ("premises broken: edge 1 reader relay", "premises broken: table of reader relay",
-                     "refused: line 2: 25 Shape"):
+        for text, last in ((example("two_liars"), "premises broken: edge 5 reader relay"),
+                           (example("misled_by_table"), "premises broken: table of reader relay"),
+                           (f"{ONE_EDGE}[]\n", "refused: line 3: 25 Shape"), (ONE_EDGE, "premises kept")):
             with self.subTest(last):
-                self.assertTrue(any(last in text for text in texts(plot(f"{edge}\n{last}\n")[1])))
-        self.assertTrue(any("no last line" in text for text in texts(plot(f"{edge}\n")[1])))
+                self.assertTrue(any(last in text for text in texts(plot(text)[1])))
+
+    def test_a_refused_line(self) -> None:
+        """What comes before it is drawn, and the line is named with what is wrong there."""
+        ran, picture = plot(ONE_EDGE + '{"do":"tick","r":"\33"}\n')
+        self.assertEqual((ran.returncode, ran.stdout), (0, ""))
+        self.assertRegex(ran.stderr, r"\Aplot: line 3: \d+ \w+: [ -~]*; what comes before that line is shown\n\Z")
+        self.assertIn(f"first announced: 2016-06-15T12:00:01Z at edge 1; last: {START.replace('00Z', '01Z')} at edge 1",
+                      texts(picture))
+
+    def test_a_log_is_not_needed(self) -> None:
+        """As plot was once called: one line of warning, and the picture is the scenario's."""
+        file = str(ROOT / "examples/one_liar.jsonl")
+        ran, picture = plot("not read", "--scenario", file)
+        self.assertEqual((ran.returncode, ran.stdout, ran.stderr.count("\n")), (0, "", 1))
+        self.assertIn("plot: a log is not needed any more", ran.stderr)
+        self.assertEqual(picture, plot(example("one_liar"), "--title", "one_liar")[1])
 
     def test_many_readers_with_long_names(self) -> None:
         names = [f"protection_no_{number:02}" for number in range(16)]
-        ran, picture = plot("".join(f"1 {name} - unlocked no-vote\n" for name in names))
+        ran, picture = plot(scenario(1, *names).text())
         self.assertEqual(ran.stderr, "")
         self.assertTrue(set(names) <= set(texts(picture)))
 
     def test_a_part(self) -> None:
-        log = "\n".join(example("month_end_guard"))
-        found = texts(plot(log, "--edges", "50-68")[1])
+        text = example("month_end_guard")
+        found = texts(plot(text, "--edges", "50-68")[1])
         self.assertIn("61: leap-guard", found)
         seconds = "2017-03-31T23:59:48Z at edge 50; last: 2017-04-01T00:00:06Z at edge 68"
         self.assertIn(f"first announced: {seconds}", found)
-        self.assertNotIn("61: leap-guard", texts(plot(log, "--edges", "1-60")[1]))
+        self.assertNotIn("61: leap-guard", texts(plot(text, "--edges", "1-60")[1]))
 
     def test_other_endings(self) -> None:
         for name, begins in (("a.png", "PNG"), ("a.pdf", "%PDF")):
             self.assertIn(begins, plot(ONE_EDGE, name=name)[1][:8])
 
-    def test_a_hundred_thousand_lines(self) -> None:
-        for name, lock, is_crowded in (
-            ("alike", "unlocked no-vote", False), ("alternating", "acquiring:1 acquiring", True)
-        ):
-            locks = ("unlocked no-vote", lock)
-            lines = [f"{edge} relay - {locks[edge % 2]}" for edge in range(1, 100_001)]
-            begun = time.monotonic()
-            ran, picture = plot("\n".join(lines))
+    def test_a_hundred_thousand_edges(self) -> None:
+        """Without a frame, or with a restart behind each second one."""
+        alike, crowded = Scenario(START, [Reader("relay")]), Scenario(START, [Reader("relay")])
+        alike.dark(100_000)
+        for _ in range(50_000):
+            crowded.seconds(2)
+            crowded.restart("relay")
+        for name, plant, is_crowded in (("alike", alike, False), ("alternating", crowded, True)):
+            text, begun = plant.text(), time.monotonic()
+            ran, picture = plot(text)
             with self.subTest(name):
                 self.assertEqual(ran.stderr, "")
                 self.assertLess(time.monotonic() - begun, 20)
                 self.assertLess(len(picture), 1_000_000)
-                for says in ("more silences: zoom in", "short silences are drawn wider than they are"):
+                for says in ("more silences: zoom in", "short silences and lies are drawn wider than they are"):
                     self.assertEqual(any(says in text for text in texts(picture)), is_crowded)
 
     def test_the_same_bytes(self) -> None:
-        log = "\n".join(example("leap_inserted"))
-        self.assertEqual(plot(log)[1], plot(log)[1])
+        text = example("leap_inserted")
+        self.assertEqual(plot(text)[1], plot(text)[1])
 
     def test_the_gallery(self) -> None:
-        program = {**os.environ, "IRIG": str(PROGRAM)}
-        compare_pictures(self, ROOT / "tools/gallery", ROOT / "docs/gallery", program)
+        compare_pictures(self, ROOT / "tools/gallery", ROOT / "docs/gallery")
 
 
 class Names(unittest.TestCase):
@@ -376,12 +425,12 @@ class Refusals(unittest.TestCase):
         if why := why_not():
             raise unittest.SkipTest(why)
 
-    def test_logs(self) -> None:
+    def test_what_is_no_scenario(self) -> None:
         for text, says in (
-            ("", "plot: -: no edges to draw: it is empty"),
-            ("premises kept\n", "silent edges have lines if it is made with --all"),
-            ("refused: line 1: 25 Shape\n", "it says 'refused: line 1: 25 Shape' alone"),
-            ("9 relay\n", "line 1 is no line of a log: '9 relay'"),
+            ("", "plot: -: it does not begin with a plant line; a picture is made of a scenario, not of its log"),
+            ((ROOT / "examples/one_liar.log").read_text(), "plot: -: it does not begin with a plant line"),
+            (scenario(0).text(), "plot: -: no edges to draw: it says 'premises kept' alone"),
+            ('{"version":9}', "plot: -: no edges to draw: line 1: 27 Version: "),
         ):
             with self.subTest(text):
                 self.says(says, *plot(text))
@@ -392,7 +441,6 @@ class Refusals(unittest.TestCase):
             (["--edges", "2-9"], "it has no edges 2-9; it goes from 1 to 1"),
             (["-o", "/no/such/folder/a.svg"], "No such file or directory"),
             (["-o", "a.gif"], "ends with none of .svg, .png, .pdf"),
-            (["--scenario", str(PLOT)], "plot: it has no plant line that irig run takes"),
             (["--wide"], "unrecognized arguments: --wide"),
         ):
             with self.subTest(says):
