@@ -22,7 +22,7 @@ sys.path.insert(0, str(WEB.parent / "tools/tests"))
 import browser  # noqa: E402
 from loading import ROOT, loaded  # noqa: E402
 from case_files import NOTHING, all_cases  # noqa: E402
-from parts.log_lanes import drawn, dues_of  # noqa: E402
+from parts.log_lanes import drawn  # noqa: E402
 
 BY_CHANCE, FRAMES = 3000, 400
 MOST_SECONDS = 5_000  # of a scenario made at random, so that all end soon
@@ -30,6 +30,7 @@ BATCH = 100
 LETTERS = "01P?"
 REFUSED = 3
 RULES = ("even", "odd"), ("add", "subtract"), ("check", "ignore")  # by their numbers
+PLACES = "edges", "lines", "told_edges", "told_lines"  # of a lane beside a log
 FROM_INPUT = [], ["run", "-"]  # the words of a case that runs its input, without options
 
 FUZZ = loaded(ROOT / "tests/fuzz")
@@ -48,6 +49,29 @@ def scenario(text: bytes, has_all: bool, has_ports: bool, is_drawn: bool) -> dic
     return {"text": base64.b64encode(text).decode(), "shown": shown, "is_drawn": is_drawn}
 
 
+def places_in(log: str) -> dict[str, dict[str, list[int]]]:
+    """Of each reader which lines of a log are of which edges."""
+    found: dict[str, dict[str, list[int]]] = {}
+    for number, line in enumerate(log.splitlines()):
+        if placed := re.match(r"( ?)(\d+) (\S+) ", line):
+            blank, edge, reader = placed.groups()
+            lane, told = found.setdefault(reader, {name: [] for name in PLACES}), "told_" if blank else ""
+            lane[f"{told}edges"].append(int(edge))
+            lane[f"{told}lines"].append(number)
+    return found
+
+
+def beside(log: str, drawing: dict, has_ports: bool) -> dict:
+    """A drawing as it is shown beside a log that may have fewer lines."""
+    places = places_in(log)
+    for lane in drawing["lanes"]:
+        seconds = dict(zip(lane["edges"], zip(lane["days"], lane["sods"])))
+        lane |= places.get(lane["reader"], {name: [] for name in PLACES})
+        lane["days"], lane["sods"] = ([seconds[edge][part] for edge in lane["edges"]] for part in (0, 1))
+        lane |= {} if has_ports else {"ports": [], "lies": {name: [] for name in lane["lies"]}}
+    return drawing
+
+
 def told_scenario(program: Path, request: dict) -> list:
     text = base64.b64decode(request["text"])
     options = [f"--{name}" for name, is_shown in request["shown"].items() if is_shown]
@@ -56,10 +80,7 @@ def told_scenario(program: Path, request: dict) -> list:
     answer = [status, hashlib.sha256(log).hexdigest(), reason]
     if not request["is_drawn"]:
         return answer
-    lines = text.decode(errors="replace")
-    shown = drawn(log.decode().splitlines(), lines.split("\n"))
-    dues = [due for due in dues_of(lines) if shown["lanes"] and due[0] <= shown["last"]]
-    return [*answer, shown | {"dues": dues}]
+    return [*answer, beside(log.decode(), drawn(text), request["shown"]["ports"])]
 
 
 def files() -> Iterator[tuple[bytes, bool]]:

@@ -23,7 +23,7 @@ from irig.words import CAUSES, LOCKS  # noqa: E402
 
 SCRIPTS = (PARTS / "list.js", PARTS / "utc.js", WEB / "log.js", PARTS / "timeline.js",
            WEB / "c.js", WEB / "codec.js", WEB / "frame.js", WEB / "editor.js", WEB / "scenario.js", WEB / "page.js")
-WORKER = WEB / "c.js", WEB / "lanes.js", WEB / "worker.js"
+WORKER = WEB / "c.js", WEB / "worker.js"
 MODULES = ("c_scenario", "c_reader")
 READS = {"uint8_t": "getUint8", "int8_t": "getInt8", "uint16_t": "getUint16", "uint32_t": "getUint32",
          "int32_t": "getInt32", "uint64_t": "getBigUint64", "size_t": "getBigUint64"}

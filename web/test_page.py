@@ -290,6 +290,17 @@ class InBrowser(browser.Driven):
         self.page.settle()
         self.assertIn("to 3616 of", self.text("range"))
 
+    def test_silences_without_lines(self) -> None:
+        """They are drawn, and found, as the reader stood."""
+        self.push("all")
+        self.run_example("dark_hour")
+        self.page.click(*self.on_edge(2000, 0))
+        self.assertTrue(self.text("line").startswith("2000 relay: not announced, no line in this log\n"))
+        self.assertIn(STATES["unlocked"].colour[1:].lower(), self.colours_on_edge(2000, 0))
+        self.set("cause", "expired")
+        self.push("next")
+        self.assertTrue(self.text("line").startswith("19 relay: not announced, no line in this log\n"))
+
     def test_marks_and_colours(self) -> None:
         self.run_example("leap_inserted")
         self.assertEqual(

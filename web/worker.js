@@ -1,20 +1,22 @@
-// What the worker of a run does: the proved module plays a scenario twice, for the entries of its log in numbers,
-// of which lanes for the page are made (lanes.js), and for its text. Each run has a worker of its own, as a module
-// that trapped may not be called again.
+// What the worker of a run does: the proved module plays a scenario three times, for the entries of its log in
+// numbers, for the lanes of its picture, and for its text. Each run has a memory of its own. Each scenario has a
+// worker of its own, as a module that trapped may not be called again.
 
 const PAGE = 65536, FIRST_PAGES = 64; // of the module's memory
-const SPARE = 1 << 22, LEAST_ROOM = 1 << 12; // bytes for all but the entries; entries
+const SPARE = 1 << 22, LEAST_ROOM = 1 << 12; // bytes for all but what is written; entries, or lanes
 const NEWLINE = 10, BLANKS = [32, 9, 13, NEWLINE];
 const REASON_ROOM = 4096; // bytes: more than a reason has
 const LINE_ROOM = 64, WORD_ROOM = 24, MOST_PORTS = 5; // bytes of an entry's line, and of a port's word, about
 
-const { entry: ENTRY, told: TOLD, claim: CLAIM, utc: UTC, verdict: VERDICT, refusal: REFUSAL } = LAYOUT;
+const {
+  entry: ENTRY, lane: LANE, told: TOLD, claim: CLAIM, utc: UTC, verdict: VERDICT, refusal: REFUSAL,
+} = LAYOUT;
 
 // ---- the module
 
 // Its calls, over a memory of their own with at most so many bytes, and the places of blocks of these sizes there,
 // 0 if there is no room; the scenario stands in the first. When a block grows, it tells to how many bytes.
-function begun(module, text, most, sizes, on_growth) {
+function begun({ module, text, most }, sizes, on_growth) {
   const memory = new WebAssembly.Memory({ initial: FIRST_PAGES, maximum: Math.floor(most / PAGE) });
   const grows = (bytes) => on_growth(Number(bytes));
   const calls = new WebAssembly.Instance(module, { env: { memory }, page: { grows } }).exports;
@@ -23,7 +25,7 @@ function begun(module, text, most, sizes, on_growth) {
   return { memory, calls, places };
 }
 
-// ---- the run
+// ---- the runs
 
 function names_in(text) { // of the readers, in a plant line that the module took
   const from = text.findIndex((byte) => !BLANKS.includes(byte)), end = text.indexOf(NEWLINE, from);
@@ -46,124 +48,194 @@ function refusal_in(view, place, reason) {
   return { line, number, reason: text };
 }
 
-// The entries of a scenario in at most so many bytes of memory, with room for so many of them; if that is too
-// little it runs once more, in a new memory.
-function run_of(module, text, most, room, on_growth) {
-  const sizes = [8, VERDICT.size, REASON_ROOM, REFUSAL.size, room * ENTRY.size];
-  const { memory, calls, places } = begun(module, text, most, sizes, on_growth);
-  const [from, whole, verdict, reason, refusal, entries] = places;
-  const failed = (status) => ({ status, count: 0, refusal: null, view: new DataView(memory.buffer) });
-  if (!places.slice(0, -1).every(Boolean)) return failed(RUN_NO_MEMORY);
-  if (!entries) return failed(RUN_NO_LOG);
-  const status = calls.irig_scene_c_run_entries(
-    from, BigInt(text.length), entries, BigInt(room), whole, verdict, reason, BigInt(REASON_ROOM), refusal,
-  ) & 255;
+// What is written of a scenario, so many bytes each, and the call that writes it.
+const in_numbers = (call, { size }) => (
+  { size, play: (calls, text, room, verdict, reason) => calls[call](...text, ...room, verdict, ...reason) });
+const ENTRIES = in_numbers("irig_scene_c_run_entries", ENTRY), LANES = in_numbers("irig_scene_c_run_lanes", LANE);
+const text_with = ({ all, ports }) => ({
+  size: 1,
+  play: (calls, text, room, _, reason) =>
+    calls.irig_scene_c_run_shown(...text, Number(all), Number(ports), ...room, ...reason),
+});
+
+const has_ended = ({ status }) => status === RUN_DONE || status === RUN_REFUSED;
+
+// Room for so many entries or lanes: the run's own copy of them may take twice as much.
+const room_for = (count, { size }, { most }) =>
+  Math.min(Math.max(LEAST_ROOM, count), Math.floor((most / 3 - SPARE) / size));
+
+// A run, with room for so much of what is written; if that is too little it runs once more, in a new memory.
+function run_of(asked, written, room, on_growth = () => {}) {
+  const sizes = [8, VERDICT.size, REASON_ROOM, REFUSAL.size, room * written.size];
+  const { memory, calls, places } = begun(asked, sizes, on_growth);
+  const [from, whole, verdict, reason, refusal, items] = places;
+  if (!places.every(Boolean)) {
+    const status = places.slice(0, -1).every(Boolean) ? RUN_NO_LOG : RUN_NO_MEMORY;
+    return { status, count: 0, items: 0, refusal: null, view: new DataView(memory.buffer) };
+  }
+  const text = [from, BigInt(asked.text.length)], room_at = [items, BigInt(room), whole];
+  const status = written.play(calls, text, room_at, verdict, [reason, BigInt(REASON_ROOM), refusal]) & 255;
   const view = new DataView(memory.buffer), count = Number(view.getBigUint64(Number(whole), true));
-  if (count > room) return run_of(module, text, most, count, on_growth);
+  if (count > room) return run_of(asked, written, count, on_growth);
   const why = refusal_in(view, Number(refusal), Number(reason));
-  return { status, count, refusal: why, view, entries: Number(entries), verdict: Number(verdict) };
+  return { status, count, items: Number(items), refusal: why, view, verdict: Number(verdict) };
 }
 
-// The text of its log, with room for so many bytes, and how the run that wrote it ended; so once more, too.
-function log_of(module, text, shown, most, room) {
-  const { memory, calls, places } = begun(module, text, most, [8, 1, REFUSAL.size, room], () => {});
-  const [from, whole, reason, refusal, log] = places, flags = [Number(shown.all), Number(shown.ports)];
-  if (!places.every(Boolean)) return { status: RUN_NO_LOG, log: new Uint8Array(0) };
-  const status = calls.irig_scene_c_run_shown(
-    from, BigInt(text.length), ...flags, log, BigInt(room), whole, reason, 0n, refusal,
-  ) & 255;
-  const size = Number(new DataView(memory.buffer).getBigUint64(Number(whole), true));
-  if (size > room) return log_of(module, text, shown, most, size);
-  return { status, log: new Uint8Array(memory.buffer).slice(Number(log), Number(log) + size) };
+// The text of the log of so many entries, and how the run that wrote it ended.
+function log_of(asked, count) {
+  const room = SPARE + count * (LINE_ROOM + (asked.shown.ports ? MOST_PORTS * WORD_ROOM : 0));
+  const { status, count: size, items, view } = run_of(asked, text_with(asked.shown), room);
+  return { status, log: new Uint8Array(view.buffer, items, size).slice() };
 }
 
 const text_of_line = (log, starts, line) => new TextDecoder().decode(log.subarray(starts[line], starts[line + 1] - 1));
 
 function starts_of(log) { // of its lines, and at last where they end
-  const starts = new Numbers(Uint32Array);
+  const starts = [];
   for (let at = 0; at < log.length; at = log.indexOf(NEWLINE, at) + 1 || log.length) starts.push(at);
   starts.push(log.length);
-  return starts.whole();
+  return new Uint32Array(starts);
 }
 
-// ---- the lanes of the entries
+// ---- what is drawn
 
 const STATE_OF_LOCK = LOCKS.map((lock) => STATE_NAMES.indexOf(lock));
-const PORT_OF_TOLD = { // by the kind of what it told, if that is no claim
-  [NUMBERS.TOLD_SILENCE]: PORT.SILENT, [NUMBERS.TOLD_FAULT]: PORT.FAULTY, [NUMBERS.TOLD_POOR]: PORT.POOR,
+const MARKS = { // how far before its edge something is drawn, and what
+  [NUMBERS.MARK_LEAP]: [[0, "leap second"]],
+  [NUMBERS.MARK_DELETED]: [[0.5, "deleted second"], [0.5, "month end"]],
+  [NUMBERS.MARK_MONTH]: [[0.5, "month end"]],
 };
-const [DAY, SOD] = [UTC.day, UTC.sod].map((field) => ({ ...field, at: CLAIM.at.at + field.at })); // of a claim
+const WHOLE_DAY = 86400; // seconds; and of a day that has more the second 23:59:60
 
-// What a port told, beside the true claim, of which the place is 0 if there is none.
-function kind_of(view, at, truth) {
-  const kind = get(view, at, TOLD.kind), claim = at + TOLD.claim.at;
-  const is_same = (field) => get(view, claim, field) === get(view, truth, field);
-  if (kind !== NUMBERS.TOLD_CLAIM) return PORT_OF_TOLD[kind];
-  if (!truth || !is_same(SOD) || !is_same(DAY)) return PORT.ANOTHER_SECOND;
-  return is_same(CLAIM.mark) ? PORT.AGREED : PORT.ANOTHER_MARK;
+const second_in = (view, claim) => [UTC.day, UTC.sod].map((field) => get(view, claim + CLAIM.at.at, field));
+
+class Table { // rows of numbers, as columns
+  constructor(...names) {
+    this.named = Object.fromEntries(names.map((name) => [name, []]));
+    this.columns = Object.values(this.named);
+  }
+
+  add(...row) {
+    for (let place = 0; place < row.length; place++) this.columns[place].push(row[place]);
+  }
+
+  packed() {
+    return Object.fromEntries(Object.entries(this.named).map(([name, column]) => [name, new Uint32Array(column)]));
+  }
 }
 
-// The lanes that have lines, over which edges, and where the premises broke, if they did at an edge.
-function lanes_of(ran, names, shown) {
-  const { view } = ran, lanes = names.map((name) => new Lane(name)), drawn = new Set(), dues = new Dues();
-  let line = 0, has_silences = false, furthest = 0;
-  for (let place = 0; place < ran.count; place++) {
-    const at = ran.entries + place * ENTRY.size, edge = get(view, at, ENTRY.edge);
-    const lane = lanes[get(view, at, ENTRY.reader)], is_silent = !get(view, at, ENTRY.announces);
-    const truth = get(view, at, ENTRY.has_truth) ? at + ENTRY.truth.at : 0;
-    if (truth && edge > furthest) {
-      dues.add(edge - 1, get(view, truth, DAY), get(view, truth, SOD), get(view, truth, CLAIM.mark));
-      furthest = edge;
+class Lane { // one reader
+  constructor(reader) {
+    this.stood = new Table("firsts", "lasts", "states", "causes");
+    this.said = new Table("edges", "lines", "days", "sods");
+    this.told = new Table("told_edges", "told_lines");
+    this.made = new Table("ends", "makers");
+    this.lies = new Table("edges", "ports", "days", "sods");
+    this.ports = Array.from({ length: MOST_PORTS }, () => new Table("firsts", "lasts", "states"));
+    Object.assign(this, { reader, marks: [], places: Array(MOST_PORTS).fill(0) });
+  }
+
+  take(view, at) { // what the module draws of it
+    const of = (name) => get(view, at, LANE[name]), kind = of("kind"), edges = [of("first_edge"), of("last_edge")];
+    if (kind === NUMBERS.LANE_STOOD) this.stood.add(...edges, STATE_OF_LOCK[of("state")], of("cause"));
+    if (kind === NUMBERS.LANE_TOLD) this.ports[of("port")].add(...edges, of("state"));
+    if (kind === NUMBERS.LANE_MARK) this.marks.push([edges[0], of("state")]);
+  }
+
+  make(edge, line) { // which line of the scenario asked for the edge
+    const { ends, makers } = this.made.named;
+    if (makers.at(-1) === line) ends[ends.length - 1] = edge; else this.made.add(edge, line);
+  }
+
+  state_of(port, edge) { // what it told; asked edge by edge
+    const { places } = this, { lasts, states } = this.ports[port].named;
+    while (lasts[places[port]] < edge) places[port]++;
+    return states[places[port]];
+  }
+
+  tell(edge, line, view, at) { // in this line of the log, and which ports lied, by an entry
+    this.told.add(edge, line);
+    for (let port = 0; port < get(view, at, ENTRY.ports); port++) {
+      const claim = at + ENTRY.told.at + port * TOLD.size + TOLD.claim.at;
+      if (this.state_of(port, edge) === PORT.ANOTHER_SECOND) this.lies.add(edge, port, ...second_in(view, claim));
     }
+  }
+
+  drawn(has_ports) {
+    const ports = this.ports.map((runs) => runs.packed()).filter(({ firsts }) => has_ports && firsts.length);
+    const marks = this.marks.flatMap(([edge, mark]) => MARKS[mark].map(([before, what]) => [edge - before, what]));
+    const rows = [this.stood, this.said, this.told, this.made].map((table) => table.packed());
+    return Object.assign({ reader: this.reader, marks, ports, lies: this.lies.packed() }, ...rows);
+  }
+}
+
+// Gives lanes what entries alone have: lines of the log and of the scenario, and seconds. Answers those that ticked, in
+// the order of their first ticks, and the first true second that is known, with its edge.
+function take_entries(lanes, { view, items, count }, shown) {
+  const ticked = [];
+  let line = 0, due = null;
+  for (let place = 0, at = items; place < count; place++, at += ENTRY.size) {
+    const lane = lanes[get(view, at, ENTRY.reader)], edge = get(view, at, ENTRY.edge);
+    if (edge === 1) ticked.push(lane);
+    if (!due && get(view, at, ENTRY.has_truth)) due = [edge - 1, ...second_in(view, at + ENTRY.truth.at)];
     lane.make(edge, get(view, at, ENTRY.line) - 1);
-    if (shown.all || shown.ports || !is_silent) drawn.add(lane);
-    if (shown.all || !is_silent) {
-      has_silences ||= is_silent;
-      const day = get(view, at, ENTRY.day), sod = get(view, at, ENTRY.sod);
-      lane.add(edge, STATE_OF_LOCK[get(view, at, ENTRY.lock)], get(view, at, ENTRY.cause) + 1, line++, day, sod);
-      if (!is_silent) lane.announce(edge, day, sod);
+    if (shown.all || get(view, at, ENTRY.announces)) {
+      lane.said.add(edge, line++, get(view, at, ENTRY.day), get(view, at, ENTRY.sod));
     }
-    if (shown.ports) tell_ports(lane, edge, view, at, truth, line++);
+    if (shown.ports) lane.tell(edge, line++, view, at);
   }
-  const told = [...drawn], first = has_silences ? Math.min(...told.map((lane) => lane.first)) : 1;
-  const last = Math.max(1, ...told.map((lane) => lane.last)), { kind, edge, reader } = verdict_of(ran);
+  return [ticked, due];
+}
+
+// The true seconds where they do not just count on as days do: the first one, and those at leap seconds.
+function dues_of(first, lanes) {
+  const dues = [], marks = [...new Map(lanes.flatMap((lane) => lane.marks))];
+  const add = (edge, day, sod) => {
+    dues.push([edge, day, sod]);
+    if (sod === WHOLE_DAY) dues.push([edge + 1, day + 1, 0]);
+  };
+  if (first) add(...first);
+  for (const [edge, mark] of marks.sort(([one], [other]) => one - other)) {
+    const [from, day, sod] = dues.at(-1), counted = day + Math.floor((sod + edge - from) / WHOLE_DAY);
+    if (mark === NUMBERS.MARK_LEAP) add(edge, counted - 1, WHOLE_DAY);
+    if (mark === NUMBERS.MARK_DELETED) add(edge, counted + 1, 0);
+  }
+  return dues;
+}
+
+const NOTHING_DRAWN = {
+  lanes: [], causes: [], first: 1, last: 1, broken: null, kind_of_verdict: NUMBERS.VERDICT_NONE, dues: [],
+};
+
+// What is drawn, by the entries of a run and what the module draws; and where the premises broke, if they did.
+function drawing_of(entries, { view, items, count, verdict }, { text, shown }) {
+  const names = entries.count ? names_in(text) : [], readers = names.map((name) => new Lane(name));
+  for (let place = 0, at = items; place < count; place++, at += LANE.size) {
+    readers[get(view, at, LANE.reader)].take(view, at);
+  }
+  const [ticked, first_due] = take_entries(readers, entries, shown);
+  const lanes = ticked.map((lane) => lane.drawn(shown.ports)), ends = lanes.map(({ lasts }) => lasts.at(-1));
+  const [kind, edge, reader] = ["kind", "edge", "reader"].map((name) => get(view, verdict, VERDICT[name]));
   const broken = kind === NUMBERS.VERDICT_BROKEN ? { edge, reader: names[reader] } : null;
-  if (broken && drawn.has(lanes[reader])) lanes[reader].marks.push([edge, "premise broken"]);
-  const ended = told.map((lane) => lane.end(first, last));
-  const said = { broken, kind_of_verdict: kind, dues: dues.whole() };
-  return { lanes: ended, causes: [NO_REASON, ...CAUSES], first, last, ...said };
-}
-
-function verdict_of({ view, verdict }) { // nothing, if there was no run
-  const fields = Object.entries(VERDICT).filter(([, field]) => field.reads);
-  return Object.fromEntries(fields.map(([name, field]) => [name, verdict ? get(view, verdict, field) : 0]));
-}
-
-function tell_ports(lane, edge, view, at, truth, line) {
-  const kinds = [];
-  for (let port = 0; port < get(view, at, ENTRY.ports); port++) {
-    const told = at + ENTRY.told.at + port * TOLD.size, claim = told + TOLD.claim.at;
-    kinds.push(kind_of(view, told, truth));
-    if (kinds[port] === PORT.ANOTHER_SECOND) lane.lie(edge, port, get(view, claim, DAY), get(view, claim, SOD));
-  }
-  lane.tell(edge, kinds, line);
+  if (broken) lanes[ticked.indexOf(readers[reader])].marks.push([edge, "premise broken"]);
+  const last = Math.max(1, ...ends), dues = dues_of(first_due, ticked);
+  return { lanes, causes: CAUSES, first: 1, last, broken, kind_of_verdict: kind, dues };
 }
 
 // ---- the messages
 
-// How the entries were told, and their lanes. Its memory is let go before the log is written in another one.
-function entries_told(run, text, shown, on_end) {
-  const ran = run(), { status, refusal, count } = ran, memory = ran.view.buffer.byteLength;
+// How the runs in numbers ended, and what is drawn of them. Their memories are let go before the log is written.
+function numbers_told(asked, expected, on_growth, on_end) {
+  const entries = run_of(asked, ENTRIES, room_for(expected, ENTRY, asked), on_growth), { count } = entries;
   on_end(count);
-  const names = count || status === RUN_DONE ? names_in(text) : [];
-  return { ended: { status, refusal, memory }, count, lanes: lanes_of(ran, names, shown) };
+  const lanes = has_ended(entries) ? run_of(asked, LANES, room_for(count, LANE, asked)) : entries;
+  const { status, refusal } = lanes, drawing = has_ended(lanes) ? drawing_of(entries, lanes, asked) : NOTHING_DRAWN;
+  return { ended: { status, refusal, memory: entries.view.buffer.byteLength }, count, drawing };
 }
 
 // What the page is given at the end, with how long the run took in milliseconds.
-function told_of({ module, text, shown, most }, tell) {
-  const expected = entries_in(text), begun_at = performance.now();
-  // The run's own copy of the entries may take twice as much as these.
-  const room = Math.min(Math.max(LEAST_ROOM, expected), Math.floor((most / 3 - SPARE) / ENTRY.size));
+function told_of(asked, tell) {
+  const expected = entries_in(asked.text), begun_at = performance.now();
   let largest = SPARE, spent = 0;
   const on_growth = (bytes) => {
     if (bytes <= largest) return;
@@ -175,23 +247,16 @@ function told_of({ module, text, shown, most }, tell) {
     spent = performance.now() - begun_at;
     tell({ kind: "progress", spent, written: count, expected: count, is_read: true });
   };
-  const run = () => run_of(module, text, most, room, on_growth);
-  const { ended, count, lanes } = entries_told(run, text, shown, on_end);
-  const log_room = SPARE + count * (LINE_ROOM + (shown.ports ? MOST_PORTS * WORD_ROOM : 0));
-  const is_done = ended.status === RUN_DONE || ended.status === RUN_REFUSED;
-  const said = is_done ? log_of(module, text, shown, most, log_room) : { status: ended.status, log: new Uint8Array(0) };
-  const starts = starts_of(said.log), is_whole = is_done && said.status === ended.status;
+  const { ended, count, drawing } = numbers_told(asked, expected, on_growth, on_end);
+  const said = has_ended(ended) ? log_of(asked, count) : { status: ended.status, log: new Uint8Array(0) };
+  const starts = starts_of(said.log), is_whole = has_ended(said);
   const verdict = is_whole ? text_of_line(said.log, starts, starts.length - 2) : null;
-  const drawn = is_whole ? lanes : lanes_of({ count: 0 }, [], shown);
-  return { kind: "done", ...ended, ...said, starts, verdict, spent, ...drawn };
+  return { kind: "done", ...ended, ...said, starts, verdict, spent, ...(is_whole ? drawing : NOTHING_DRAWN) };
 }
 
-function buffers_of(result) { // which go over without a copy
-  const arrays = [result.log, result.starts];
-  for (const part of result.lanes.flatMap((lane) => [lane, lane.lies, ...lane.ports])) {
-    arrays.push(...Object.values(part).filter((numbers) => ArrayBuffer.isView(numbers)));
-  }
-  return arrays.map((array) => array.buffer);
+function buffers_of(part) { // of all arrays of numbers in it, which go over without a copy
+  if (ArrayBuffer.isView(part)) return [part.buffer];
+  return part && typeof part === "object" ? Object.values(part).flatMap(buffers_of) : [];
 }
 
 function on_message({ data }) {

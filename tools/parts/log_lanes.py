@@ -1,6 +1,6 @@
 """What a run of a scenario shows as bars, as the library finds it: for each reader runs of edges at which it stood
 alike, for each of its ports runs at which it told alike, and marks at leap seconds, month ends and where a premise
-broke. tools/plot draws them, and the page of tools/view; web/worker.js makes the same of the entries of a run."""
+broke. tools/plot draws them, and the page of tools/view; web/worker.js has the same of the same numbers."""
 from __future__ import annotations
 
 from collections.abc import Iterable
@@ -29,14 +29,11 @@ class State:
     meaning: str
 
 
-NO_LINE = "not announced"  # for web/: of an edge that has no line
-
 STATES = {
     "locked": State("#0072B2", "plain", True, "announces by a vote"),
     "holdover": State("#E69F00", "stripes", True, "announces, counting alone"),
     "acquiring": State("#56B4E9", "upright", False, "silent, too few votes yet"),
     "unlocked": State("#D55E00", "crosses", False, "silent"),
-    NO_LINE: State("#FFFFFF", "plain", False, "no line in this log"),
 }
 
 # What a port told: low where it told nothing untrue, so that a lie stands out.
@@ -51,7 +48,7 @@ PORT_STATES = {
 
 
 KINDS = {  # for the scripts of pages: states in the order in which they are drawn, and places of those of ports
-    "NO_REASON": NO_LINE, "STATE_NAMES": [*STATES], "PORT_KINDS": [*PORT_STATES],
+    "STATE_NAMES": [*STATES], "PORT_KINDS": [*PORT_STATES],
     "PORT": {name.upper().replace(" ", "_"): place for place, name in enumerate(PORT_STATES)},
 }
 
@@ -252,7 +249,7 @@ def drawn(scenario: bytes) -> dict:
 
 def drawn_of(ran: Ran) -> dict:
     """The bars of a run for a page, by numbers, with which lines of its log and of its scenario are of which edges."""
-    found, causes, verdict = ran.log.lanes(), [NO_LINE, *CAUSES], ran.log.verdict
+    found, verdict = ran.log.lanes(), ran.log.verdict
     ticks: dict[str, list[tuple[int, Tick]]] = {}
     for number, tick in enumerate(ran.log.ticks()):
         ticks.setdefault(tick.reader, []).append((number, tick))
@@ -261,7 +258,7 @@ def drawn_of(ran: Ran) -> dict:
             "reader": lane.reader,
             "marks": [[mark.at, mark.kind] for mark in lane.marks],
             **_columns(lane.runs, STATES),
-            "causes": [causes.index(run.cause) for run in lane.runs],
+            "causes": [CAUSES.index(run.cause) for run in lane.runs],
             "ports": [_columns(runs, PORT_STATES) for runs in lane.ports],
             **_placed(ticks[lane.reader]),
             "lies": _lies(lane, {tick.edge: tick for _, tick in ticks[lane.reader]}),
@@ -270,7 +267,7 @@ def drawn_of(ran: Ran) -> dict:
     ]
     broken = {"edge": verdict.edge, "reader": verdict.reader} if isinstance(verdict, PremiseBroken) else None
     dues = [[edge, second.day, second.sod] for edge, second in dues_of(ran.log, found)]
-    return {"lanes": lanes, "causes": causes, "first": 1, "last": ran.last_edge, "verdict": ran.last_line,
+    return {"lanes": lanes, "causes": [*CAUSES], "first": 1, "last": ran.last_edge, "verdict": ran.last_line,
             "broken": broken, "refused": ran.refused and ran.refused.line, "dues": dues}
 
 

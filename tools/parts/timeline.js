@@ -19,7 +19,7 @@ const TILES = { // the lines of a pattern
 
 class LaneOfEdges { // a lane, and which line tells of an edge
   constructor(lane, top) {
-    Object.assign(this, { ports: [], told_edges: [], told_lines: [], ...lane, top });
+    Object.assign(this, { ...lane, top });
     const { length } = this.ports;
     this.height = LANE + (length ? length * PORT_LANE + BELOW_PORTS : 0);
   }
@@ -230,7 +230,6 @@ class Timeline {
         const gap = right - left > PLAIN ? 1 : 0;
         if (!state.is_high) this.box(left, foot - HIGH, right - left, HIGH, ground);
         this.box(left, foot - height, right - left - gap, height, gap ? state.brush : state.colour);
-        if (state.name === "not announced") this.frame(this.brush, left, foot - height, right - left, height);
       }
     });
     this.draw_found(lane, foot);
@@ -253,13 +252,6 @@ class Timeline {
         }
       });
     });
-  }
-
-  frame(pen, left, top, wide, high) {
-    pen.strokeStyle = this.colours.faint;
-    pen.setLineDash([4, 3]);
-    pen.strokeRect(left + 0.5, top + 0.5, wide - 1, high - 1);
-    pen.setLineDash([]);
   }
 
   draw_found(lane, foot) { // a line below the runs of the cause that is looked for
@@ -383,7 +375,6 @@ class Timeline {
       pen.clearRect(0, 0, 28, all);
       pen.fillStyle = is_gap ? this.colours.rule : state.brush;
       pen.fillRect(0, is_gap ? all - 1 : all - high, 28, is_gap ? 1 : high);
-      if (state.name === NO_REASON) this.frame(pen, 0, all - high, 28, high);
     }
   }
 
