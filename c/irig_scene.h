@@ -186,9 +186,9 @@ enum {
 };
 
 enum {
-    IRIG_MARK_LEAP = 1,    /* a leap second begins, 23:59:60 */
-    IRIG_MARK_DELETED = 2, /* a month begins, whose last second, 23:59:59, was left out */
-    IRIG_MARK_MONTH = 3    /* a month begins */
+    IRIG_LANE_MARK_LEAP = 1,    /* a leap second begins, 23:59:60 */
+    IRIG_LANE_MARK_DELETED = 2, /* a month begins, whose last second, 23:59:59, was left out */
+    IRIG_LANE_MARK_MONTH = 3    /* a month begins */
 };
 
 /* A longest run of a reader's edges at which it stood alike, or one of its ports told alike; or a mark,
@@ -200,7 +200,7 @@ typedef struct irig_lane {
     uint8_t reader; /* its place in the plant line, 0 to 15 */
     uint8_t port;   /* of IRIG_LANE_TOLD: 0 to 4 */
     uint8_t state;  /* IRIG_LOCK_UNLOCKED ..; of IRIG_LANE_TOLD 0 if it told the truth, and else
-                     * IRIG_STRETCH_SILENT ..; IRIG_MARK_LEAP .. */
+                     * IRIG_STRETCH_SILENT ..; IRIG_LANE_MARK_LEAP .. */
     uint8_t cause;  /* of IRIG_LANE_STOOD: IRIG_CAUSE_VOTED .. */
 } irig_lane;
 IRIG_ASSERT((sizeof(irig_lane) == 24u) && (offsetof(irig_lane, kind) == 16u) &&

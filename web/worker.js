@@ -101,9 +101,9 @@ function starts_of(log) { // of its lines, and at last where they end
 
 const STATE_OF_LOCK = LOCKS.map((lock) => STATE_NAMES.indexOf(lock));
 const MARKS = { // how far before its edge something is drawn, and what
-  [NUMBERS.MARK_LEAP]: [[0, "leap second"]],
-  [NUMBERS.MARK_DELETED]: [[0.5, "deleted second"], [0.5, "month end"]],
-  [NUMBERS.MARK_MONTH]: [[0.5, "month end"]],
+  [NUMBERS.LANE_MARK_LEAP]: [[0, "leap second"]],
+  [NUMBERS.LANE_MARK_DELETED]: [[0.5, "deleted second"], [0.5, "month end"]],
+  [NUMBERS.LANE_MARK_MONTH]: [[0.5, "month end"]],
 };
 const WHOLE_DAY = 86400; // seconds; and of a day that has more the second 23:59:60
 
@@ -197,8 +197,8 @@ function dues_of(first, lanes) {
   if (first) add(...first);
   for (const [edge, mark] of marks.sort(([one], [other]) => one - other)) {
     const [from, day, sod] = dues.at(-1), counted = day + Math.floor((sod + edge - from) / WHOLE_DAY);
-    if (mark === NUMBERS.MARK_LEAP) add(edge, counted - 1, WHOLE_DAY);
-    if (mark === NUMBERS.MARK_DELETED) add(edge, counted + 1, 0);
+    if (mark === NUMBERS.LANE_MARK_LEAP) add(edge, counted - 1, WHOLE_DAY);
+    if (mark === NUMBERS.LANE_MARK_DELETED) add(edge, counted + 1, 0);
   }
   return dues;
 }

@@ -181,7 +181,8 @@ def types() -> dict[str, str]:
 
 def imports(roots: Names, body: str) -> str:
     """What a module has to import for these definitions, and for the types that its body names."""
-    named = set(re.findall(r"(?<![.\w])[A-Z]\w+", re.sub(r'"(?:[^"\\]|\\.)*"', "", body)))
+    brought = {name for uses in re.findall(r"^use .*{(.*)}$", body, re.MULTILINE) for name in re.findall(r"\w+", uses)}
+    named = set(re.findall(r"(?<![.\w])[A-Z]\w+", re.sub(r'"(?:[^"\\]|\\.)*"', "", body))) - brought
     lines = [STANDARD, CLOSED]
     for (crate, file), list_ in reached(roots).items():
         wanted = [one for one in list_ if is_closed((crate, file), one) or (crate, one) in roots or one in named]
