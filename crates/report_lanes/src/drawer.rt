@@ -103,11 +103,11 @@ impl Drawer {
     // Takes a tick of a reader: pushes what it ends and marks.
     fn take(&mut self, tick: &Tick) -> Result<(), AllocError>
         ensures ports { self.new.ports ≡ self.old.ports }
-        ensures lanes { OnOk result ((s : Setup) (r : ℕ) (ev : List EventOf) → AreOpenAt self.old s ev
-            → r < vec_len self.old.readers → tick.now ≡ tick_of s r ev
+        ensures lanes { OnOk result ((s : Setup) (r : ℕ) (ev : List EventOf)
+            → AreOpenAt self.old s ev → r < vec_len self.old.readers → tick.now ≡ tick_of s r ev
             → self.new.lanes.items ≡ self.old.lanes.items ++ ended_at s self.old.ports r ev) }
-        ensures readers { OnOk result ((s : Setup) (r : ℕ) (ev : List EventOf) → AreOpenAt self.old s ev
-            → r < vec_len self.old.readers → tick.now ≡ tick_of s r ev
+        ensures readers { OnOk result ((s : Setup) (r : ℕ) (ev : List EventOf)
+            → AreOpenAt self.old s ev → r < vec_len self.old.readers → tick.now ≡ tick_of s r ev
             → AreOpenAt self.new s (TickOfReader r ∷ ev)) }
     {
         let reader = tick.entry.reader as usize;

@@ -14,8 +14,8 @@ use crate::lane::Lane;
 pub fn lanes_are_longest_runs()
     ensures stood { (ts : List TickOf) (lane : Lane) → lane_of stood_at ts ≡ Some lane
         → IsLongest stood_at ts lane }
-    ensures told { (port : ℕ) (ts : List TickOf) (lane : Lane) → lane_of (told_at port) ts ≡ Some lane
-        → IsLongest (told_at port) ts lane }
+    ensures told { (port : ℕ) (ts : List TickOf) (lane : Lane)
+        → lane_of (told_at port) ts ≡ Some lane → IsLongest (told_at port) ts lane }
 {}
 
 /// Where a port has an open stretch, by what blame finds, its open lane is of the same kind, with the
