@@ -56,7 +56,7 @@ def commands(random: Random) -> Pairs:
         yield (list(READERS), line), v.result(meant, v.refusal, command)
 
 
-@question("model", "irig_scene.is_blank")
+@question("model", "report_run.is_blank")
 def blanks() -> Pairs:
     """Which one byte is a blank line: what the model skips."""
     for byte in range(256):

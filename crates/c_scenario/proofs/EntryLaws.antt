@@ -10,14 +10,15 @@ use Rattle.irig_plant.specs.declared.event.Event.TheVariants.{GenEdge, Tick, Car
 use Rattle.irig_plant.specs.declared.entry.Entry.{Entry}
 use Rattle.irig_plant.specs.Schedule.{Setup, log_of}
 use Rattle.irig_scene.specs.declared.outcome.Outcome.{Outcome}
-use Rattle.irig_scene.specs.declared.fault.SceneFault.{SceneFault}
-use Rattle.irig_scene.specs.declared.fault.SceneFault.TheVariants.{Refused, Read, Write, Memory}
+use Rattle.report_run.specs.declared.fault.SceneFault.{SceneFault}
+use Rattle.report_run.specs.declared.fault.SceneFault.TheVariants.{Refused, Read, Write, Memory}
 use Rattle.irig_scene.specs.declared.run.Run.{Run}
-use Rattle.irig_scene.specs.Lines.{lines}
+use Rattle.report_run.specs.Lines.{lines}
 use Rattle.irig_scene.specs.Listening.{Gave, entries_by}
-use Rattle.irig_scene.specs.Scene.{Scene, scene, meaning_of, meaning_from}
-use Rattle.irig_scene.specs.Starts.{entry_count, noted_at, starts_from}
-use Rattle.irig_scene.specs.ListenerRuns.{IsAt, HasHeard, HeardFor}
+use Rattle.irig_scene.specs.Scene.{scenario, entries_in, Scene, scene, meaning_of}
+use Rattle.report_run.specs.Meanings.{meaning_from}
+use Rattle.report_run.specs.Starts.{entry_count, noted_at, starts_from}
+use Rattle.report_run.specs.Runs.{IsAt, HasHeard, HeardFor}
 use Rattle.irig_scene.proofs.LogLaws.{grows}
 use Rattle.c_numbers.specs.Reports.{no_claim}
 use Rattle.c_scenario.specs.declared.entry.IrigEntry.{IrigEntry}
@@ -49,10 +50,10 @@ kept_after old new x e entries entry at gave is pushed =
     pushed ∙ ap (λ l. l ++ option_to_list entry) at ∙ ap (λ l. map entry_for log ++ l) one
     ∙ sym (ap (map entry_for) (grows x.plan.setup e x.events) ∙ map-append entry_for log by)
 
-pub count_kept : (items : List IrigEntry) (x : Scene) → items ≡ heard_in (Some x) → length items ≡ entry_count (Some x)
+pub count_kept : (items : List IrigEntry) (x : Scene) → items ≡ heard_in (Some x) → length items ≡ entry_count entries_in (Some x)
 count_kept items x at = ap length at ∙ length-map (log_of x.plan.setup x.events) entry_for
 
-count_in : (items : List IrigEntry) (at : Option Scene) → items ≡ heard_in at → length items ≡ entry_count at
+count_in : (items : List IrigEntry) (at : Option Scene) → items ≡ heard_in at → length items ≡ entry_count entries_in at
 count_in items None at = ap length at
 count_in items (Some x) at = count_kept items x at
 
@@ -210,17 +211,17 @@ nothing_over [] = refl
 nothing_over (e ∷ es) = refl
 
 kept_lines : (text items : List ℕ) (es : List IrigEntry) (more : List ℕ) (at : Option Scene) → at ≡ (meaning_of text).scene → es ≡ heard_in at
-    → items ≡ starts_from true (lines text) 1 None ++ more → (more ≡ []) ⊎ (more ≡ noted_at true at) → lined items 0 es ≡ entries_of text
+    → items ≡ starts_from scenario entries_in true (lines text) 1 None ++ more → (more ≡ []) ⊎ (more ≡ noted_at entries_in true at) → lined items 0 es ≡ entries_of text
 kept_lines text items es more at same heard noted last =
-    let starts = starts_from true (lines text) 1 None in
+    let starts = starts_from scenario entries_in true (lines text) 1 None in
     let all : lined starts 0 es ≡ entries_of text = ap (lined starts 0) (heard ∙ ap heard_in same) in
     elim last [
       | inl none ↦ ap (λ l. lined l 0 es) (noted ∙ ap (λ l. starts ++ l) none ∙ append-nil starts) ∙ all
-      | inr one ↦ ap (λ l. lined l 0 es) (noted ∙ ap (λ l. starts ++ l) one) ∙ lined_more starts (entry_count at) 0 es (omega (arith, count_in es at heard)) ∙ all
+      | inr one ↦ ap (λ l. lined l 0 es) (noted ∙ ap (λ l. starts ++ l) one) ∙ lined_more starts (entry_count entries_in at) 0 es (omega (arith, count_in es at heard)) ∙ all
     ]
 
 -- without a failure it is known what was heard
-heard_whole : (answer : Result Outcome SceneFault) (listener : Option EntryLog) (notes : List ℕ) (bytes : List ℕ) → HeardFor HoldsEntries true answer listener notes (lines bytes) 1 None → HasWholeLog (status_of answer) → HasHeard HoldsEntries true listener notes (lines bytes) 1 None
+heard_whole : (answer : Result Outcome SceneFault) (listener : Option EntryLog) (notes : List ℕ) (bytes : List ℕ) → HeardFor scenario entries_in HoldsEntries true answer listener notes (lines bytes) 1 None → HasWholeLog (status_of answer) → HasHeard scenario entries_in HoldsEntries true listener notes (lines bytes) 1 None
 heard_whole (Ok o) listener notes bytes h whole = h
 heard_whole (Err (Refused line refusal)) listener notes bytes h whole = h
 heard_whole (Err Read) listener notes bytes h (inl none) = absurd (omega (arith, none))
@@ -230,8 +231,8 @@ heard_whole (Err Write) listener notes bytes h (inr none) = absurd (omega (arith
 heard_whole (Err Memory) listener notes bytes h (inl none) = absurd (omega (arith, none))
 heard_whole (Err Memory) listener notes bytes h (inr none) = absurd (omega (arith, none))
 
-heard : (text : List ℕ) (run : Run EntryLog) → HasHeardEntries text run → HasWholeLog (status_of run.answer) → HasHeard HoldsEntries true run.listener run.starts.items (lines text) 1 None
-heard text run h whole = subst (λ (x : List ℕ). HasHeard HoldsEntries true run.listener run.starts.items (lines x) 1 None) h.ran.of_input (heard_whole run.answer run.listener run.starts.items h.ran.bytes h.ran.heard whole)
+heard : (text : List ℕ) (run : Run EntryLog) → HasHeardEntries text run → HasWholeLog (status_of run.answer) → HasHeard scenario entries_in HoldsEntries true run.listener run.starts.items (lines text) 1 None
+heard text run h whole = subst (λ (x : List ℕ). HasHeard scenario entries_in HoldsEntries true run.listener run.starts.items (lines x) 1 None) h.ran.of_input (heard_whole run.answer run.listener run.starts.items h.ran.bytes h.ran.heard whole)
 
 holds_some : (log : EntryLog) (at : Option Scene) → IsAt HoldsEntries (Some log) at → log.entries.items ≡ heard_in at
 holds_some log None at = absurd at
@@ -255,7 +256,7 @@ module _ (text : List ℕ) (run : Run EntryLog) (h : HasHeardEntries text run) (
   none_kept is =
       let all = heard text run h whole in
       let at : IsAt {A = EntryLog} HoldsEntries None (meaning_of text).scene = subst (λ (l : Option EntryLog). IsAt HoldsEntries l (meaning_of text).scene) is all.stands in
-      ap (lined (starts_from true (lines text) 1 None) 0) (holds_none (meaning_of text).scene at) ∙ none_lined (starts_from true (lines text) 1 None) 0
+      ap (lined (starts_from scenario entries_in true (lines text) 1 None) 0) (holds_none (meaning_of text).scene at) ∙ none_lined (starts_from scenario entries_in true (lines text) 1 None) 0
 
   pub none_over : (room : List IrigEntry) → run.listener ≡ None → room ≡ written_over room (entries_of text)
   none_over room is = sym (ap (written_over room) (none_kept is) ∙ nothing_over room)

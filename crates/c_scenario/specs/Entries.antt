@@ -13,10 +13,10 @@ use Rattle.c_numbers.specs.declared.claim.IrigClaim.{IrigClaim}
 use Rattle.c_numbers.specs.Numbers.{claim_for}
 use Rattle.c_numbers.specs.Reports.{no_claim, told_in, number_of_lock, count_of_lock, number_of_cause}
 use Rattle.irig_scene.specs.declared.outcome.Outcome.{Outcome}
-use Rattle.irig_scene.specs.declared.fault.SceneFault.{SceneFault}
-use Rattle.irig_scene.specs.Lines.{lines}
-use Rattle.irig_scene.specs.Scene.{Scene, meaning_of}
-use Rattle.irig_scene.specs.Starts.{starts_from}
+use Rattle.report_run.specs.declared.fault.SceneFault.{SceneFault}
+use Rattle.report_run.specs.Lines.{lines}
+use Rattle.irig_scene.specs.Scene.{scenario, entries_in, Scene, meaning_of}
+use Rattle.report_run.specs.Starts.{starts_from}
 use Rattle.c_scenario.specs.declared.entry.IrigEntry.{IrigEntry}
 use Rattle.c_scenario.specs.declared.entry.IrigVerdict.{IrigVerdict}
 
@@ -77,7 +77,7 @@ lined starts i (e ∷ es) = record e { line = begun starts i } ∷ lined starts 
 
 -- all that the bytes x give
 abbrev pub entries_of : List ℕ → List IrigEntry
-entries_of x = lined (starts_from true (lines x) 1 None) 0 (heard_in (meaning_of x).scene)
+entries_of x = lined (starts_from scenario entries_in true (lines x) 1 None) 0 (heard_in (meaning_of x).scene)
 
 -- ---- the verdict
 

@@ -4,11 +4,11 @@ use Rattle.std.specs.Prelude.{◌≡◌, ℕ, ◌≤◌, ◌⊎◌, Bool, List, 
 use Rattle.text_faults.specs.Refusals as refusals
 use Rattle.report_log.specs.declared.shown.Shown.{Shown}
 use Rattle.irig_scene.specs.declared.outcome.Outcome.{Outcome}
-use Rattle.irig_scene.specs.declared.fault.SceneFault.{SceneFault}
-use Rattle.irig_scene.specs.declared.fault.SceneFault.TheVariants.{Refused}
+use Rattle.report_run.specs.declared.fault.SceneFault.{SceneFault}
+use Rattle.report_run.specs.declared.fault.SceneFault.TheVariants.{Refused}
 use Rattle.irig_scene.specs.Run.{RanShown}
-use Rattle.irig_scene.specs.Scene.{Refused as RefusedLine}
-use Rattle.irig_scene.specs.Statuses as statuses
+use Rattle.report_run.specs.Meanings.{Refused as RefusedLine}
+use Rattle.report_run.specs.Statuses as statuses
 
 -- what is shown, by the two parameters
 abbrev pub shown_of : Bool → Bool → Shown

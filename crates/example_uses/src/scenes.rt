@@ -1,7 +1,7 @@
 //! Uses of `irig_scene`.
 
 ghost use Rattle.std.specs.Prelude.{◌≡◌, false, IfOk, IsTrue, Some, length};
-ghost use Rattle.irig_scene.specs.Lines.{lines};
+ghost use Rattle.report_run.specs.Lines.{lines};
 ghost use Rattle.irig_plant.specs.Premises.{IsKept};
 ghost use Rattle.irig_scene.specs.Scene.{Scene, meaning_of, output};
 

@@ -11,7 +11,7 @@ use Rattle.text_frame.specs.Frame.{NamesNoSecond, ShowsFrameOf}
 use Rattle.text_frame.specs.Letters.{ShowsNoSymbols}
 use Rattle.text_frame.specs.Reading.{IsReadingOf}
 use Rattle.irig_scene.specs.declared.outcome.Outcome.{Outcome}
-use Rattle.irig_scene.specs.declared.fault.SceneFault.{SceneFault}
+use Rattle.report_run.specs.declared.fault.SceneFault.{SceneFault}
 use Rattle.report_log.specs.declared.shown.Shown.{Shown}
 use Rattle.irig_scene.specs.LogLines.{OfWritten}
 use Rattle.irig_scene.specs.Run.{RanShown}

@@ -2,8 +2,8 @@
 -- Source: docs/OUTPUT.md, the exit status.
 use Rattle.std.specs.Prelude.{◌≡◌, ℕ, ◌≤◌, ◌⊎◌, Result, Ok, Err}
 use Rattle.irig_scene.specs.declared.outcome.Outcome.{Outcome}
-use Rattle.irig_scene.specs.declared.fault.SceneFault.{SceneFault}
-use Rattle.irig_scene.specs.declared.fault.SceneFault.TheVariants as scene
+use Rattle.report_run.specs.declared.fault.SceneFault.{SceneFault}
+use Rattle.report_run.specs.declared.fault.SceneFault.TheVariants as scene
 use Rattle.text_frame.specs.declared.reading.ReadingFault.{ReadingFault}
 use Rattle.text_frame.specs.declared.reading.ReadingFault.TheVariants as reading
 use Rattle.irig_main.specs.declared.fault.Fault.{Fault}

@@ -7,7 +7,7 @@ use Rattle.std.proofs.lemmas.List.Elements.{recursion_from_All, All-from_recursi
 use Rattle.scenario_line.proofs.PlainLines.{plan}
 use Rattle.report_log.specs.LogLines.{whole_lines, Shows, broken_line}
 use Rattle.report_log.proofs.LogLaws.{shown_once}
-use Rattle.irig_scene.specs.Lines.{lines}
+use Rattle.report_run.specs.Lines.{lines}
 use Rattle.irig_scene.specs.VouchedLines.{ShowsTruth}
 use Rattle.irig_scene.specs.BrokenLogs.{ShowsTruthBefore, AreTrueUntil, VouchesUntilBroken}
 use Rattle.irig_scene.proofs.VouchedFacts.{bytes, plant, only_plant, time, named, no_dash, not_time_of_3, right_line, wrong_line, right_shows, wrong_shows, right_is_true, wrong_is_false}

@@ -24,7 +24,8 @@ use Rattle.report_log.proofs.LogLaws.{all_left, all_at, all_join, whole_front, e
 use Rattle.report_log.proofs.RowLaws.{rows, lines_of_rows, each_row, port_row_shows_nothing}
 use Rattle.report_log.proofs.LastLines.{refusal_lines, audit_lines}
 use Rattle.report_log.proofs.BrokenLines.{HasFewEdge, IsBrokenBy, says_broken, refusal_not_broken, rows_join, AllAfterFirst, rows_after_first, front_has}
-use Rattle.irig_scene.specs.Scene.{Scene, refusal_as, Refused, meaning_of, log_text, audit_in, ending_text, output_shown}
+use Rattle.irig_scene.specs.Scene.{Scene, refusal_as, meaning_of, log_text, audit_in, ending_text, output_shown}
+use Rattle.report_run.specs.Meanings.{Refused}
 use Rattle.irig_scene.specs.VouchedLines.{ShowsTruth}
 use Rattle.irig_scene.specs.BrokenLogs.{ShowsTruthBefore, AreTrueUntil, VouchesUntilBroken}
 use Rattle.irig_scene.proofs.NameLaws.{are_names_named}

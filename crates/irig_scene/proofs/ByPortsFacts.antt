@@ -11,7 +11,7 @@ use Rattle.report_log.specs.LogLines.{whole_lines}
 use Rattle.report_log.specs.PortWords.{ShowsVoted, ShowsWords, has_false_majority}
 use Rattle.report_log.proofs.LogLaws.{shown_once}
 use Rattle.report_log.proofs.PortWordLaws.{words_once}
-use Rattle.irig_scene.specs.Lines.{lines}
+use Rattle.report_run.specs.Lines.{lines}
 use Rattle.irig_scene.specs.LogLines.{IsTimeOf}
 use Rattle.irig_scene.specs.VouchedByPorts.{ShowsTruthByPorts, IsTrueByPorts, VouchesByPorts}
 use Rattle.irig_scene.proofs.VouchedFacts.{bytes, plant, only_plant, time, named, is_time_of_2, not_time_of_3, right_line, wrong_line, right_shows, wrong_shows}

@@ -2,8 +2,8 @@
 use Rattle.std.proofs.Common.{Bool, ◌≡◌, ℕ, List, Option, Some, None, Result, Ok, Err, refl, sym}
 use Rattle.std.proofs.lemmas.Option.{none-some}
 use Rattle.irig_scene.specs.declared.outcome.Outcome.{Outcome}
-use Rattle.irig_scene.specs.declared.fault.SceneFault.{SceneFault}
-use Rattle.irig_scene.specs.declared.fault.SceneFault.TheVariants.{Refused, Read, Write, Memory}
+use Rattle.report_run.specs.declared.fault.SceneFault.{SceneFault}
+use Rattle.report_run.specs.declared.fault.SceneFault.TheVariants.{Refused, Read, Write, Memory}
 use Rattle.irig_scene.specs.declared.refused_line.RefusedLine.{RefusedLine}
 use Rattle.irig_scene.specs.Explained.{refusal_said, refusal_in, IsExplained}
 

@@ -23,7 +23,7 @@ use Rattle.scenario_line.specs.EventLine.{command_in_line}
 use Rattle.scenario_line.specs.PlantLine.{Plan, plan_in_line}
 use Rattle.scenario_line.proofs.BlankLines.{command_not_blank}
 use Rattle.scenario_line.proofs.PlainLines.{seconds_line, asks_two, plant_line, plan, makes_plan}
-use Rattle.irig_scene.specs.Lines.{lines, is_blank, max_line}
+use Rattle.report_run.specs.Lines.{lines, is_blank, max_line}
 use Rattle.irig_scene.specs.Scene.{output}
 use Rattle.report_log.specs.Text.{entry_text, entries_text}
 use Rattle.report_log.specs.LogLines.{Shows}

@@ -28,8 +28,9 @@ use Rattle.scenario_line.specs.EventLine.{command_in_line}
 use Rattle.scenario_values.specs.Names.{are_names}
 use Rattle.scenario_line.specs.PlantLine.{Plan}
 use Rattle.scenario_line.proofs.SoundPlans.{IsSound, plan_is_sound}
-use Rattle.irig_scene.specs.Lines.{max_line, max_lines}
-use Rattle.irig_scene.specs.Scene.{scene, after_play, Step, step, step_to, step_of_plan, step_of_command, meaning, meaning_from, meaning_of, text_of, output}
+use Rattle.report_run.specs.Lines.{max_line, max_lines}
+use Rattle.irig_scene.specs.Scene.{Scene, scenario, scene, after_play, begun, next_of_command, meaning_of, text_of, output}
+use Rattle.report_run.specs.Meanings.{Step, step, step_to, step_of_first, step_of_next, meaning, meaning_from}
 use Rattle.report_log.specs.Text.{time_shown_text, entries_text, entries_alone, audit_text}
 use Rattle.report_log.specs.LogLines.{whole_lines, Shows}
 use Rattle.irig_scene.specs.HealthyRun.{AskSeconds, IsOfSeconds, IsHealthyRun, HasTimeLine}
@@ -37,7 +38,7 @@ use Rattle.irig_scene.proofs.NameLaws.{are_names_named}
 use Rattle.report_log.proofs.LogLaws.{entry_line, lines_of_entries, entry_line_shows}
 use Rattle.irig_scene.proofs.PlayLaws.{play_all}
 use Rattle.irig_scene.proofs.PlayLaws.{split_at}
-use Rattle.irig_scene.proofs.StepLaws.{step_blank, step_taken, meaning_goes, meaning_ends}
+use Rattle.report_run.proofs.StepLaws.{step_blank, step_taken, meaning_goes, meaning_ends}
 use Rattle.scenario_line.proofs.BlankLines.{plant_not_blank, command_not_blank}
 
 -- ---- elements of lists
@@ -109,23 +110,23 @@ module _ (plan : Plan) where
       (parts_accepted s (seconds_of s k) (seconds_of s m) (after done) later).0
 
   seconds_step : (number done k : ℕ) (l : List ℕ) → number ≤ max_lines → length l ≤ max_line → command_in_line plan.names l ≡ Ok (command.Seconds k) → AreAccepted s (seconds_of s k) (after done)
-      → step number (Some (scene plan (after done))) l ≡ step_to (Some (scene plan (after (done + k)))) None
+      → step scenario number (Some (scene plan (after done))) l ≡ step_to (Some (scene plan (after (done + k)))) None
   seconds_step number done k l few short says accepted =
-      step_taken number (Some (scene plan (after done))) l few short (command_not_blank plan.names l (command.Seconds k) says)
-      ∙ ap (step_of_command (scene plan (after done))) says
-      ∙ ap (after_play plan) (play_all s (seconds_of s k) (after done) accepted)
+      step_taken scenario number (Some (scene plan (after done))) l few short (command_not_blank plan.names l (command.Seconds k) says)
+      ∙ ap (λ c. step_of_next (next_of_command (scene plan (after done)) c)) says
+      ∙ ap (λ p. step_of_next (after_play plan p)) (play_all s (seconds_of s k) (after done) accepted)
       ∙ ap (λ ev. step_to (Some (scene plan ev)) None) (more_seconds done k)
 
   asked : (ls : List (List ℕ)) (number done n : ℕ) → number + length ls ≤ max_lines + 1 → AllByRecursion (λ l. length l ≤ max_line) ls → AskSeconds plan.names ls n → AreAccepted s (seconds_of s (done + n)) []
-      → meaning_from ls number (Some (scene plan (after done))) ≡ meaning (Some (scene plan (after (done + n)))) None
+      → meaning_from scenario ls number (Some (scene plan (after done))) ≡ meaning (Some (scene plan (after (done + n)))) None
   asked [] number done n few short h accepted =
       let same : done ≡ done + n = omega (arith, h) in
-      meaning_ends number (Some (scene plan (after done))) ∙ ap (λ k. meaning (Some (scene plan (after k))) None) same
+      meaning_ends scenario number (Some (scene plan (after done))) ∙ ap (λ k. meaning (Some (scene plan (after k))) None) same
   asked (l ∷ ls) number done n few short (inl h) accepted =
       let at = Some (scene plan (after done)) in
-      let skipped = step_blank number at l (omega (arith, few)) short.0 h.0 in
-      meaning_goes l ls number at (ap (λ (t : Step). t.refusal) skipped)
-      ∙ ap (λ (t : Step). meaning_from ls (number + 1) t.scene) skipped
+      let skipped = step_blank scenario number at l (omega (arith, few)) short.0 h.0 in
+      meaning_goes scenario l ls number at (ap (λ (t : Step Scene). t.refusal) skipped)
+      ∙ ap (λ (t : Step Scene). meaning_from scenario ls (number + 1) t.scene) skipped
       ∙ asked ls (number + 1) done n (omega (arith, few)) short.1 h.1 accepted
   asked (l ∷ ls) number done n few short (inr h) accepted =
       let k = h.0 in
@@ -135,19 +136,19 @@ module _ (plan : Plan) where
       let at = Some (scene plan (after done)) in
       let part = accepted_part done k m (subst (λ t. AreAccepted s (seconds_of s t) []) sum accepted) in
       let taken = seconds_step number done k l (omega (arith, few)) short.0 h.2 part in
-      meaning_goes l ls number at (ap (λ (t : Step). t.refusal) taken)
-      ∙ ap (λ (t : Step). meaning_from ls (number + 1) t.scene) taken
+      meaning_goes scenario l ls number at (ap (λ (t : Step Scene). t.refusal) taken)
+      ∙ ap (λ (t : Step Scene). meaning_from scenario ls (number + 1) t.scene) taken
       ∙ asked ls (number + 1) (done + k) m (omega (arith, few)) short.1 h.3 (subst (λ t. AreAccepted s (seconds_of s t) []) total accepted)
       ∙ ap (λ t. meaning (Some (scene plan (after t))) None) (sym total)
 
   pub means_seconds : (x : List ℕ) (n : ℕ) → IsOfSeconds x plan n → AreAccepted s (seconds_of s n) [] → meaning_of x ≡ meaning (Some (scene plan (after n))) None
   means_seconds x n h accepted =
       let short = recursion_from_All (λ l. length l ≤ max_line) (h.line ∷ h.more) h.short in
-      let begun : step 1 None h.line ≡ step_to (Some (scene plan [])) None = step_taken 1 None h.line (omega arith) short.0 (plant_not_blank h.line plan h.plant) ∙ ap step_of_plan h.plant in
+      let first : step scenario 1 None h.line ≡ step_to (Some (scene plan [])) None = step_taken scenario 1 None h.line (omega arith) short.0 (plant_not_blank h.line plan h.plant) ∙ ap (λ p. step_of_first (begun p)) h.plant in
       let none : 0 + n ≡ n = omega arith in
-      ap (λ ls. meaning_from ls 1 None) h.are
-      ∙ meaning_goes h.line h.more 1 None (ap (λ (t : Step). t.refusal) begun)
-      ∙ ap (λ (t : Step). meaning_from h.more 2 t.scene) begun
+      ap (λ ls. meaning_from scenario ls 1 None) h.are
+      ∙ meaning_goes scenario h.line h.more 1 None (ap (λ (t : Step Scene). t.refusal) first)
+      ∙ ap (λ (t : Step Scene). meaning_from scenario h.more 2 t.scene) first
       ∙ asked h.more 2 0 n (omega (arith, h.few)) short.1 h.seconds (subst (λ t. AreAccepted s (seconds_of s t) []) (sym none) accepted)
       ∙ ap (λ t. meaning (Some (scene plan (after t))) None) none
 

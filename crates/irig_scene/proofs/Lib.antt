@@ -1,16 +1,10 @@
 pub mod PlayLaws
-pub mod StepLaws
 pub mod SteppedLaws
 pub mod PlayedLaws
 pub mod HeldText
 pub mod PlayerLaws
-pub mod LineLaws
-pub mod ReadLaws
 pub mod NameLaws
 pub mod TakenLaws
-pub mod RestLaws
-pub mod RunLaws
-pub mod StartLaws
 pub mod ExplainedLaws
 pub mod LogLaws
 pub mod TrueLines

@@ -13,18 +13,20 @@ use Rattle.std.specs.Prelude.{OnOk}
 use Rattle.std.proofs.Math.Seq.{drop-append_seam}
 use Rattle.report_log.proofs.TextLaws.{no_lines}
 use Rattle.irig_scene.specs.declared.outcome.Outcome.{Outcome}
-use Rattle.irig_scene.specs.declared.fault.SceneFault.{SceneFault}
-use Rattle.irig_scene.specs.declared.fault.SceneFault.TheVariants.{Refused, Read, Write, Memory}
-use Rattle.irig_scene.specs.Lines.{lines, unlines}
-use Rattle.irig_scene.specs.Scene.{Scene, scene, Refused as RefusedAt, Meaning, meaning_of, log_text, ending_text, text_of, output_shown}
+use Rattle.report_run.specs.declared.fault.SceneFault.{SceneFault}
+use Rattle.report_run.specs.declared.fault.SceneFault.TheVariants.{Refused, Read, Write, Memory}
+use Rattle.report_run.specs.Lines.{lines, unlines}
+use Rattle.irig_scene.specs.Scene.{Scene, scenario, scene, meaning_of, log_text, ending_text, text_of, output_shown}
+use Rattle.report_run.specs.Meanings.{Refused as RefusedAt, Meaning}
 use Rattle.irig_scene.specs.Run.{RanOn, RanShown}
 use Rattle.irig_scene.specs.Run as run
 use Rattle.irig_scene.proofs.PlayLaws.{lines_grow}
-use Rattle.irig_scene.specs.Texts as by
-use Rattle.irig_scene.specs.Texts.{said, ending_of, meaning_text, whole_text}
+use Rattle.irig_scene.specs.Texts.{of_scenes, said, whole_text}
+use Rattle.report_run.specs.Texts.{first_of, text_of as text_by, ending_of, meaning_text}
 use Rattle.irig_scene.specs.Listening.{entries_by}
 use Rattle.irig_scene.specs.LogTexts.{log_texts}
-use Rattle.irig_scene.specs.ListenerRuns.{StoppedReading, StoppedInLine, RunFor, RanFor}
+use Rattle.report_run.specs.Runs.{StoppedReading, StoppedInLine}
+use Rattle.irig_scene.specs.ListenerRuns.{RunFor, RanFor}
 
 -- ---- an entry more
 
@@ -48,25 +50,25 @@ module _ (shown : Shown) where
       let s = plan.setup in
       ap (λ t. t ++ lines_text plan.names shown (entries_by s e ev)) (said_is_log plan ev) ∙ sym (lines_grow (scene plan ev) (e ∷ ev) shown (entries_by s e ev) (grows s e ev))
 
-  text_is : (first : List ℕ) (at : Option Scene) → by.text_of (log_texts shown) first at ≡ log_text shown at
+  text_is : (first : List ℕ) (at : Option Scene) → text_by (of_scenes (log_texts shown)) first at ≡ log_text shown at
   text_is first None = refl
   text_is first (Some x) = said_is_log x.plan x.events
 
-  ending_is : (k : Option RefusedAt) (at : Option Scene) → ending_of (log_texts shown) k at ≡ ending_text k at
+  ending_is : (k : Option RefusedAt) (at : Option Scene) → ending_of (of_scenes (log_texts shown)) k at ≡ ending_text k at
   ending_is (Some k) None = refl
   ending_is (Some k) (Some x) = refl
   ending_is None None = refl
   ending_is None (Some x) = refl
 
-  meaning_is : (first : List ℕ) (m : Meaning) → meaning_text (log_texts shown) first m ≡ text_of shown m
-  meaning_is first m = ap (λ t. t ++ ending_of (log_texts shown) m.refused m.scene) (text_is first m.scene) ∙ ap (λ t. log_text shown m.scene ++ t) (ending_is m.refused m.scene)
+  meaning_is : (first : List ℕ) (m : Meaning Scene) → meaning_text (of_scenes (log_texts shown)) first m ≡ text_of shown m
+  meaning_is first m = ap (λ t. t ++ ending_of (of_scenes (log_texts shown)) m.refused m.scene) (text_is first m.scene) ∙ ap (λ t. log_text shown m.scene ++ t) (ending_is m.refused m.scene)
 
   all_is : (x : List ℕ) → whole_text (log_texts shown) x ≡ output_shown x shown
-  all_is x = meaning_is (by.first_of (lines x)) (meaning_of x)
+  all_is x = meaning_is (first_of (lines x)) (meaning_of x)
 
   -- ---- so what a listener is promised is what a run of a scenario promises
 
-  reading_is : (x : List ℕ) (was left old new : Option (List ℕ)) → StoppedReading (log_texts shown) x was left old new → run.StoppedReading x shown was left old new
+  reading_is : (x : List ℕ) (was left old new : Option (List ℕ)) → StoppedReading scenario (of_scenes (log_texts shown)) x was left old new → run.StoppedReading x shown was left old new
   reading_is x was left old new h = record {
     whole = h.whole;
     part = h.part;
@@ -76,10 +78,10 @@ module _ (shown : Shown) where
     unlined = h.unlined;
     of_bytes = h.of_bytes;
     read = h.read;
-    wrote = subst (Appends old new) (text_is (by.first_of h.whole) (meaning_of (unlines h.whole)).scene) h.wrote;
+    wrote = subst (Appends old new) (text_is (first_of h.whole) (meaning_of (unlines h.whole)).scene) h.wrote;
   }
 
-  in_line_is : (x : List ℕ) (was left old new : Option (List ℕ)) → StoppedInLine (log_texts shown) x was left old new → run.StoppedInLine x shown was left old new
+  in_line_is : (x : List ℕ) (was left old new : Option (List ℕ)) → StoppedInLine scenario (of_scenes (log_texts shown)) x was left old new → run.StoppedInLine x shown was left old new
   in_line_is x was left old new h = record {
     whole = h.whole;
     part = h.part;
@@ -90,7 +92,7 @@ module _ (shown : Shown) where
     of_bytes = h.of_bytes;
     read = h.read;
     more = h.more;
-    wrote = subst (λ t. Appends old new (t ++ h.more)) (text_is (by.first_of h.whole) (meaning_of (unlines h.whole)).scene) h.wrote;
+    wrote = subst (λ t. Appends old new (t ++ h.more)) (text_is (first_of h.whole) (meaning_of (unlines h.whole)).scene) h.wrote;
   }
 
   run_is : (r : Result Outcome SceneFault) (x : List ℕ) (was left old new : Option (List ℕ)) → RunFor (log_texts shown) r x was left old new → RanOn r x shown was left old new

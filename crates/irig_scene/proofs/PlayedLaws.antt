@@ -7,51 +7,16 @@ use Rattle.std.proofs.lemmas.List.{take_more, take-append-drop}
 use Rattle.irig_plant.specs.declared.event.Event.{Event}
 use Rattle.irig_plant.specs.Refusals.{refusal}
 use Rattle.text_faults.specs.declared.refusal.Refusal.{Refusal}
-use Rattle.irig_scene.specs.declared.stop.Stop.{Stop}
-use Rattle.irig_scene.specs.declared.stop.Stop.TheVariants.{Refused, Failed}
+use Rattle.report_run.specs.declared.stop.Stop.{Stop}
+use Rattle.report_run.specs.declared.stop.Stop.TheVariants.{Refused, Failed}
 use Rattle.irig_scene.specs.Scene.{Scene, scene, refusal_as, Play, play, play_by, unless_refused}
 use Rattle.irig_scene.specs.Scene.{after_events}
 use Rattle.irig_scene.proofs.PlayLaws.{plays_on, plays_no_further}
-use Rattle.scenario_line.specs.PlantLine.{Plan}
 use Rattle.irig_scene.specs.Texts.{Texts, said, said_in}
+use Rattle.irig_scene.specs.Stays.{SaidFront, front_of_play}
 use Rattle.irig_scene.specs.ListenerRuns.{SaidMore, SaidPart, PlayedFor, Played}
 
--- ---- what is said grows
-
--- what is said of events is in front of what is said of those and later ones
-record TextGrows (texts : Texts) (plan : Plan) (ev later : List Event) : Type 0 where
-  pub text : List ℕ
-  pub is : said texts plan later ≡ said texts plan ev ++ text
-
--- so of one scene and another
-pub record SaidFront (texts : Texts) (from to : Scene) : Type 0 where
-  pub text : List ℕ
-  pub more : said_in texts to ≡ said_in texts from ++ text
-
 module _ (texts : Texts) where
-  text_keeps : (plan : Plan) (ev : List Event) → TextGrows texts plan ev ev
-  text_keeps plan ev = record { text = []; is = sym (append-nil (said texts plan ev)) }
-
-  text_unless : (plan : Plan) (k : Option Refusal) (ev : List Event) (rest : Play) → TextGrows texts plan ev rest.events → TextGrows texts plan ev (unless_refused k ev rest).events
-  text_unless plan None ev rest h = h
-  text_unless plan (Some k) ev rest h = text_keeps plan ev
-
-  text_then : (plan : Plan) (e : Event) (ev later : List Event) → TextGrows texts plan (e ∷ ev) later → TextGrows texts plan ev later
-  text_then plan e ev later h = record {
-    text = texts.event plan e ev ++ h.text;
-    is = h.is ∙ append_assoc (said texts plan ev) (texts.event plan e ev) h.text;
-  }
-
-  text_grows : (plan : Plan) (es ev : List Event) → TextGrows texts plan ev (play plan.setup es ev).events
-  text_grows plan [] ev = text_keeps plan ev
-  text_grows plan (e ∷ es) ev =
-      text_unless plan (option_and_then refusal_as (refusal plan.setup e ev)) ev (play plan.setup es (e ∷ ev)) (text_then plan e ev (play plan.setup es (e ∷ ev)).events (text_grows plan es (e ∷ ev)))
-
-  pub front_of_play : (x : Scene) (es : List Event) → SaidFront texts x (after_events x es)
-  front_of_play x es =
-      let grown = text_grows x.plan es x.events in
-      record { text = grown.text; more = grown.is }
-
   -- ---- the output
 
   pub nothing_said : (x : Scene) (out : Option (List ℕ)) → SaidMore texts x x out out
@@ -91,7 +56,7 @@ module _ (texts : Texts) where
   -- nothing was written of what is said of events
   pub none_said : (x : Scene) (es : List Event) (out : Option (List ℕ)) → SaidPart texts x (after_events x es) out out
   none_said x es out =
-      let front = front_of_play x es in
+      let front = front_of_play texts x es in
       record { text = front.text; more = front.more; wrote = record { front = []; rest = front.text; whole = refl; wrote = Appends-nil out } }
 
 -- ---- one of a list

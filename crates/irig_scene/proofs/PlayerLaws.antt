@@ -12,8 +12,8 @@ use Rattle.std.specs.Prelude.{Vec, String, IfOk, drop, string_bytes}
 use Rattle.std.specs.declared.alloc.Global.{Global}
 use Rattle.irig_scene.specs.Listening.{history_past, Gave, HasTaken}
 use Rattle.text_faults.specs.declared.refusal.Refusal.{Refusal}
-use Rattle.irig_scene.specs.declared.stop.Stop.{Stop}
-use Rattle.irig_scene.specs.declared.stop.Stop.TheVariants.{Refused, Failed}
+use Rattle.report_run.specs.declared.stop.Stop.{Stop}
+use Rattle.report_run.specs.declared.stop.Stop.TheVariants.{Refused, Failed}
 use Rattle.irig_plant.specs.declared.plant.Plant.{Plant}
 use Rattle.scenario_line.specs.PlantLine.{Plan}
 use Rattle.irig_scene.specs.Scene.{Scene, scene}
@@ -23,6 +23,7 @@ use Rattle.irig_scene.specs.declared.player.Stage.{Stage}
 use Rattle.irig_scene.specs.declared.stepped.SteppedPlant.{SteppedPlant}
 use Rattle.irig_scene.specs.Stepping.{Steps, HasStepped}
 use Rattle.irig_scene.specs.Texts.{Texts}
+use Rattle.report_run.specs.Runs.{IsAt}
 use Rattle.irig_scene.specs.ListenerRuns.{PlayedFor, Adds, HoldsTextOf, IsStageAt, IsPlayerAt, text_in, held_by}
 use Rattle.irig_scene.proofs.LogLaws.{gave}
 use Rattle.irig_scene.proofs.PlayedLaws.{ends_in, takes_one, stops_one}
@@ -124,3 +125,13 @@ begun p plan h = record {
   happened = record { history = history_past 0 (scene plan []); stands = h };
   few = omega (arith, p.log.ok.0, ap length h.log);
 }
+
+-- ---- who listens to a player
+
+-- who listened to a player stands as it
+pub listener_stands : {L P : Type 0} {g : Ghosts P} (stands_for : L → Scene → Type 0) (r : Option (Player L P g)) (p : Player L P g) (l : L) (at : Option Scene)
+    → r ≡ Some p → l ≡ p.stage.listener → IsAt (IsPlayerAt stands_for) r at → IsAt stands_for (Some l) at
+listener_stands stands_for r p l None is same stands = absurd (subst (λ r. IsAt (IsPlayerAt stands_for) r None) is stands)
+listener_stands stands_for r p l (Some x) is same stands =
+    let at = subst (λ r. IsAt (IsPlayerAt stands_for) r (Some x)) is stands in
+    subst (λ l. stands_for l x) (sym same) at.stage.listener

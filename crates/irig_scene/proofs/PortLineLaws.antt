@@ -12,8 +12,9 @@ use Rattle.irig_plant.specs.declared.audit.Audit.{Audit}
 use Rattle.irig_plant.specs.declared.audit.Audit.TheVariants.{Kept, Broken, FalseTable}
 use Rattle.irig_plant.specs.declared.entry.Entry.{Entry}
 use Rattle.irig_plant.specs.Schedule.{log_of}
-use Rattle.irig_scene.specs.Lines.{unlines}
-use Rattle.irig_scene.specs.Scene.{Scene, Refused, meaning_of, ending_text, output_shown, output}
+use Rattle.report_run.specs.Lines.{unlines}
+use Rattle.irig_scene.specs.Scene.{Scene, meaning_of, ending_text, output_shown, output}
+use Rattle.report_run.specs.Meanings.{Refused}
 use Rattle.report_log.specs.Text.{entry_text, entries_text, entries_alone, port_line, refusal_text}
 use Rattle.report_log.specs.LogLines.{whole_lines, ShowsNothing}
 use Rattle.irig_scene.specs.PortLines.{is_port_line, without_port_lines, ports_too}

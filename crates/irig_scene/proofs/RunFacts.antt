@@ -34,14 +34,17 @@ use Rattle.text_faults.specs.declared.refusal.Refusal.TheVariants.{Json, NoPlant
 use Rattle.scenario_values.specs.Names.{are_names, is_name}
 use Rattle.scenario_line.specs.PlantLine.{plan_in_line}
 use Rattle.scenario_json.specs.Json.{json_of}
-use Rattle.irig_scene.specs.Lines.{lines, unlines, first_lines, after_lines, shown_by}
+use Rattle.report_run.specs.Lines.{lines, unlines, first_lines, after_lines, shown_by}
 use Rattle.report_log.specs.LogLines.{whole_lines, Shows, ShowsNothing}
 use Rattle.irig_scene.specs.LogLines.{IsTimeOf, IsTrueLine, IsTrueLineIfKept, TellsTruth, IsTrueLog, VouchesForItself, OfWritten}
 use Rattle.irig_scene.specs.declared.outcome.Outcome.{Outcome}
-use Rattle.irig_scene.specs.declared.fault.SceneFault.TheVariants as fault
+use Rattle.report_run.specs.declared.fault.SceneFault.TheVariants as fault
 use Rattle.report_log.specs.Text.{entries_alone, refusal_text}
-use Rattle.irig_scene.specs.Scene.{Scene, scene, step, Refused, meaning, meaning_from, meaning_of, refusal_at, audit_in, log_text}
-use Rattle.irig_scene.specs.Run.{IsDone, IsRefused, AreTaken, StoppedReading, IsOfOneLine, StoppedInLine, AreBytesOf, read_of, Ran}
+use Rattle.irig_scene.specs.Scene.{scenario, Scene, scene, meaning_of, audit_in, log_text}
+use Rattle.report_run.specs.Meanings.{step, Refused, meaning, meaning_from, refusal_at}
+use Rattle.irig_scene.specs.Run.{IsDone, StoppedReading, StoppedInLine, Ran}
+use Rattle.report_run.specs.Runs.{IsRefused, IsOfOneLine, AreBytesOf, read_of}
+use Rattle.report_run.specs.Meanings.{AreTaken}
 use Rattle.report_log.proofs.LogLaws.{not_newline}
 use Rattle.report_log.proofs.LogLaws.{NoNewline, shows_digit, shown_once, one_whole, whole_along}
 use Rattle.report_log.proofs.WordLaws.{AreNames}
@@ -278,10 +281,10 @@ module _ (x : Scene) (kept : audit_in x ≡ Kept) where
   outcome lines audit = record { lines = lines; audit = audit }
 
   done : IsDone (meaning (Some x) None) 3 (outcome 3 Kept)
-  done = record { lines = refl; accepted = refl; scene = x; left = refl; audit = sym kept }
+  done = record { accepted = refl; scene = x; left = refl; ended = record { lines = refl; audit = sym kept } }
 
   not_other_count : ¬ IsDone (meaning (Some x) None) 3 (outcome 4 Kept)
-  not_other_count h = omega (arith, h.lines)
+  not_other_count h = omega (arith, h.ended.lines)
 
   not_refused : ¬ IsDone (meaning (Some x) (Some (refusal_at 3 Json))) 3 (outcome 3 Kept)
   not_refused h = let none : Some (refusal_at 3 Json) ≡ None = h.accepted in absurd cc
@@ -293,7 +296,7 @@ module _ (x : Scene) (kept : audit_in x ≡ Kept) where
   not_other_audit h =
       let left : Some x ≡ Some h.scene = h.left in
       let same : h.scene ≡ x = cc in
-      let is : Broken 0 1 ≡ Kept = h.audit ∙ ap audit_in same ∙ kept in
+      let is : Broken 0 1 ≡ Kept = h.ended.audit ∙ ap audit_in same ∙ kept in
       absurd cc
 
 module _ (at : Option Scene) where
@@ -374,13 +377,13 @@ wholes ls rest h = go ls (recursion_from_All HasNoNewline ls h)
         ap whole_lines cut ∙ whole_along l (unlines ls ++ rest) (recursion_from_All (λ b. b ≢ 10) l h.0) ∙ ap (λ z. l ∷ z) (go ls h.1)
 
 -- no read that failed after a line that is refused
-not_past_a_refusal : (l : List ℕ) (k : Refusal) (old new : Option (List ℕ)) → HasNoNewline l → (step 1 None l).refusal ≡ Some k
+not_past_a_refusal : (l : List ℕ) (k : Refusal) (old new : Option (List ℕ)) → HasNoNewline l → (step scenario 1 None l).refusal ≡ Some k
     → ¬ StoppedReading (l ++ 10 ∷ []) (entries_alone true) (Some (l ++ 10 ∷ [])) (Some []) old new
 not_past_a_refusal l k old new unlined refused h =
     let bytes : unlines h.whole ++ h.part ≡ l ++ 10 ∷ [] = sym (h.read ∙ append-nil (unlines h.whole ++ h.part)) in
     let cut : h.whole ++ whole_lines h.part ≡ l ∷ [] = sym (wholes h.whole h.part h.lined) ∙ ap whole_lines bytes ∙ one_whole l (recursion_from_All (λ b. b ≢ 10) l unlined) in
     let whole : h.whole ≡ l ∷ [] = sym (append-nil h.whole) ∙ ap (λ ls. h.whole ++ ls) (sym (no_whole h.part (recursion_from_All (λ b. b ≢ 10) h.part h.unlined))) ∙ cut in
-    let taken : AreTaken (l ∷ []) 1 None = subst (λ ls. AreTaken ls 1 None) whole h.taken in
+    let taken : AreTaken scenario (l ∷ []) 1 None = subst (λ ls. AreTaken scenario ls 1 None) whole h.taken in
     let clash : ◌≡◌ {A = Option Refusal} None (Some k) = sym taken.0 ∙ refused in
     absurd cc
 

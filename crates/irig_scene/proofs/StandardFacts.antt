@@ -27,11 +27,12 @@ use Rattle.irig_plant.specs.Schedule.{Setup, setup}
 use Rattle.irig_plant.specs.WholeSecond.{second_of}
 use Rattle.scenario_line.specs.declared.event_line.Command.TheVariants as command
 use Rattle.text_faults.specs.declared.refusal.Refusal.TheVariants as refusal
-use Rattle.irig_scene.specs.Lines.{lines, unlines, is_blank, limit_of}
+use Rattle.report_run.specs.Lines.{lines, unlines, is_blank, limit_of}
 use Rattle.scenario_line.specs.PlantLine.{Plan}
 use Rattle.report_log.specs.Text.{entry_text, entries_text, audit_text, refusal_text}
 use Rattle.irig_scene.specs.Stepping.{ticks_among, HasStepped}
-use Rattle.irig_scene.specs.Scene.{Scene, scene, play, play_by, step_to, step_of_command, step, refusal_at, meaning, meaning_from, meaning_of, output}
+use Rattle.irig_scene.specs.Scene.{scenario, Scene, scene, play, play_by, next_of_command, meaning_of, output}
+use Rattle.report_run.specs.Meanings.{step_to, step_of_next, step, refusal_at, meaning, meaning_from}
 
 -- ---- lines
 
@@ -129,18 +130,18 @@ known_audits = (refl, refl, refl)
 -- ---- a line by its number, its length and what it says
 
 -- a line that is skipped leaves the scene, whatever it is
-pub known_blank_lines : (at : Option Scene) → (step 1 at [] ≡ step_to at None) × (step 1000000 at (codes " \t\r") ≡ step_to at None)
+pub known_blank_lines : (at : Option Scene) → (step scenario 1 at [] ≡ step_to at None) × (step scenario 1000000 at (codes " \t\r") ≡ step_to at None)
 unfolding step
 known_blank_lines at = (refl, refl)
 
 -- a line above number 1,000,000 is refused, also a blank one
-pub known_many : (at : Option Scene) (line : List ℕ) → step 1000001 at line ≡ step_to at (Some refusal.TooManyLines)
+pub known_many : (at : Option Scene) (line : List ℕ) → step scenario 1000001 at line ≡ step_to at (Some refusal.TooManyLines)
 unfolding step
 known_many at line = refl
 
 -- a line of 65,537 bytes is refused, also a blank one; one byte less is skipped if it is blank
-pub known_long : (at : Option Scene) (line : List ℕ) → (length line ≡ 65537 → step 1000000 at line ≡ step_to at (Some refusal.TooLong))
-    × (length line ≡ 65536 → is_blank line ≡ true → step 1 at line ≡ step_to at None)
+pub known_long : (at : Option Scene) (line : List ℕ) → (length line ≡ 65537 → step scenario 1000000 at line ≡ step_to at (Some refusal.TooLong))
+    × (length line ≡ 65536 → is_blank line ≡ true → step scenario 1 at line ≡ step_to at None)
 unfolding step
 known_long at line = (λ long. rw long refl, λ long blank. rw (long, blank) refl)
 
@@ -172,11 +173,11 @@ known_play = (refl, refl, refl)
 
 -- two seconds of it are seven events and seven again; none is no event; a refused line leaves the
 -- scene as it was
-pub known_commands : (step_of_command (scene plan []) (Ok (command.Seconds 2))
+pub known_commands : (step_of_next (next_of_command (scene plan []) (Ok (command.Seconds 2)))
     ≡ step_to (Some (scene plan (GenEdge 2 ∷ GenEdge 1 ∷ GenEdge 0 ∷ Tick 0 ∷ Carry 2 0 ∷ Carry 1 0 ∷ Carry 0 0
     ∷ GenEdge 2 ∷ GenEdge 1 ∷ GenEdge 0 ∷ Tick 0 ∷ Carry 2 0 ∷ Carry 1 0 ∷ Carry 0 0 ∷ []))) None)
-    × (step_of_command (scene plan (Tick 0 ∷ [])) (Ok (command.Seconds 0)) ≡ step_to (Some (scene plan (Tick 0 ∷ []))) None)
-    × (step_of_command (scene plan (Tick 0 ∷ [])) (Err refusal.Shape) ≡ step_to (Some (scene plan (Tick 0 ∷ []))) (Some refusal.Shape))
+    × (step_of_next (next_of_command (scene plan (Tick 0 ∷ [])) (Ok (command.Seconds 0))) ≡ step_to (Some (scene plan (Tick 0 ∷ []))) None)
+    × (step_of_next (next_of_command (scene plan (Tick 0 ∷ [])) (Err refusal.Shape)) ≡ step_to (Some (scene plan (Tick 0 ∷ []))) (Some refusal.Shape))
 unfolding second_at
 known_commands = (refl, refl, refl)
 

@@ -15,7 +15,7 @@ use Rattle.irig_plant.specs.History.{PlantHistory, HasPlantHistory, ForHistory, 
 use Rattle.irig_plant.specs.Runs.{IsRefused}
 use Rattle.irig_plant.specs.Schedule.{Setup, log_of, entry_of}
 use Rattle.irig_plant.specs.WholeSecond.{carries, ticks, steps, second_of}
-use Rattle.irig_scene.specs.declared.stop.Stop.{Stop}
+use Rattle.report_run.specs.declared.stop.Stop.{Stop}
 use Rattle.irig_scene.specs.Faults.{stop_as, stop_of_event}
 use Rattle.irig_scene.specs.Scene.{refusal_as}
 use Rattle.irig_scene.specs.Stepping.{ticks_among, HasSomeHistory, HasStepped, Steps}

@@ -22,8 +22,9 @@ use Rattle.scenario_line.specs.declared.event_line.Command.{Command}
 use Rattle.text_faults.specs.declared.refusal.Refusal.TheVariants as refusal
 use Rattle.scenario_line.specs.EventLine.{command_in_line}
 use Rattle.report_log.specs.declared.shown.Shown.{Shown}
-use Rattle.irig_scene.specs.Lines.{lines, is_blank, max_line, max_lines}
-use Rattle.irig_scene.specs.Scene.{Scene, Play, play, unless_refused, refusal_as, events_of, step_to, step_of_plan, step_of_command, step_of_line, step, Meaning, Refused, unless_stopped, meaning_at_end, meaning_from, meaning_of, log_text, audit_in, ending_text, output_shown}
+use Rattle.report_run.specs.Lines.{lines, is_blank, max_line, max_lines}
+use Rattle.irig_scene.specs.Scene.{scenario, Scene, Play, play, unless_refused, refusal_as, events_of, begun, next_of_command, meaning_of, log_text, audit_in, ending_text, output_shown}
+use Rattle.report_run.specs.Meanings.{step_to, step_of_first, step_of_next, step_of_line, step, Meaning, Refused, unless_stopped, meaning_at_end, meaning_from}
 use Rattle.report_log.specs.Text.{time_shown_text, refusal_text}
 use Rattle.report_log.specs.LogLines.{whole_lines, ShowsNothing}
 use Rattle.irig_scene.specs.LogLines.{IsTimeOf, IsTrueLine, IsTrueLineIfKept, TellsTruth, IsTrueLog, VouchesForItself}
@@ -92,30 +93,30 @@ abbrev IsSoundScene : Option Scene → Type 0
 IsSoundScene None = ⊤
 IsSoundScene (Some x) = IsSoundAt x
 
-begun_sound : (o : Result Plan Refusal) → ((plan : Plan) → o ≡ Ok plan → IsSound plan) → IsSoundScene (step_of_plan o).scene
+begun_sound : (o : Result Plan Refusal) → ((plan : Plan) → o ≡ Ok plan → IsSound plan) → IsSoundScene (step_of_first (begun o)).scene
 begun_sound (Ok plan) h = record { plan = h plan refl; played = tt }
 begun_sound (Err k) h = tt
 
-commanded_sound : (x : Scene) (c : Result Command Refusal) → IsSoundAt x → IsSoundScene (step_of_command x c).scene
+commanded_sound : (x : Scene) (c : Result Command Refusal) → IsSoundAt x → IsSoundScene (step_of_next (next_of_command x c)).scene
 commanded_sound x (Ok c) h = record { plan = h.plan; played = play_played x.plan.setup (events_of x.plan c) x.events h.played }
 commanded_sound x (Err k) h = h
 
-taken_sound : (at : Option Scene) (line : List ℕ) → IsSoundScene at → IsSoundScene (step_of_line at line).scene
+taken_sound : (at : Option Scene) (line : List ℕ) → IsSoundScene at → IsSoundScene (step_of_line scenario at line).scene
 taken_sound None line h = begun_sound (plan_in_line line) (plan_is_sound line)
 taken_sound (Some x) line h = commanded_sound x (command_in_line x.plan.names line) h
 
 if_sound : (at : Option Scene) (line : List ℕ) (many long blank : Bool) → IsSoundScene at
-    → IsSoundScene (cond many (step_to at (Some refusal.TooManyLines)) (cond long (step_to at (Some refusal.TooLong)) (cond blank (step_to at None) (step_of_line at line)))).scene
+    → IsSoundScene (cond many (step_to at (Some refusal.TooManyLines)) (cond long (step_to at (Some refusal.TooLong)) (cond blank (step_to at None) (step_of_line scenario at line)))).scene
 if_sound at line true long blank h = h
 if_sound at line false true blank h = h
 if_sound at line false false true h = h
 if_sound at line false false false h = taken_sound at line h
 
-step_sound : (n : ℕ) (at : Option Scene) (line : List ℕ) → IsSoundScene at → IsSoundScene (step n at line).scene
+step_sound : (n : ℕ) (at : Option Scene) (line : List ℕ) → IsSoundScene at → IsSoundScene (step scenario n at line).scene
 unfolding step
 step_sound n at line h = if_sound at line (nat_lt max_lines n) (nat_lt max_line (length line)) (is_blank line) h
 
-unless_sound : (n : ℕ) (at : Option Scene) (k : Option Refusal) (rest : Meaning) → IsSoundScene at → IsSoundScene rest.scene → IsSoundScene (unless_stopped n at k rest).scene
+unless_sound : (n : ℕ) (at : Option Scene) (k : Option Refusal) (rest : Meaning Scene) → IsSoundScene at → IsSoundScene rest.scene → IsSoundScene (unless_stopped n at k rest).scene
 unless_sound n at None rest h l = l
 unless_sound n at (Some k) rest h l = h
 
@@ -123,12 +124,12 @@ ended_sound : (n : ℕ) (at : Option Scene) → IsSoundScene at → IsSoundScene
 ended_sound n None h = h
 ended_sound n (Some x) h = h
 
-meaning_sound : (ls : List (List ℕ)) (n : ℕ) (at : Option Scene) → IsSoundScene at → IsSoundScene (meaning_from ls n at).scene
+meaning_sound : (ls : List (List ℕ)) (n : ℕ) (at : Option Scene) → IsSoundScene at → IsSoundScene (meaning_from scenario ls n at).scene
 unfolding meaning_from
 meaning_sound [] n at h = ended_sound n at h
 meaning_sound (l ∷ ls) n at h =
     let next = step_sound n at l h in
-    unless_sound n (step n at l).scene (step n at l).refusal (meaning_from ls (n + 1) (step n at l).scene) next (meaning_sound ls (n + 1) (step n at l).scene next)
+    unless_sound n (step scenario n at l).scene (step scenario n at l).refusal (meaning_from scenario ls (n + 1) (step scenario n at l).scene) next (meaning_sound ls (n + 1) (step scenario n at l).scene next)
 
 pub scene_sound : (x : List ℕ) (at : Scene) → (meaning_of x).scene ≡ Some at → IsSoundAt at
 scene_sound x at e = subst IsSoundScene e (meaning_sound (lines x) 1 None tt)

@@ -20,7 +20,8 @@ use Rattle.report_log.proofs.PortWordLaws.{row_words}
 use Rattle.report_log.proofs.VotedTicks.{IsTrueByWords, log_true_by_words}
 use Rattle.irig_scene.proofs.BrokenLogs.{each_both}
 use Rattle.report_log.proofs.NextLines.{AllNext, next_at, next_by_second, next_of_ticks, line_voted}
-use Rattle.irig_scene.specs.Scene.{Scene, Refused, meaning_of, ending_text, output_shown}
+use Rattle.irig_scene.specs.Scene.{Scene, meaning_of, ending_text, output_shown}
+use Rattle.report_run.specs.Meanings.{Refused}
 use Rattle.irig_scene.specs.PortLines.{is_port_line}
 use Rattle.irig_scene.specs.VouchedByPorts.{ShowsTruthByPorts, IsTrueByPorts, VouchesByPorts}
 use Rattle.irig_scene.proofs.NameLaws.{are_names_named}

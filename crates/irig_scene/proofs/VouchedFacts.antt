@@ -10,7 +10,7 @@ use Rattle.irig_time.specs.TextValues.{day_text, second_text}
 use Rattle.irig_time.specs.Texts.{time_text}
 use Rattle.scenario_line.proofs.NamesAndTimes.{plan_has}
 use Rattle.scenario_line.proofs.PlainLines.{plant_line, plan, makes_plan}
-use Rattle.irig_scene.specs.Lines.{lines}
+use Rattle.report_run.specs.Lines.{lines}
 use Rattle.scenario_values.specs.Names.{is_name, are_names}
 use Rattle.report_log.specs.LogLines.{whole_lines, Shows}
 use Rattle.report_log.proofs.LogLaws.{shown_once}

@@ -7,8 +7,8 @@ use Rattle.irig_device.specs.declared.watched.Watched.{Watched}
 use Rattle.irig_device.specs.Watched.{AppendsPart, has_failed}
 use Rattle.report_log.specs.declared.shown.Shown.{Shown}
 use Rattle.irig_scene.specs.declared.outcome.Outcome.{Outcome}
-use Rattle.irig_scene.specs.declared.fault.SceneFault.{SceneFault}
-use Rattle.irig_scene.specs.declared.fault.SceneFault.TheVariants.{Refused, Read, Write, Memory}
+use Rattle.report_run.specs.declared.fault.SceneFault.{SceneFault}
+use Rattle.report_run.specs.declared.fault.SceneFault.TheVariants.{Refused, Read, Write, Memory}
 use Rattle.irig_scene.specs.Scene.{output_shown}
 use Rattle.irig_scene.specs.Run.{RanOn, RanShown}
 use Rattle.irig_scene.specs.LogLines.{OfWritten, TellsTruth, VouchesForItself}

@@ -7,7 +7,7 @@ use Rattle.irig_plant.specs.Premises.{HasTrueTable}
 use Rattle.scenario_line.specs.declared.event_line.Command.TheVariants.{Seconds}
 use Rattle.scenario_line.specs.EventLine.{command_in_line}
 use Rattle.scenario_line.specs.PlantLine.{Plan, plan_in_line}
-use Rattle.irig_scene.specs.Lines.{lines, is_blank, max_line, max_lines}
+use Rattle.report_run.specs.Lines.{lines, is_blank, max_line, max_lines}
 use Rattle.report_log.specs.LogLines.{Shows}
 use Rattle.irig_scene.specs.LogLines.{IsTimeOf}
 

@@ -1,4 +1,3 @@
-pub mod Lines
 pub mod Scene
 pub mod Faults
 pub mod Stepping
@@ -9,11 +8,10 @@ pub mod BrokenLogs
 pub mod VouchedByPorts
 pub mod WholeRun
 pub mod Texts
-pub mod Starts
+pub mod Stays
 pub mod Explained
 pub mod Listening
 pub mod ListenerRuns
 pub mod LogTexts
 pub mod HealthyRun
 pub mod PortLines
-pub mod Statuses

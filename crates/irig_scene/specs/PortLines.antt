@@ -2,7 +2,7 @@
 -- Source: docs/OUTPUT.md; this project's profile.
 use Rattle.std.specs.Prelude.{ℕ, ◌==◌, Bool, true, false, not, List, [], ◌∷◌, filter}
 use Rattle.report_log.specs.declared.shown.Shown.{Shown}
-use Rattle.irig_scene.specs.Lines.{unlines}
+use Rattle.report_run.specs.Lines.{unlines}
 use Rattle.report_log.specs.LogLines.{whole_lines}
 
 -- a line of what ports told begins with a blank, 32

@@ -7,9 +7,9 @@ use Rattle.irig_plant.specs.declared.event.Event.TheVariants.{Tick}
 use Rattle.irig_plant.specs.declared.plant.Plant.{Plant}
 use Rattle.irig_plant.specs.History.{PlantHistory, HasPlantHistory, ForHistory, with_event, with_cleared_log}
 use Rattle.irig_plant.specs.Refusals.{refusal}
-use Rattle.irig_scene.specs.declared.stop.Failure.TheVariants.{Memory}
-use Rattle.irig_scene.specs.declared.stop.Stop.{Stop}
-use Rattle.irig_scene.specs.declared.stop.Stop.TheVariants.{Refused, Failed}
+use Rattle.report_run.specs.declared.stop.Failure.TheVariants.{Memory}
+use Rattle.report_run.specs.declared.stop.Stop.{Stop}
+use Rattle.report_run.specs.declared.stop.Stop.TheVariants.{Refused, Failed}
 use Rattle.irig_scene.specs.Scene.{play, play_by}
 
 -- a plant has some history

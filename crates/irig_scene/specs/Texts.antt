@@ -1,12 +1,10 @@
 -- What is written of a scenario in place of its log, by what is said of each of its events.
 -- Source: docs/OUTPUT.md and docs/SCENARIOS.md.
-use Rattle.std.specs.Prelude.{ℕ, Bool, if◌then◌else◌, List, [], ◌∷◌, ◌++◌, not, unwrap_or, Option, Some, None}
-use Rattle.std.specs.List.{find}
+use Rattle.std.specs.Prelude.{ℕ, Bool, List, [], ◌∷◌, ◌++◌}
 use Rattle.irig_plant.specs.declared.event.Event.{Event}
-use Rattle.report_log.specs.Text.{refusal_text}
 use Rattle.scenario_line.specs.PlantLine.{Plan}
-use Rattle.irig_scene.specs.Lines.{lines, is_blank}
-use Rattle.irig_scene.specs.Scene.{Scene, Refused, Meaning, meaning_of}
+use Rattle.report_run.specs.Texts.{Texts as TextsOfRun, last_of as last_of_run, whole_text as whole_text_of_run}
+use Rattle.irig_scene.specs.Scene.{Scene, scenario}
 
 -- what is said of a plant line; of an event of a plan that comes after these; of what is open where
 -- a line is refused; and where the lines end without a refusal
@@ -25,14 +23,6 @@ no_texts = record {
   end = λ x. [];
 }
 
--- what comes last: what is open, if a line is refused, and else what ends the text
-abbrev pub last_of : Texts → Bool → Scene → List ℕ
-last_of t refused x = if refused then t.closing x else t.end x
-
--- the first line that is not blank: the plant line
-abbrev pub first_of : List (List ℕ) → List ℕ
-first_of ls = unwrap_or (find (λ line. not (is_blank line)) ls) []
-
 -- what is said of events, the oldest first
 abbrev pub said : Texts → Plan → List Event → List ℕ
 said t plan [] = []
@@ -42,30 +32,19 @@ said t plan (e ∷ ev) = said t plan ev ++ t.event plan e ev
 abbrev pub said_in : Texts → Scene → List ℕ
 said_in t x = said t x.plan x.events
 
--- of the plant line and of those; nothing before there is a plant
-abbrev pub text_of : Texts → List ℕ → Option Scene → List ℕ
-text_of t first None = []
-text_of t first (Some x) = t.first first ++ said_in t x
+-- what is said of the plant line and of the events of a scene
+abbrev pub of_scenes : Texts → TextsOfRun Scene
+of_scenes t = record {
+  first = t.first;
+  said = λ x. said_in t x;
+  closing = t.closing;
+  end = t.end;
+}
 
--- of what is open
-abbrev pub closing_of : Texts → Option Scene → List ℕ
-closing_of t None = []
-closing_of t (Some x) = t.closing x
-
--- at the end of the lines
-abbrev pub end_of : Texts → Option Scene → List ℕ
-end_of t None = []
-end_of t (Some x) = t.end x
-
--- what comes last: what is open and the refusal, if a line was refused
-abbrev pub ending_of : Texts → Option Refused → Option Scene → List ℕ
-ending_of t (Some k) at = closing_of t at ++ refusal_text k.line k.refusal
-ending_of t None at = end_of t at
-
--- all that is said of what lines mean, the first of which is this
-abbrev pub meaning_text : Texts → List ℕ → Meaning → List ℕ
-meaning_text t first m = text_of t first m.scene ++ ending_of t m.refused m.scene
+-- what comes last: what is open, if a line is refused, and else what ends the text
+abbrev pub last_of : Texts → Bool → Scene → List ℕ
+last_of t refused x = last_of_run (of_scenes t) refused x
 
 -- all that is written for the bytes x
 abbrev pub whole_text : Texts → List ℕ → List ℕ
-whole_text t x = meaning_text t (first_of (lines x)) (meaning_of x)
+whole_text t x = whole_text_of_run scenario (of_scenes t) x

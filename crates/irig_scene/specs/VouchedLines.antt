@@ -5,7 +5,7 @@ use Rattle.std.specs.List.{find}
 use Rattle.irig_time.specs.Timelines.{TimelineValue}
 use Rattle.scenario_line.specs.NamesAndTimes.{HasNamesAndTimes}
 use Rattle.report_log.specs.LogLines.{whole_lines, Shows}
-use Rattle.irig_scene.specs.Lines.{lines, is_blank}
+use Rattle.report_run.specs.Lines.{lines, is_blank}
 use Rattle.irig_scene.specs.LogLines.{IsTimeOf}
 
 -- ---- the plant line

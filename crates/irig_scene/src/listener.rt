@@ -3,8 +3,7 @@
 ghost use Rattle.std.specs.Prelude.{All, ◌≡◌, ◌++◌, [], ◌∷◌, ◌≤◌, ℕ, Bool, true, Some, if◌then◌else◌, List, IfOk, OnOk, codes, length, string_bytes};
 ghost use Rattle.irig_plant.specs.Sound.{IsSound, IsToldSoundly};
 ghost use Rattle.report_log.specs.Text.{texts_of};
-ghost use Rattle.irig_scene.specs.Scene.{Scene, scene};
-ghost use Rattle.irig_scene.specs.Starts.{entry_count};
+ghost use Rattle.irig_scene.specs.Scene.{Scene, entries_in, scene};
 ghost use Rattle.irig_scene.specs.Texts.{Texts, last_of};
 ghost use Rattle.irig_scene.specs.Listening.{Gave, HasTaken, IsPlantOf, Names};
 
@@ -34,7 +33,7 @@ pub trait Listener: Drop {
     /// How many entries there were so far, if it counts them.
     fn count(&self) -> u64
         ensures { (asked : Self.Asked) (x : Scene) → counts ≡ true → stands_for asked self.now x
-            → result ≡ entry_count (Some x) };
+            → result ≡ entries_in x };
 
     /// The listener of a plant to which nothing has happened, whose readers have these names, 16 at
     /// most, and so many ports each.

@@ -6,7 +6,6 @@ ghost use Rattle.report_log.specs.Text.{entries_alone};
 ghost use Rattle.irig_scene.specs.Explained.{IsExplained};
 ghost use Rattle.irig_scene.specs.WholeRun.{RunsTruly};
 
-use crate::fault::SceneFault;
 use crate::listener::Listener;
 use crate::outcome::Outcome;
 use crate::refused_line::RefusedLine;
@@ -16,6 +15,7 @@ use irig_device::Watched;
 use irig_plant::{Entry, Event, Plant};
 use irig_port::{FlowPort, Port};
 use report_log::{ReportText, Shown, push_audit, push_entries, push_ticks};
+use report_run::SceneFault;
 use std::alloc::{AllocError, Global};
 use std::io::{BufRead, Write};
 

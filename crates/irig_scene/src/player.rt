@@ -2,9 +2,9 @@
 
 ghost use Rattle.std.specs.Prelude.{◌≡◌, ◌↔◌, ◌<◌, ◌≤◌, ◌∷◌, [], false, true, Some, IfOk, IfErr, OnOk, length, string_bytes, ◌||◌, vec_len};
 ghost use Rattle.irig_device.specs.Watched.{device_of, has_failed};
-ghost use Rattle.irig_scene.specs.declared.stop.Failure.TheVariants.{Memory};
+ghost use Rattle.report_run.specs.declared.stop.Failure.TheVariants.{Memory};
 ghost use Rattle.irig_scene.specs.Explained.{refusal_in};
-ghost use Rattle.irig_scene.specs.Faults.{WroteText, failed_write, stopped_write};
+ghost use Rattle.report_run.specs.Faults.{WroteText, failed_write, stopped_write};
 ghost use Rattle.irig_scene.specs.Scene.{Scene};
 ghost use Rattle.irig_scene.specs.Texts.{last_of};
 ghost use Rattle.irig_scene.specs.ListenerRuns.{Adds, IsStageAt, max_held, text_in};
@@ -12,12 +12,11 @@ ghost use Rattle.irig_scene.specs.ListenerRuns.{Adds, IsStageAt, max_held, text_
 use crate::listener::Listener;
 use crate::refused_line::RefusedLine;
 use crate::stepped::SteppedPlant;
-use crate::stop::{Failure, Stop};
-use crate::write::write_text;
 use indexmap::IndexSet;
 use irig_device::Watched;
 use irig_plant::{Audit, Event, Plant};
 use irig_port::Port;
+use report_run::{Failure, Stop, write_text};
 use scenario_line::{BuiltPlant, Command, EventReader, second_of};
 use std::alloc::Global;
 use std::io::Write;
@@ -109,9 +108,8 @@ impl<L: Listener, P: Port> Player<L, P> {
     ghost use Rattle.text_faults.specs.Refusals.{IsUnlessMemory};
     ghost use Rattle.scenario_line.specs.EventLine.{command_in_line};
     ghost use Rattle.scenario_line.specs.PlantLine.{plan_of};
-    ghost use Rattle.irig_scene.specs.Scene.{scene, audit_in, events_of, second_in};
+    ghost use Rattle.irig_scene.specs.Scene.{scene, entries_in, audit_in, events_of, second_in};
     ghost use Rattle.irig_scene.specs.ListenerRuns.{IsPlayerAt, PlaysAsked, held_by};
-    ghost use Rattle.irig_scene.specs.Starts.{entry_count};
 
     /// The player of a plant to which nothing has happened.
     pub(crate) fn new(
@@ -167,7 +165,7 @@ impl<L: Listener, P: Port> Player<L, P> {
     }
 
     /// Writes what comes last: what is open, if a line is refused, and else what ends the text.
-    pub(crate) fn write_last<W: Write>(
+    pub(crate) fn write_end<W: Write>(
         &self,
         alloc: Global,
         asked: L::Asked,
@@ -207,10 +205,10 @@ impl<L: Listener, P: Port> Player<L, P> {
     }
 
     /// How many entries there were so far, if the listener counts them.
-    pub(crate) fn count(&self) -> u64
+    pub(crate) fn entries(&self) -> u64
         ensures { (asked : L.Asked) (x : Scene) → L.counts ≡ true
             → IsPlayerAt (L.stands_for asked) self.now x
-            → result ≡ entry_count (Some x) }
+            → result ≡ entries_in x }
     {
         self.stage.listener.count()
     }

@@ -1,24 +1,20 @@
 //! A scenario from its first line to its last.
 
-ghost use Rattle.std.specs.Prelude.{◌≡◌, ◌↔◌, ◌++◌, [], Err, IfErr, None, OnOk, Option, false, true};
+ghost use Rattle.std.specs.Prelude.{◌≡◌, ◌↔◌, Err, None, Option, false, true};
 ghost use Rattle.irig_device.specs.Watched.{has_failed};
-ghost use Rattle.irig_scene.specs.declared.stop.Failure.TheVariants.{Memory};
+ghost use Rattle.report_run.specs.Runs.{IsAt};
 ghost use Rattle.irig_scene.specs.Scene.{Scene};
 ghost use Rattle.irig_scene.specs.Explained.{IsExplained, refusal_in, refusal_said};
-ghost use Rattle.irig_scene.specs.Starts.{noted_at};
 ghost use Rattle.irig_scene.specs.WholeRun.{left, written};
-ghost use Rattle.irig_scene.specs.ListenerRuns.{IsAt, IsPlayerAt, RanFor, RanTo};
+ghost use Rattle.irig_scene.specs.ListenerRuns.{IsPlayerAt, RanFor, RanTo};
 
-use crate::fault::SceneFault;
-use crate::line::{run_last, run_line, stop};
 use crate::listener::Listener;
 use crate::outcome::Outcome;
 use crate::player::Player;
-use crate::read::{limit_of, read_line, too_long};
 use crate::refused_line::RefusedLine;
-use crate::stop::Failure;
-use irig_device::{LineEnd, Watched};
+use irig_device::Watched;
 use irig_port::Port;
+use report_run::{LinesRun, SceneFault, run_lines};
 use std::alloc::Global;
 use std::io::{BufRead, Write};
 use text_faults::Refusal;
@@ -88,18 +84,12 @@ pub fn run_listening<L: Listener, P: Port, R: BufRead, W: Write>(
     ensures write { (result.answer ≡ Err SceneFault.Write) ↔ (has_failed output.new ≡ true) }
     ensures refused { IsExplained result.answer None result.refused }
 {
-    let mut line = Vec::new(alloc);
-    let mut starts = Vec::new(alloc);
-    let mut player: Option<Player<L, P>> = None;
-    let answer = run_lines(
-        alloc,
-        asked,
-        &mut line,
-        &mut player,
-        &mut starts,
-        input,
-        output,
-    );
+    let LinesRun {
+        answer,
+        player,
+        starts,
+        line,
+    } = run_lines::<Player<L, P>, R, W>(alloc, asked, input, output);
     let (listener, refused) = end_player(alloc, refusal_of(&answer), line, player);
     Run {
         answer,
@@ -139,64 +129,5 @@ fn end_player<L: Listener, P: Port>(
             Some(refusal) => (None, Some(RefusedLine::before_plant(alloc, refusal, line))),
             None => (None, None),
         },
-    }
-}
-
-fn run_lines<L: Listener, P: Port, R: BufRead, W: Write>(
-    alloc: Global,
-    asked: L::Asked,
-    line: &mut Vec<u8>,
-    player: &mut Option<Player<L, P>>,
-    starts: &mut Vec<u64>,
-    input: &mut Watched<R>,
-    output: &mut Watched<W>,
-) -> Result<Outcome, SceneFault>
-    requires none { player.old ≡ None }
-    requires new { starts.old.items ≡ [] }
-    requires input_whole { has_failed input.old ≡ false }
-    requires output_whole { has_failed output.old ≡ false }
-    ensures ran { RanTo (IsPlayerAt (L.stands_for asked)) L.counts
-        (L.texts asked) result player.new starts.new.items
-        (left R.remaining input.old) (left R.remaining input.new)
-        (written W.contents output.old) (written W.contents output.new) }
-    ensures read { (result ≡ Err SceneFault.Read) ↔ (has_failed input.new ≡ true) }
-    ensures write { (result ≡ Err SceneFault.Write) ↔ (has_failed output.new ≡ true) }
-{
-    let mut number = 1;
-    loop {
-        note_start(player, starts)?;
-        match read_line(input, limit_of(number), line)? {
-            LineEnd::Newline => {
-                run_line(alloc, asked, player, number, line, output)?;
-                number += 1;
-            }
-            LineEnd::TooLong => {
-                return Err(stop(alloc, asked, player, number, too_long(number), output));
-            }
-            LineEnd::EndOfInput => return run_last(alloc, asked, player, number, line, output),
-        }
-    }
-}
-
-// Takes note that a line begins.
-fn note_start<L: Listener, P: Port>(
-    player: &Option<Player<L, P>>,
-    starts: &mut Vec<u64>,
-) -> Result<(), Failure>
-    ensures noted { OnOk result ((asked : L.Asked) (at : Option Scene)
-        → IsAt (IsPlayerAt (L.stands_for asked)) player.now at
-        → starts.new.items ≡ starts.old.items ++ noted_at L.counts at) }
-    ensures memory { IfErr result (λ failure. failure ≡ Memory) }
-{
-    if !L::counts() {
-        return Ok(());
-    }
-    let count = match player {
-        Some(player) => player.count(),
-        None => 0,
-    };
-    match starts.push(count) {
-        Ok(()) => Ok(()),
-        Err(_) => Err(Failure::Memory),
     }
 }

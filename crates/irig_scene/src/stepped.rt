@@ -1,11 +1,13 @@
 //! A plant that takes one event at a time.
 
 ghost use Rattle.std.specs.Prelude.{◌≡◌, ◌≤◌, vec_len};
+ghost use Rattle.irig_scene.specs.Faults.{stop_of_event};
 ghost use Rattle.irig_scene.specs.Stepping.{HasSomeHistory, HasStepped, Steps};
 
-use crate::stop::Stop;
-use irig_plant::{Event, Plant};
+use irig_plant::{Event, Plant, PlantFault};
 use irig_port::Port;
+use report_run::{Failure, Stop};
+use text_faults::Refusal;
 
 /// A plant whose log has the entry of its last event alone.
 #[derive(Drop)]
@@ -49,6 +51,18 @@ fn step_alone<P: Port>(plant: &mut Plant<P>, event: &Event) -> Result<(), Stop>
     plant.clear_log();
     match plant.apply(event) {
         Ok(()) => Ok(()),
-        Err(fault) => Err(Stop::from(fault)),
+        Err(fault) => Err(stop_of_event(fault)),
+    }
+}
+
+fn stop_of_event(fault: PlantFault) -> Stop
+    ensures { result ≡ stop_of_event fault }
+{
+    match fault {
+        PlantFault::NoSuchReader => Stop::Refused(Refusal::NoSuchReader),
+        PlantFault::NoSuchGenerator => Stop::Refused(Refusal::NoSuchGenerator),
+        PlantFault::FutureReplay => Stop::Refused(Refusal::FutureReplay),
+        PlantFault::EndOfYears => Stop::Refused(Refusal::EndOfYears),
+        PlantFault::Memory => Stop::Failed(Failure::Memory),
     }
 }

@@ -6,12 +6,14 @@ use Rattle.irig_device.specs.Watched.{AppendsPart}
 use Rattle.report_log.specs.Text.{refusal_text}
 use Rattle.irig_plant.specs.declared.event.Event.{Event}
 use Rattle.scenario_line.specs.PlantLine.{Plan}
-use Rattle.irig_scene.specs.declared.fault.SceneFault.{SceneFault}
+use Rattle.report_run.specs.declared.fault.SceneFault.{SceneFault}
 use Rattle.irig_scene.specs.declared.outcome.Outcome.{Outcome}
-use Rattle.irig_scene.specs.declared.fault.SceneFault.TheVariants.{Refused, Read, Write, Memory}
-use Rattle.irig_scene.specs.Lines.{lines}
-use Rattle.irig_scene.specs.Scene.{Scene, Refused as RefusedLine, meaning, meaning_of, verdict_text}
-use Rattle.irig_scene.specs.Texts.{said, meaning_text, whole_text, first_of}
+use Rattle.report_run.specs.declared.fault.SceneFault.TheVariants.{Refused, Read, Write, Memory}
+use Rattle.report_run.specs.Lines.{lines}
+use Rattle.irig_scene.specs.Scene.{Scene, meaning_of, verdict_text}
+use Rattle.report_run.specs.Meanings.{Refused as RefusedLine, meaning}
+use Rattle.irig_scene.specs.Texts.{of_scenes, said, whole_text}
+use Rattle.report_run.specs.Texts.{meaning_text, first_of}
 use Rattle.irig_scene.specs.ListenerRuns.{RunFor, RanFor}
 use Rattle.report_found.specs.declared.finding.Finding.{Finding}
 use Rattle.report_found.specs.Scenes.{ended_by_event, all_ended, all_open}
@@ -37,7 +39,7 @@ whole_said lines last x =
     ∙ sym (append_assoc ended (closing_in lines x) last)
     ∙ ap (λ t. t ++ last) (sym (append_assoc ended left (totals_in lines x)) ∙ ap (λ t. t ++ totals_in lines x) (sym (text_join lines x.plan.names (all_ended x.plan.setup x.events) (all_open x.plan.setup x.events))))
 
-same_meaning : (lines first : List ℕ) (at : Option Scene) (k : Option RefusedLine) → meaning_text (blame_texts lines) first (meaning at k) ≡ blame_meaning lines (meaning at k)
+same_meaning : (lines first : List ℕ) (at : Option Scene) (k : Option RefusedLine) → meaning_text (of_scenes (blame_texts lines)) first (meaning at k) ≡ blame_meaning lines (meaning at k)
 same_meaning lines first None None = refl
 same_meaning lines first None (Some k) = refl
 same_meaning lines first (Some x) None = whole_said lines (verdict_text (Some x)) x

@@ -3,7 +3,8 @@
 use Rattle.std.specs.Prelude.{ℕ, List, [], ◌++◌, length, Option, Some, None}
 use Rattle.report_log.specs.Text.{name_at}
 use Rattle.irig_scene.specs.Texts.{Texts}
-use Rattle.irig_scene.specs.Scene.{Scene, Meaning, meaning_of, last_text, verdict_text}
+use Rattle.irig_scene.specs.Scene.{scenario, Scene, meaning_of, last_text, verdict_text}
+use Rattle.report_run.specs.Meanings.{Meaning}
 use Rattle.report_found.specs.Books.{account_at}
 use Rattle.report_found.specs.Findings.{lists_below}
 use Rattle.report_found.specs.Scenes.{ended_by_event, all_open, found_in}
@@ -21,7 +22,7 @@ blame_at lines None = []
 blame_at lines (Some x) = findings_text lines x.plan.names (found_in x) ++ totals_in lines x
 
 -- the text of what lines mean, with the last line of a run
-abbrev pub blame_meaning : List ℕ → Meaning → List ℕ
+abbrev pub blame_meaning : List ℕ → Meaning Scene → List ℕ
 blame_meaning lines m = blame_at lines m.scene ++ last_text m
 
 -- all that is written for the bytes x; `lines` are the names of recorded lines, and none of a

@@ -3,11 +3,11 @@ use Rattle.std.specs.Prelude.{◌≡◌, ℕ, List, None, Result, Ok, Err}
 use Rattle.std.specs.Io.KnownBytes.{Appends}
 use Rattle.irig_device.specs.Lines.{Bytes}
 use Rattle.irig_device.specs.Watched.{AppendsPart}
-use Rattle.irig_scene.specs.declared.fault.SceneFault.{SceneFault}
-use Rattle.irig_scene.specs.declared.fault.SceneFault.TheVariants as fault
+use Rattle.report_run.specs.declared.fault.SceneFault.{SceneFault}
+use Rattle.report_run.specs.declared.fault.SceneFault.TheVariants as fault
 use Rattle.irig_scene.specs.declared.outcome.Outcome.{Outcome}
 use Rattle.irig_scene.specs.ListenerRuns.{RunFor}
-use Rattle.irig_scene.specs.Run.{IsRefused, AreBytesOf}
+use Rattle.report_run.specs.Runs.{IsRefused, AreBytesOf}
 use Rattle.irig_scene.specs.Scene.{meaning_of}
 use Rattle.report_blame.specs.BlameText.{blame_text, blame_texts}
 

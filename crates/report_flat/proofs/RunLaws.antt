@@ -8,14 +8,16 @@ use Rattle.irig_device.specs.Watched.{AppendsPart}
 use Rattle.report_log.specs.Text.{refusal_text}
 use Rattle.irig_plant.specs.declared.event.Event.{Event}
 use Rattle.scenario_line.specs.PlantLine.{Plan}
-use Rattle.irig_scene.specs.declared.fault.SceneFault.{SceneFault}
-use Rattle.irig_scene.specs.declared.fault.SceneFault.TheVariants.{Refused, Read, Write, Memory}
+use Rattle.report_run.specs.declared.fault.SceneFault.{SceneFault}
+use Rattle.report_run.specs.declared.fault.SceneFault.TheVariants.{Refused, Read, Write, Memory}
 use Rattle.irig_scene.specs.declared.outcome.Outcome.{Outcome}
-use Rattle.irig_scene.specs.Lines.{lines, unlines, max_lines}
+use Rattle.report_run.specs.Lines.{lines, unlines, max_lines}
 use Rattle.irig_scene.specs.LogLines.{OfWritten}
-use Rattle.irig_scene.specs.Scene.{Scene, Refused as RefusedLine, meaning, meaning_of, output_shown}
+use Rattle.irig_scene.specs.Scene.{scenario, Scene, meaning_of, output_shown}
+use Rattle.report_run.specs.Meanings.{Refused as RefusedLine, meaning}
 use Rattle.report_flat.specs.EventText.{event_line}
-use Rattle.irig_scene.specs.Texts.{first_of, said, meaning_text, whole_text}
+use Rattle.report_run.specs.Texts.{first_of, meaning_text}
+use Rattle.irig_scene.specs.Texts.{of_scenes, said, whole_text}
 use Rattle.irig_scene.specs.ListenerRuns.{RunFor, RanFor}
 use Rattle.report_flat.specs.Recording.{heard_of}
 use Rattle.report_flat.specs.FlatText.{heard_line, heard_lines, line_text, heard_text, flat_texts, flat_meaning, flat_text}
@@ -36,7 +38,7 @@ all_said plan (e ∷ ev) =
     ap (λ t. t ++ heard_text names s e ev) (all_said plan ev) ∙ ap (λ t. unlines (heard_lines names s ev) ++ t) (sym (text_of_line names (heard_of s e ev)))
     ∙ sym (flat_map-append (λ l. l ++ 10 ∷ []) (heard_lines names s ev) (option_to_list (heard_line names s e ev)))
 
-same_meaning : (first : List ℕ) (at : Option Scene) (k : Option RefusedLine) → meaning_text flat_texts first (meaning at k) ≡ flat_meaning first (meaning at k)
+same_meaning : (first : List ℕ) (at : Option Scene) (k : Option RefusedLine) → meaning_text (of_scenes flat_texts) first (meaning at k) ≡ flat_meaning first (meaning at k)
 same_meaning first None None = refl
 same_meaning first None (Some k) = refl
 same_meaning first (Some x) None = ap (λ t. ((first ++ 10 ∷ []) ++ t) ++ []) (all_said x.plan x.events)

@@ -7,7 +7,7 @@ use Rattle.std.specs.Fmt.{digits}
 use Rattle.report_flat.specs.EventText.{event_line}
 use Rattle.irig_plant.specs.Schedule.{Setup}
 use Rattle.report_flat.specs.Recording.{recorded}
-use Rattle.irig_scene.specs.Texts.{first_of}
+use Rattle.report_run.specs.Texts.{first_of}
 use Rattle.report_flat.specs.FlatText.{heard_lines}
 
 -- pulses, ticks and restarts are kept, in their order; no pulses, edges, faults and repairs are not

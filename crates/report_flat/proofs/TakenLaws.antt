@@ -16,8 +16,9 @@ use Rattle.scenario_line.specs.declared.event_line.Command.{Command}
 use Rattle.scenario_line.specs.declared.event_line.Command.TheVariants as command
 use Rattle.scenario_line.specs.EventLine.{command_in_line}
 use Rattle.scenario_line.specs.PlantLine.{Plan, plan_in_line}
-use Rattle.irig_scene.specs.Lines.{is_blank, max_line, max_lines}
-use Rattle.irig_scene.specs.Scene.{Scene, refusal_as, Play, play, unless_refused, step_to, step_of_plan, step_of_command, step_of_line, step, Meaning, unless_stopped, meaning_at_end, meaning_from}
+use Rattle.report_run.specs.Lines.{is_blank, max_line, max_lines}
+use Rattle.irig_scene.specs.Scene.{scenario, Scene, refusal_as, Play, play, unless_refused, begun, next_of_command}
+use Rattle.report_run.specs.Meanings.{step_to, step_of_first, step_of_next, step_of_line, step, Meaning, unless_stopped, meaning_at_end, meaning_from}
 use Rattle.report_flat.specs.EventText.{IsInRange}
 use Rattle.report_flat.proofs.RangeLaws.{line_in_range}
 use Rattle.report_log.proofs.LogLaws.{all_join}
@@ -113,7 +114,7 @@ abbrev pub IsTaken : Option Scene → Type 0
 IsTaken None = ⊤
 IsTaken (Some x) = AreTaken x.plan.setup x.events
 
-commanded_taken : (x : Scene) (line : List ℕ) (c : Result Command Refusal) → command_in_line x.plan.names line ≡ c → AreTaken x.plan.setup x.events → IsTaken (step_of_command x c).scene
+commanded_taken : (x : Scene) (line : List ℕ) (c : Result Command Refusal) → command_in_line x.plan.names line ≡ c → AreTaken x.plan.setup x.events → IsTaken (step_of_next (next_of_command x c)).scene
 commanded_taken x line (Err k) is taken = taken
 commanded_taken x line (Ok (command.Event e)) is taken =
     taken_by_play x.plan.setup (e ∷ []) x.events (can_of_range x.plan.names e (line_in_range x.plan.names line e is), tt) taken
@@ -121,26 +122,26 @@ commanded_taken x line (Ok (command.Seconds n)) is taken =
     let second = second_of (length x.plan.setup.generators) (length x.plan.setup.readers) in
     taken_by_play x.plan.setup (times n second) x.events (times_can n second (second_can (length x.plan.setup.generators) (length x.plan.setup.readers))) taken
 
-planned_taken : (p : Result Plan Refusal) → IsTaken (step_of_plan p).scene
+planned_taken : (p : Result Plan Refusal) → IsTaken (step_of_first (begun p)).scene
 planned_taken (Ok plan) = tt
 planned_taken (Err k) = tt
 
-line_taken : (at : Option Scene) (line : List ℕ) → IsTaken at → IsTaken (step_of_line at line).scene
+line_taken : (at : Option Scene) (line : List ℕ) → IsTaken at → IsTaken (step_of_line scenario at line).scene
 line_taken None line h = planned_taken (plan_in_line line)
 line_taken (Some x) line h = commanded_taken x line (command_in_line x.plan.names line) refl h
 
-step_taken : (n : ℕ) (at : Option Scene) (line : List ℕ) → IsTaken at → IsTaken (step n at line).scene
+step_taken : (n : ℕ) (at : Option Scene) (line : List ℕ) → IsTaken at → IsTaken (step scenario n at line).scene
 unfolding step
 step_taken n at line h = by_tests (nat_lt max_lines n) (nat_lt max_line (length line)) (is_blank line)
   where
     by_tests : (many long blank : Bool)
-        → IsTaken (cond many (step_to at (Some TooManyLines)) (cond long (step_to at (Some TooLong)) (cond blank (step_to at None) (step_of_line at line)))).scene
+        → IsTaken (cond many (step_to at (Some TooManyLines)) (cond long (step_to at (Some TooLong)) (cond blank (step_to at None) (step_of_line scenario at line)))).scene
     by_tests true long blank = h
     by_tests false true blank = h
     by_tests false false true = h
     by_tests false false false = line_taken at line h
 
-unless_taken : (n : ℕ) (at : Option Scene) (k : Option Refusal) (rest : Meaning) → IsTaken at → IsTaken rest.scene → IsTaken (unless_stopped n at k rest).scene
+unless_taken : (n : ℕ) (at : Option Scene) (k : Option Refusal) (rest : Meaning Scene) → IsTaken at → IsTaken rest.scene → IsTaken (unless_stopped n at k rest).scene
 unless_taken n at None rest h l = l
 unless_taken n at (Some k) rest h l = h
 
@@ -148,16 +149,16 @@ end_taken : (n : ℕ) (at : Option Scene) → IsTaken at → IsTaken (meaning_at
 end_taken n None h = tt
 end_taken n (Some x) h = h
 
-pub meaning_taken : (ls : List (List ℕ)) (n : ℕ) (at : Option Scene) → IsTaken at → IsTaken (meaning_from ls n at).scene
+pub meaning_taken : (ls : List (List ℕ)) (n : ℕ) (at : Option Scene) → IsTaken at → IsTaken (meaning_from scenario ls n at).scene
 unfolding meaning_from
 meaning_taken [] n at h = end_taken n at h
 meaning_taken (l ∷ ls) n at h =
-    unless_taken n (step n at l).scene (step n at l).refusal (meaning_from ls (n + 1) (step n at l).scene) (step_taken n at l h)
-    (meaning_taken ls (n + 1) (step n at l).scene (step_taken n at l h))
+    unless_taken n (step scenario n at l).scene (step scenario n at l).refusal (meaning_from scenario ls (n + 1) (step scenario n at l).scene) (step_taken n at l h)
+    (meaning_taken ls (n + 1) (step scenario n at l).scene (step_taken n at l h))
 
 -- ---- lines that are not refused leave a scene
 
-unless_scene : (n : ℕ) (at : Option Scene) (k : Option Refusal) (rest : Meaning) → (unless_stopped n at k rest).refused ≡ None → (rest.refused ≡ None → is_some rest.scene ≡ true) → is_some (unless_stopped n at k rest).scene ≡ true
+unless_scene : (n : ℕ) (at : Option Scene) (k : Option Refusal) (rest : Meaning Scene) → (unless_stopped n at k rest).refused ≡ None → (rest.refused ≡ None → is_some rest.scene ≡ true) → is_some (unless_stopped n at k rest).scene ≡ true
 unless_scene n at None rest e h = h e
 unless_scene n at (Some k) rest e h = absurd cc
 
@@ -165,8 +166,8 @@ end_scene : (n : ℕ) (at : Option Scene) → (meaning_at_end n at).refused ≡ 
 end_scene n None e = absurd cc
 end_scene n (Some x) e = refl
 
-pub leaves_scene : (ls : List (List ℕ)) (n : ℕ) (at : Option Scene) → (meaning_from ls n at).refused ≡ None → is_some (meaning_from ls n at).scene ≡ true
+pub leaves_scene : (ls : List (List ℕ)) (n : ℕ) (at : Option Scene) → (meaning_from scenario ls n at).refused ≡ None → is_some (meaning_from scenario ls n at).scene ≡ true
 unfolding meaning_from
 leaves_scene [] n at e = end_scene n at e
 leaves_scene (l ∷ ls) n at e =
-    unless_scene n (step n at l).scene (step n at l).refusal (meaning_from ls (n + 1) (step n at l).scene) e (λ h. leaves_scene ls (n + 1) (step n at l).scene h)
+    unless_scene n (step scenario n at l).scene (step scenario n at l).refusal (meaning_from scenario ls (n + 1) (step scenario n at l).scene) e (λ h. leaves_scene ls (n + 1) (step scenario n at l).scene h)

@@ -19,15 +19,16 @@ use Rattle.scenario_line.specs.PlantLine.{Plan, plan_in_line}
 use Rattle.scenario_line.proofs.BlankLines.{plant_not_blank, command_not_blank}
 use Rattle.scenario_line.proofs.SoundPlans.{plan_is_sound}
 use Rattle.scenario_values.specs.Names.{are_names}
-use Rattle.irig_scene.specs.Lines.{lines, unlines, onto_first, is_blank, max_line, max_lines}
-use Rattle.irig_scene.specs.Scene.{Scene, scene, refusal_as, play, unless_refused, step_to, step_of_plan, step_of_command, Step, step, Refused, Meaning, meaning, meaning_from, meaning_of, text_of, output_shown, audit_in}
-use Rattle.irig_scene.proofs.LineLaws.{lines_after, no_line}
+use Rattle.report_run.specs.Lines.{lines, unlines, onto_first, is_blank, max_line, max_lines}
+use Rattle.irig_scene.specs.Scene.{scenario, after_play, Scene, scene, refusal_as, play, unless_refused, begun, next_of_command, meaning_of, text_of, output_shown, audit_in}
+use Rattle.report_run.specs.Meanings.{step_to, step_of_first, step_of_next, Step, step, Refused, Meaning, meaning, meaning_from}
+use Rattle.report_run.proofs.LineLaws.{lines_after, no_line}
 use Rattle.irig_scene.proofs.PlantLines.{IsPlannedBy, planned}
-use Rattle.irig_scene.proofs.StepLaws.{step_taken, meaning_goes, meaning_ends}
+use Rattle.report_run.proofs.StepLaws.{step_taken, meaning_goes, meaning_ends}
 use Rattle.report_flat.specs.EventText.{event_line, IsLine, IsWritten}
 use Rattle.report_flat.proofs.LineLaws.{is_line}
 use Rattle.report_flat.proofs.ReadLaws.{event_read}
-use Rattle.irig_scene.specs.Texts.{first_of}
+use Rattle.report_run.specs.Texts.{first_of}
 use Rattle.report_flat.specs.Recording.{pulses_at, heard_of, recorded, CanBeWritten, AreTaken}
 use Rattle.report_flat.specs.FlatText.{heard_line, heard_lines, flat_of, flat_text}
 use Rattle.report_flat.proofs.RecordingLaws.{same_ticks, same_log, same_audit}
@@ -100,16 +101,16 @@ heard_recorded s names (Replay g r edge) ev known h can =
 -- ---- a line that is read back
 
 one_event : (plan : Plan) (n : ℕ) (e : Event) (ev : List Event) → IsKnown plan.setup plan.names → n ≤ max_lines → IsWritten plan.names e → refusal plan.setup e ev ≡ None
-    → step n (Some (scene plan ev)) (event_line plan.names e) ≡ step_to (Some (scene plan (e ∷ ev))) None
+    → step scenario n (Some (scene plan ev)) (event_line plan.names e) ≡ step_to (Some (scene plan (e ∷ ev))) None
 one_event plan n e ev known few written taken =
     let names = plan.names in
     let line = event_line names e in
     let is : IsLine line = is_line names e known.are written in
     let back : command_in_line names line ≡ Ok (command.Event e) = event_read names e known.are written in
     let full : is_blank line ≡ false = command_not_blank names line (command.Event e) back in
-    step_taken n (Some (scene plan ev)) line few is.short full
-    ∙ ap (step_of_command (scene plan ev)) back
-    ∙ ap (λ k. Rattle.irig_scene.specs.Scene.after_play plan (unless_refused (option_and_then refusal_as k) ev (play plan.setup [] (e ∷ ev)))) taken
+    step_taken scenario n (Some (scene plan ev)) line few is.short full
+    ∙ ap (λ c. step_of_next (next_of_command (scene plan ev) c)) back
+    ∙ ap (λ k. step_of_next (after_play plan (unless_refused (option_and_then refusal_as k) ev (play plan.setup [] (e ∷ ev))))) taken
 
 -- ---- all lines
 
@@ -132,30 +133,30 @@ module _ (first : List ℕ) (plan : Plan) (planted : IsPlanted first plan) where
       few_of (inl e) = omega (arith, e)
       few_of (inr e) = omega (arith, e)
 
-  begins : (rest : List (List ℕ)) → meaning_from (first ∷ rest) 1 None ≡ meaning_from rest 2 (Some (scene plan []))
+  begins : (rest : List (List ℕ)) → meaning_from scenario (first ∷ rest) 1 None ≡ meaning_from scenario rest 2 (Some (scene plan []))
   begins rest =
-      let st : step 1 None first ≡ step_to (Some (scene plan [])) None = step_taken 1 None first (omega arith) planted.short (plant_not_blank first plan planted.planned) ∙ ap step_of_plan planted.planned in
-      meaning_goes first rest 1 None (ap (λ (s : Step). s.refusal) st) ∙ ap (λ (s : Step). meaning_from rest 2 s.scene) st
+      let st : step scenario 1 None first ≡ step_to (Some (scene plan [])) None = step_taken scenario 1 None first (omega arith) planted.short (plant_not_blank first plan planted.planned) ∙ ap (λ p. step_of_first (begun p)) planted.planned in
+      meaning_goes scenario first rest 1 None (ap (λ (s : Step Scene). s.refusal) st) ∙ ap (λ (s : Step Scene). meaning_from scenario rest 2 s.scene) st
 
   abbrev Means : List Event → Type 0
-  Means ev = (rest : List (List ℕ)) → meaning_from (all_lines first plan ev ++ rest) 1 None ≡ meaning_from rest (length (all_lines first plan ev) + 1) (Some (scene plan (recorded plan.setup ev)))
+  Means ev = (rest : List (List ℕ)) → meaning_from scenario (all_lines first plan ev ++ rest) 1 None ≡ meaning_from scenario rest (length (all_lines first plan ev) + 1) (Some (scene plan (recorded plan.setup ev)))
 
   one_more : (ev : List Event) (heard : Option Event) → IsRecordedIf plan.setup plan.names ev heard → length (all_lines first plan ev ++ option_to_list (option_map (event_line plan.names) heard)) ≤ max_lines → Means ev
-      → (rest : List (List ℕ)) → meaning_from ((all_lines first plan ev ++ option_to_list (option_map (event_line plan.names) heard)) ++ rest) 1 None
-      ≡ meaning_from rest (length (all_lines first plan ev ++ option_to_list (option_map (event_line plan.names) heard)) + 1) (Some (scene plan (option_to_list heard ++ recorded plan.setup ev)))
+      → (rest : List (List ℕ)) → meaning_from scenario ((all_lines first plan ev ++ option_to_list (option_map (event_line plan.names) heard)) ++ rest) 1 None
+      ≡ meaning_from scenario rest (length (all_lines first plan ev ++ option_to_list (option_map (event_line plan.names) heard)) + 1) (Some (scene plan (option_to_list heard ++ recorded plan.setup ev)))
   one_more ev None h few means rest =
       let same : all_lines first plan ev ++ [] ≡ all_lines first plan ev = append-nil (all_lines first plan ev) in
-      ap (λ ls. meaning_from (ls ++ rest) 1 None) same ∙ means rest ∙ ap (λ ls. meaning_from rest (length ls + 1) (Some (scene plan (recorded plan.setup ev)))) (sym same)
+      ap (λ ls. meaning_from scenario (ls ++ rest) 1 None) same ∙ means rest ∙ ap (λ ls. meaning_from scenario rest (length ls + 1) (Some (scene plan (recorded plan.setup ev)))) (sym same)
   one_more ev (Some e) h few means rest =
       let ls = all_lines first plan ev in
       let line = event_line plan.names e in
       let count : length (ls ++ line ∷ []) ≡ length ls + 1 = length-append ls (line ∷ []) in
       let n = length ls + 1 in
       let st = one_event plan n e (recorded plan.setup ev) known (omega (arith, few, count)) h.written h.taken in
-      ap (λ ls. meaning_from ls 1 None) (append_assoc ls (line ∷ []) rest) ∙ means (line ∷ rest)
-      ∙ meaning_goes line rest n (Some (scene plan (recorded plan.setup ev))) (ap (λ (s : Step). s.refusal) st)
-      ∙ ap (λ (s : Step). meaning_from rest (n + 1) s.scene) st
-      ∙ ap (λ k. meaning_from rest (k + 1) (Some (scene plan (e ∷ recorded plan.setup ev)))) (sym count)
+      ap (λ ls. meaning_from scenario ls 1 None) (append_assoc ls (line ∷ []) rest) ∙ means (line ∷ rest)
+      ∙ meaning_goes scenario line rest n (Some (scene plan (recorded plan.setup ev))) (ap (λ (s : Step Scene). s.refusal) st)
+      ∙ ap (λ (s : Step Scene). meaning_from scenario rest (n + 1) s.scene) st
+      ∙ ap (λ k. meaning_from scenario rest (k + 1) (Some (scene plan (e ∷ recorded plan.setup ev)))) (sym count)
 
   means : (ev : List Event) → AreTaken plan.setup ev → length (all_lines first plan ev) ≤ max_lines → Means ev
   means [] taken few = λ rest. begins rest
@@ -186,7 +187,7 @@ module _ (first : List ℕ) (plan : Plan) (planted : IsPlanted first plan) where
       let ls = all_lines first plan ev in
       let same = lines_are ev taken in
       let count : length ls ≤ max_lines = omega (arith, few, ap length same) in
-      ap (λ ls. meaning_from ls 1 None) (same ∙ sym (append-nil ls)) ∙ means ev taken count [] ∙ meaning_ends (length ls + 1) (Some (scene plan (recorded plan.setup ev)))
+      ap (λ ls. meaning_from scenario ls 1 None) (same ∙ sym (append-nil ls)) ∙ means ev taken count [] ∙ meaning_ends scenario (length ls + 1) (Some (scene plan (recorded plan.setup ev)))
 
 -- ---- the log
 
@@ -234,14 +235,14 @@ is_planted ls plan whole h =
 
 -- ---- the law
 
-of_scene : (x : List ℕ) (shown : Shown) (m : Meaning) (y : Scene) → meaning_of x ≡ m → m ≡ meaning (Some y) None → length (lines (flat_text x)) ≤ max_lines → output_shown (flat_text x) shown ≡ output_shown x shown
+of_scene : (x : List ℕ) (shown : Shown) (m : Meaning Scene) (y : Scene) → meaning_of x ≡ m → m ≡ meaning (Some y) None → length (lines (flat_text x)) ≤ max_lines → output_shown (flat_text x) shown ≡ output_shown x shown
 of_scene x shown m y is ends few =
     let means : meaning_of x ≡ meaning (Some y) None = is ∙ ends in
-    let at : (meaning_of x).scene ≡ Some y = ap (λ (m : Meaning). m.scene) means in
+    let at : (meaning_of x).scene ≡ Some y = ap (λ (m : Meaning Scene). m.scene) means in
     let first = first_of (lines x) in
     let planted = is_planted (lines x) y.plan (no_newlines x) (planned (lines x) 1 y at) in
     let taken : AreTaken y.plan.setup y.events = subst IsTaken at (meaning_taken (lines x) 1 None tt) in
-    let text : flat_text x ≡ unlines (all_lines first y.plan y.events) = ap (λ (m : Meaning). Rattle.report_flat.specs.FlatText.flat_meaning first m) means ∙ append-nil (flat_of first (Some y)) in
+    let text : flat_text x ≡ unlines (all_lines first y.plan y.events) = ap (λ (m : Meaning Scene). Rattle.report_flat.specs.FlatText.flat_meaning first m) means ∙ append-nil (flat_of first (Some y)) in
     let flat : meaning_of (flat_text x) ≡ meaning (Some (scene y.plan (recorded y.plan.setup y.events))) None = ap meaning_of text ∙ means_recorded first y.plan planted y.events taken (subst (λ t. length (lines t) ≤ max_lines) text few) in
     ap (text_of shown) flat ∙ same_text y.plan y.events shown ∙ ap (text_of shown) (sym means)
 

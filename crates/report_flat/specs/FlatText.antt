@@ -6,9 +6,11 @@ use Rattle.irig_plant.specs.declared.event.Event.{Event}
 use Rattle.irig_plant.specs.Schedule.{Setup}
 use Rattle.report_flat.specs.EventText.{event_line}
 use Rattle.report_log.specs.Text.{refusal_text}
-use Rattle.irig_scene.specs.Texts.{Texts, first_of}
-use Rattle.irig_scene.specs.Lines.{lines, unlines}
-use Rattle.irig_scene.specs.Scene.{Scene, Refused, Meaning, meaning_of}
+use Rattle.irig_scene.specs.Texts.{Texts}
+use Rattle.report_run.specs.Texts.{first_of}
+use Rattle.report_run.specs.Lines.{lines, unlines}
+use Rattle.irig_scene.specs.Scene.{scenario, Scene, meaning_of}
+use Rattle.report_run.specs.Meanings.{Refused, Meaning}
 use Rattle.report_flat.specs.Recording.{heard_of}
 
 -- the line of what readers hear of an event, if they hear something
@@ -35,7 +37,7 @@ refused_text None = []
 refused_text (Some k) = refusal_text k.line k.refusal
 
 -- the text of what lines mean, and the refusal, if one was refused
-abbrev pub flat_meaning : List ℕ → Meaning → List ℕ
+abbrev pub flat_meaning : List ℕ → Meaning Scene → List ℕ
 flat_meaning first m = flat_of first m.scene ++ refused_text m.refused
 
 -- all that is written for the bytes x

@@ -4,11 +4,11 @@ use Rattle.std.specs.Io.KnownBytes.{Appends}
 use Rattle.irig_device.specs.Lines.{Bytes}
 use Rattle.irig_device.specs.Watched.{AppendsPart}
 use Rattle.report_log.specs.declared.shown.Shown.{Shown}
-use Rattle.irig_scene.specs.declared.fault.SceneFault.{SceneFault}
-use Rattle.irig_scene.specs.declared.fault.SceneFault.TheVariants as fault
-use Rattle.irig_scene.specs.Lines.{lines, max_lines}
-use Rattle.irig_scene.specs.Run.{IsRefused, AreBytesOf}
-use Rattle.irig_scene.specs.Scene.{meaning_of, output_shown}
+use Rattle.report_run.specs.declared.fault.SceneFault.{SceneFault}
+use Rattle.report_run.specs.declared.fault.SceneFault.TheVariants as fault
+use Rattle.report_run.specs.Lines.{lines, max_lines}
+use Rattle.report_run.specs.Runs.{IsRefused, AreBytesOf}
+use Rattle.irig_scene.specs.Scene.{scenario, meaning_of, output_shown}
 use Rattle.irig_scene.specs.declared.outcome.Outcome.{Outcome}
 use Rattle.irig_scene.specs.ListenerRuns.{RunFor}
 use Rattle.report_flat.specs.FlatText.{flat_text, flat_texts}

@@ -5,7 +5,7 @@ ghost use Rattle.irig_plant.specs.Schedule.{Setup, log_of};
 ghost use Rattle.irig_plant.specs.declared.event.Event.{Event};
 ghost use Rattle.irig_plant.specs.Audits.{audit_of};
 ghost use Rattle.report_log.specs.declared.shown.Shown.{Shown};
-ghost use Rattle.irig_scene.specs.Lines.{lines, max_lines};
+ghost use Rattle.report_run.specs.Lines.{lines, max_lines};
 ghost use Rattle.irig_scene.specs.Scene.{meaning_of, output_shown};
 ghost use Rattle.report_flat.specs.Recording.{recorded};
 ghost use Rattle.report_flat.specs.FlatText.{flat_text};

@@ -1,12 +1,13 @@
 -- A book of readers' ticks: what stands after an event, and what a run finds.
 use Rattle.std.specs.Prelude.{◌≡◌, ℕ, false, List, [], length, Option, Some, None, Result, Ok, Err}
-use Rattle.irig_scene.specs.declared.fault.SceneFault.{SceneFault}
-use Rattle.irig_scene.specs.declared.fault.SceneFault.TheVariants as fault
+use Rattle.report_run.specs.declared.fault.SceneFault.{SceneFault}
+use Rattle.report_run.specs.declared.fault.SceneFault.TheVariants as fault
 use Rattle.irig_scene.specs.declared.outcome.Outcome.{Outcome}
 use Rattle.irig_scene.specs.declared.run.Run.{Run}
-use Rattle.irig_scene.specs.Lines.{lines}
+use Rattle.report_run.specs.Lines.{lines}
 use Rattle.irig_scene.specs.ListenerRuns.{RanTo}
-use Rattle.irig_scene.specs.Run.{IsDone, IsRefused}
+use Rattle.irig_scene.specs.Run.{IsDone}
+use Rattle.report_run.specs.Runs.{IsRefused}
 use Rattle.irig_scene.specs.Scene.{Scene, meaning_of}
 use Rattle.irig_scene.specs.Texts.{no_texts}
 use Rattle.report_found.specs.declared.book.Book.{Book}

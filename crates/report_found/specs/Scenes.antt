@@ -4,7 +4,7 @@ use Rattle.std.specs.Prelude.{ℕ, List, [], ◌∷◌, ◌++◌, length, Option
 use Rattle.irig_plant.specs.declared.event.Event.{Event}
 use Rattle.irig_plant.specs.declared.event.Event.TheVariants as event
 use Rattle.irig_plant.specs.Schedule.{Setup}
-use Rattle.irig_scene.specs.Scene.{Scene, meaning_of}
+use Rattle.irig_scene.specs.Scene.{scenario, Scene, meaning_of}
 use Rattle.report_found.specs.declared.finding.Finding.{Finding}
 use Rattle.report_found.specs.Books.{tick_of, account_at}
 use Rattle.report_found.specs.Findings.{lists_below, ended_found, open_found}

@@ -2,13 +2,14 @@
 use Rattle.std.specs.Prelude.{◌≡◌, ℕ, ◌<◌, false, List, [], length, slice_index_or, vec_len, Option, Some, Result, Ok, Err}
 use Rattle.irig_plant.specs.declared.event.Event.{Event}
 use Rattle.irig_plant.specs.Schedule.{Setup}
-use Rattle.irig_scene.specs.declared.fault.SceneFault.{SceneFault}
-use Rattle.irig_scene.specs.declared.fault.SceneFault.TheVariants as fault
+use Rattle.report_run.specs.declared.fault.SceneFault.{SceneFault}
+use Rattle.report_run.specs.declared.fault.SceneFault.TheVariants as fault
 use Rattle.irig_scene.specs.declared.outcome.Outcome.{Outcome}
 use Rattle.irig_scene.specs.declared.run.Run.{Run}
-use Rattle.irig_scene.specs.Lines.{lines}
+use Rattle.report_run.specs.Lines.{lines}
 use Rattle.irig_scene.specs.ListenerRuns.{RanTo}
-use Rattle.irig_scene.specs.Run.{IsDone, IsRefused}
+use Rattle.irig_scene.specs.Run.{IsDone}
+use Rattle.report_run.specs.Runs.{IsRefused}
 use Rattle.irig_scene.specs.Scene.{Scene, meaning_of}
 use Rattle.irig_scene.specs.Texts.{no_texts}
 use Rattle.report_lanes.specs.declared.drawer.Drawer.{Drawer}

@@ -1,4 +1,4 @@
-use Rattle.irig_scene.proofs.StartLaws.{listener_stands}
+use Rattle.irig_scene.proofs.PlayerLaws.{listener_stands}
 use Rattle.irig_scene.proofs.run.end_player.Goals as goal
 
 pub returns-in-Some-clause-listener : goal.returns-in-Some-clause-listener

@@ -9,7 +9,7 @@ returns-in-Ok-clause-steps g c = λ h p.
 
 pub returns-in-Err-clause-steps : goal.returns-in-Err-clause-steps
 returns-in-Err-clause-steps g c =
-    refused_steps c.args.plant.now _ c.args.event.now c.in-Err.fault _ c.from.ensures
+    refused_steps c.args.plant.now _ c.args.event.now c.in-Err.fault _ c.stop_of_event.ensures
     (λ h p. c.in-Err.ensures.unchanged (with_cleared_log h) (c.clear_log.ensures h p))
     (λ h p. c.in-Err.ensures.refused (with_cleared_log h) (c.clear_log.ensures h p))
 
