@@ -1,0 +1,4 @@
+pub mod OscillatorLaws
+pub mod WireLaws
+pub mod CallLaws
+pub mod OrderLaws

@@ -1,0 +1,11 @@
+use Rattle.irig_wires.proofs.OrderLaws.{in_a_row, kept, not_back}
+use Rattle.irig_wires.proofs.laws.time_does_not_go_back.Goals as goal
+
+pub returns-clause-next : goal.returns-clause-next
+returns-clause-next _ = not_back
+
+pub returns-clause-kept : goal.returns-clause-kept
+returns-clause-kept _ = kept
+
+pub returns-clause-row : goal.returns-clause-row
+returns-clause-row _ = in_a_row

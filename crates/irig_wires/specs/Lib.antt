@@ -1,0 +1,5 @@
+pub mod Oscillator
+pub mod Wires
+pub mod Happenings
+pub mod Order
+pub mod Calls

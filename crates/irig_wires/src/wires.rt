@@ -1,0 +1,243 @@
+//! The cables of one device, and what happens to it next.
+
+ghost use Rattle.std.specs.Prelude.{◌≡◌, ◌≤◌, ◌<◌, ◌^◌, All};
+ghost use Rattle.irig_wires.specs.Wires.{added, ended, late_at, made_late, most_late_us, plugged, pulled, sent, taken, wire_at, wires_of, with_wire};
+ghost use Rattle.irig_wires.specs.Happenings.{earlier_end, end_or, ending_on, next_end, next_of, tick_or_send};
+
+use crate::wire::{Flight, Wire};
+
+/// The cables of a device, one from each generator: up to five. On those that it does not have nothing
+/// is sent.
+#[derive(Clone, Copy, PartialEq, Eq)]
+pub struct Wires {
+    pub(crate) a: Wire,
+    pub(crate) b: Wire,
+    pub(crate) c: Wire,
+    pub(crate) d: Wire,
+    pub(crate) e: Wire,
+}
+
+/// The end of a pulse on a line.
+#[derive(Clone, Copy, PartialEq, Eq)]
+pub struct Ending {
+    /// The number of the line, 0 to 4.
+    pub line: u8,
+    /// The pulse.
+    pub flight: Flight,
+}
+
+/// What happens to a device.
+#[derive(Clone, Copy, PartialEq, Eq)]
+pub enum Happening {
+    /// A pulse has ended: the device is told it.
+    End(Ending),
+    /// The device is ticked.
+    Tick,
+    /// Generators send the next element.
+    Send,
+}
+
+/// What happens next, and when.
+#[derive(Clone, Copy, PartialEq, Eq)]
+pub struct Coming {
+    /// The true time, in microseconds.
+    pub time_us: u64,
+    /// What happens then.
+    pub what: Happening,
+}
+
+// How late the line of a number is.
+fn late_at(late_us: &[u16], line: usize) -> u16
+    requires { All (λ us. us ≤ most_late_us) late_us.now }
+    ensures value { result ≡ late_at late_us.now line }
+    ensures few { result ≤ most_late_us }
+{
+    if line < late_us.len() {
+        late_us[line]
+    } else {
+        0
+    }
+}
+
+impl Wires {
+    /// The cables of a device, plugged in. They are so many microseconds late, 0 to 1999, by the number
+    /// of their line; what the list has no number for is not late.
+    pub fn new(late_us: &[u16]) -> Wires
+        requires { All (λ us. us ≤ most_late_us) late_us.now }
+        ensures { result ≡ wires_of late_us.now }
+    {
+        Wires {
+            a: Wire::new(late_at(late_us, 0)),
+            b: Wire::new(late_at(late_us, 1)),
+            c: Wire::new(late_at(late_us, 2)),
+            d: Wire::new(late_at(late_us, 3)),
+            e: Wire::new(late_at(late_us, 4)),
+        }
+    }
+
+    /// The cable of a line, 0 to 4.
+    pub fn wire(&self, line: u8) -> Wire
+        ensures { result ≡ wire_at self.now line }
+    {
+        match line {
+            0 => self.a,
+            1 => self.b,
+            2 => self.c,
+            3 => self.d,
+            _ => self.e,
+        }
+    }
+
+    fn set(&mut self, line: u8, wire: Wire)
+        ensures { self.new ≡ with_wire self.old line wire }
+    {
+        match line {
+            0 => self.a = wire,
+            1 => self.b = wire,
+            2 => self.c = wire,
+            3 => self.d = wire,
+            _ => self.e = wire,
+        }
+    }
+
+    /// Pulls a line's cable out, 0 to 4 ([`Wire::pull`]).
+    pub fn pull(&mut self, line: u8)
+        ensures { self.new ≡ with_wire self.old line (pulled (wire_at self.old line)) }
+    {
+        let mut wire = self.wire(line);
+        wire.pull();
+        self.set(line, wire);
+    }
+
+    /// Plugs it in again ([`Wire::plug`]).
+    pub fn plug(&mut self, line: u8)
+        ensures { self.new ≡ with_wire self.old line (plugged (wire_at self.old line)) }
+    {
+        let mut wire = self.wire(line);
+        wire.plug();
+        self.set(line, wire);
+    }
+
+    /// Makes a line so late, 0 to 1999 us, for pulses that are sent from now on ([`Wire::be_late`]).
+    pub fn be_late(&mut self, line: u8, late_us: u16)
+        requires { late_us ≤ most_late_us }
+        ensures { self.new ≡ with_wire self.old line (made_late late_us (wire_at self.old line)) }
+    {
+        let mut wire = self.wire(line);
+        wire.be_late(late_us);
+        self.set(line, wire);
+    }
+
+    /// A generator sends a pulse on a line ([`Wire::send`]).
+    pub fn send(&mut self, line: u8, now_us: u64, width_us: u32)
+        requires { now_us < 2 ^ 60 }
+        ensures { self.new
+            ≡ with_wire self.old line (sent now_us width_us (wire_at self.old line)) }
+    {
+        let mut wire = self.wire(line);
+        wire.send(now_us, width_us);
+        self.set(line, wire);
+    }
+
+    /// A pulse is added on a line by hand ([`Wire::add`]).
+    pub fn add(&mut self, line: u8, now_us: u64, width_us: u32)
+        requires { now_us < 2 ^ 60 }
+        ensures { self.new
+            ≡ with_wire self.old line (added now_us width_us (wire_at self.old line)) }
+    {
+        let mut wire = self.wire(line);
+        wire.add(now_us, width_us);
+        self.set(line, wire);
+    }
+
+    /// What is on its way on a line, if anything is.
+    pub fn flight(&self, line: u8) -> Option<Flight>
+        ensures { result ≡ (wire_at self.now line).flight }
+    {
+        self.wire(line).flight()
+    }
+
+    /// Takes what was on its way on a line, if it has ended by now ([`Wire::take`]).
+    pub fn take(&mut self, line: u8, now_us: u64) -> Option<Flight>
+        ensures answer { result ≡ ended now_us (wire_at self.old line).flight }
+        ensures new { self.new ≡ with_wire self.old line (taken now_us (wire_at self.old line)) }
+    {
+        let mut wire = self.wire(line);
+        let flight = wire.take(now_us);
+        self.set(line, wire);
+        flight
+    }
+
+    /// Which pulse ends next, if any is on its way: the earliest end, of equal ends that of the lowest
+    /// line.
+    pub fn next_end(&self) -> Option<Ending>
+        ensures { result ≡ next_end self.now }
+    {
+        let mut next = ending_on(4, self.e.flight);
+        next = earlier_end(ending_on(3, self.d.flight), next);
+        next = earlier_end(ending_on(2, self.c.flight), next);
+        next = earlier_end(ending_on(1, self.b.flight), next);
+        earlier_end(ending_on(0, self.a.flight), next)
+    }
+
+    /// What happens next to a device that is ticked then, if it is to be ticked, and to which generators
+    /// send the next element then. At one time pulses that end come first, by the number of their line,
+    /// then the tick, then what generators send.
+    pub fn next(&self, tick_us: Option<u64>, send_us: u64) -> Coming
+        ensures { result ≡ next_of self.now tick_us send_us }
+    {
+        end_or(self.next_end(), tick_or_send(tick_us, send_us))
+    }
+}
+
+fn ending_on(line: u8, flight: Option<Flight>) -> Option<Ending>
+    ensures { result ≡ ending_on line flight }
+{
+    match flight {
+        Some(flight) => Some(Ending { line, flight }),
+        None => None,
+    }
+}
+
+fn earlier_end(first: Option<Ending>, next: Option<Ending>) -> Option<Ending>
+    ensures { result ≡ earlier_end first next }
+{
+    match (first, next) {
+        (None, _) => next,
+        (Some(_), None) => first,
+        (Some(a), Some(b)) => {
+            if b.flight.end_us < a.flight.end_us {
+                next
+            } else {
+                first
+            }
+        }
+    }
+}
+
+fn tick_or_send(tick_us: Option<u64>, send_us: u64) -> Coming
+    ensures { result ≡ tick_or_send tick_us send_us }
+{
+    match tick_us {
+        Some(tick_us) if tick_us <= send_us => Coming {
+            time_us: tick_us,
+            what: Happening::Tick,
+        },
+        _ => Coming {
+            time_us: send_us,
+            what: Happening::Send,
+        },
+    }
+}
+
+fn end_or(ending: Option<Ending>, other: Coming) -> Coming
+    ensures { result ≡ end_or ending other }
+{
+    match ending {
+        Some(ending) if ending.flight.end_us <= other.time_us => Coming {
+            time_us: ending.flight.end_us,
+            what: Happening::End(ending),
+        },
+        _ => other,
+    }
+}
