@@ -2,3 +2,4 @@ pub mod OscillatorLaws
 pub mod WireLaws
 pub mod CallLaws
 pub mod OrderLaws
+pub mod StandardFacts
