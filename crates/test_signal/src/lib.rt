@@ -1,5 +1,5 @@
 //! What plants are made of, tried by its public calls: time code, days, generators, ports, devices,
-//! votes and readers. What a scenario or a command line can say is tried by cases.
+//! votes, readers and cables. What a scenario or a command line can say is tried by cases.
 //!
 //! They stand apart from the crates that they try, which would be proved once more for them.
 #![tactic(auto)]
@@ -24,3 +24,5 @@ mod readers;
 mod texts;
 #[cfg(test)]
 mod times;
+#[cfg(test)]
+mod wires;
