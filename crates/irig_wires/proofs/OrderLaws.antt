@@ -8,13 +8,13 @@ use Rattle.irig_wires.specs.declared.wires.Wires.{Wires}
 use Rattle.irig_wires.specs.declared.wires.Ending.{Ending}
 use Rattle.irig_wires.specs.declared.wires.Coming.{Coming}
 use Rattle.irig_wires.specs.declared.wires.Happening.TheVariants.{End, Tick, Send}
-use Rattle.irig_wires.specs.Wires.{taken, wire_at, with_wire}
+use Rattle.irig_wires.specs.Wires.{ended, taken, wire_at, with_wire}
 use Rattle.irig_wires.specs.Happenings.{earlier_end, end_or, ending_on, next_end, next_of, tick_or_send}
 use Rattle.irig_wires.specs.Order.{AllEndBehind, ComesFirst, EndsFirst, IsBehind, IsNotBefore, IsOnItsWay, NoneEndsBefore, behind_end}
 use Rattle.irig_wires.specs.Calls.{Call, called, IsNotBack}
 use Rattle.irig_wires.specs.Calls.Call.{Pull, Plug, BeLate, Add, Take}
 use Rattle.irig_wires.specs.Calls.Call.{Send as Sending}
-use Rattle.irig_wires.proofs.WireLaws.{added_flight, sent_flight, taken_busy, taken_flight}
+use Rattle.irig_wires.proofs.WireLaws.{added_flight, sent_flight, taken_busy, taken_flight, taken_free}
 
 -- ---- each line is a wire of its own
 
@@ -230,6 +230,21 @@ first_of wires tick send (Some ending) other first is = elim (cases_Bool (nat_le
 
 pub comes_first : (wires : Wires) (tick : Option ℕ) (send : ℕ) → ComesFirst wires tick send (next_of wires tick send)
 comes_first wires tick send = first_of wires tick send (next_end wires) (tick_or_send tick send) (is_next_end wires) (is_other tick send)
+
+-- when generators send next, what has ended was taken
+pub all_taken : (wires : Wires) (tick : Option ℕ) (send line : ℕ) → line < 5 → (next_of wires tick send).what ≡ Send → ended send (wire_at wires line).flight ≡ None
+all_taken wires tick send line small what = go (wire_at wires line).flight refl
+  where
+    go : (o : Option Flight) → (wire_at wires line).flight ≡ o → ended send (wire_at wires line).flight ≡ None
+    go None free = (taken_free send (wire_at wires line) free).1
+    go (Some flight) busy =
+        let first = comes_first wires tick send in
+        let at = (first.is_send what).0 in
+        let later = (first.is_send what).1 line flight (small, busy) in
+        elim (taken_busy send (wire_at wires line) flight busy) [
+          | inl h ↦ absurd (let past = h.2 in omega arith)
+          | inr h ↦ h.1
+        ]
 
 -- the next end is the first
 pub ends_first : (wires : Wires) (ending : Ending) → next_end wires ≡ Some ending → EndsFirst wires ending

@@ -2,18 +2,18 @@
 
 ghost use Rattle.std.specs.Prelude.{◌≡◌, ◌↔◌, ◌⊎◌, ◌<◌, ◌≤◌, ◌+◌, ◌*◌, ◌/◌, ℕ, List, Option, None, Some};
 ghost use Rattle.irig_wires.specs.Oscillator.{counter_at, edges_by, time_of};
-ghost use Rattle.irig_wires.specs.Wires.{most_late_us, wire_at, with_wire};
+ghost use Rattle.irig_wires.specs.Wires.{ended, most_late_us, wire_at, with_wire};
 ghost use Rattle.irig_wires.specs.Happenings.{next_end, next_of};
 ghost use Rattle.irig_wires.specs.Order.{ComesFirst, EndsFirst, IsNotBefore, IsOnItsWay, NoneEndsBefore, behind_end};
 ghost use Rattle.irig_wires.specs.Calls.{AreApart, AreBy, AreElements, Call, IsLeftAlone, IsNotBack, as_sent, brought, called, carried, sendings, wire_after};
 ghost use Rattle.irig_wires.specs.Calls.Call.{Take};
 
 use crate::wire::{Flight, Wire};
-use crate::wires::{Ending, Wires};
+use crate::wires::{Ending, Happening, Wires};
 
-/// An oscillator counts evenly: its counter does not go back, and shows its rate more a second later.
-/// At the beginning of each second of true time nothing is rounded. Over any time the counter counts
-/// what the rate says, rounded down, or one more.
+/// An oscillator counts evenly: its counter does not go back, and shows its rate more a second
+/// later. At the beginning of each second of true time nothing is rounded. Over any time the
+/// counter counts what the rate says, rounded down, or one more.
 pub fn an_oscillator_counts_evenly()
     ensures forward { (first rate s t : ℕ) → s ≤ t
         → counter_at first rate s ≤ counter_at first rate t }
@@ -40,8 +40,9 @@ pub fn lines_are_apart()
         → ¬ (other ≡ line) → wire_at (with_wire wires line wire) other ≡ wire_at wires other }
 {}
 
-/// A line never has two pulses at once, whatever is sent or added: what is on its way stays until it
-/// has ended and is taken. By calls in order of time each pulse has ended when the next one rises.
+/// A line never has two pulses at once, whatever is sent or added: what is on its way stays until
+/// it has ended and is taken. By calls in order of time each pulse has ended when the next one
+/// rises.
 pub fn a_line_has_one_pulse_at_a_time()
     ensures stays { (call : Call) (wire : Wire) (flight : Flight) → wire.flight ≡ Some flight
         → ((called call wire).flight ≡ Some flight)
@@ -54,27 +55,31 @@ pub fn a_line_has_one_pulse_at_a_time()
 {}
 
 /// A line that is left alone loses no element of a time code, and each rises exactly so many
-/// microseconds after it was sent as the line is late: its cable is in, nothing is added by hand, and
-/// pulses of 8 ms at most are sent 10 ms apart or more.
+/// microseconds after it was sent as the line is late: its cable is in, nothing is added by hand,
+/// and pulses of 8 ms at most are sent 10 ms apart or more.
 pub fn a_line_left_alone_loses_none()
     ensures { (late : ℕ) (calls : List Call) → late ≤ most_late_us → IsLeftAlone late calls
         → AreElements (sendings calls) → carried late calls ≡ as_sent late (sendings calls) }
 {}
 
 /// What `next` answers comes first of all that is to come, and what `next_end` answers is the end that
-/// comes first.
+/// comes first. When generators send next, no line has a pulse that has ended and was not taken.
 pub fn what_comes_next_comes_first()
     ensures next { (wires : Wires) (tick : Option ℕ) (send : ℕ)
         → ComesFirst wires tick send (next_of wires tick send) }
+    ensures sends { (wires : Wires) (tick : Option ℕ) (send line : ℕ) → line < 5
+        → (next_of wires tick send).what ≡ Happening.Send
+        → ended send (wire_at wires line).flight ≡ None }
     ensures end { (wires : Wires) (ending : Ending) → next_end wires ≡ Some ending
         → EndsFirst wires ending }
     ensures none { (wires : Wires) → next_end wires ≡ None → (line : ℕ) (flight : Flight)
         → ¬ IsOnItsWay wires line flight }
 {}
 
-/// Time does not go back. If none of all that is to come lies before now, what happens next does not
-/// either; and no call that is made from now on brings an end before now. So pulses that are taken in
-/// order of time are taken in the order of their ends, those of one time by the number of their line.
+/// Time does not go back. If none of all that is to come lies before now, what happens next does
+/// not either; and no call that is made from now on brings an end before now. So pulses that are
+/// taken in order of time are taken in the order of their ends, those of one time by the number of
+/// their line.
 pub fn time_does_not_go_back()
     ensures next { (wires : Wires) (tick : Option ℕ) (send now : ℕ) → NoneEndsBefore wires now
         → IsNotBefore tick now → now ≤ send → now ≤ (next_of wires tick send).time_us }

@@ -5,8 +5,8 @@ ghost use Rattle.irig_wires.specs.Oscillator.{counter_at, most_gain_us, rate_of,
 
 const SECOND_US: u64 = 1_000_000;
 
-/// The oscillator of a device, and what its counter of microseconds shows by it. The counter does not
-/// wrap here, and true times are microseconds behind its first count.
+/// The oscillator of a device, and what its counter of microseconds shows by it. The counter does
+/// not wrap here, and true times are microseconds behind its first count.
 #[derive(Clone, Copy, PartialEq, Eq)]
 pub struct Oscillator {
     pub(crate) first: u32,
@@ -15,8 +15,8 @@ pub struct Oscillator {
 }
 
 impl Oscillator {
-    /// One whose counter shows `first` at the beginning and truly gains `gain_us` microseconds in each
-    /// second, if these are -1000 to 1000.
+    /// One whose counter shows `first` at the beginning and truly gains `gain_us` microseconds in
+    /// each second, if these are -1000 to 1000.
     pub fn new(first: u32, gain_us: i16) -> Option<Self>
         ensures { MatchOption result (most_gain_us < unsigned_abs gain_us)
             (λ oscillator. (oscillator.first ≡ first) × (oscillator.gain_us ≡ gain_us)) }

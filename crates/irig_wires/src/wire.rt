@@ -23,8 +23,8 @@ fn flight_of(rise_us: u64, width_us: u32) -> Flight
     }
 }
 
-/// A cable from a generator to a device. The line is busy from when a pulse is sent until it has ended
-/// and is taken: a second one is lost.
+/// A cable from a generator to a device. The line is busy from when a pulse is sent until it has
+/// ended and is taken: a second one is lost.
 #[derive(Clone, Copy, PartialEq, Eq)]
 pub struct Wire {
     pub(crate) is_plugged: bool,
@@ -33,8 +33,8 @@ pub struct Wire {
 }
 
 impl Wire {
-    /// A cable that is plugged in and brings pulses so many microseconds late, 0 to 1999. So a pulse of
-    /// 8 ms ends before the next element begins.
+    /// A cable that is plugged in and brings pulses so many microseconds late, 0 to 1999. So a
+    /// pulse of 8 ms ends before the next element begins.
     pub fn new(late_us: u16) -> Wire
         requires { late_us ≤ most_late_us }
         ensures { result ≡ wire_of late_us }
@@ -46,7 +46,8 @@ impl Wire {
         }
     }
 
-    /// Pulls the cable out: what a generator sends from now on is lost, and what is on its way comes.
+    /// Pulls the cable out: what a generator sends from now on is lost, and what is on its way
+    /// comes.
     pub fn pull(&mut self)
         ensures { self.new ≡ pulled self.old }
     {
@@ -68,8 +69,8 @@ impl Wire {
         self.late_us = late_us;
     }
 
-    /// A generator sends a pulse so many microseconds wide at a true time, and it rises as much later
-    /// as the line is late. It is lost if the cable is out or the line is busy.
+    /// A generator sends a pulse so many microseconds wide at a true time, and it rises as much
+    /// later as the line is late. It is lost if the cable is out or the line is busy.
     pub fn send(&mut self, now_us: u64, width_us: u32)
         requires { now_us < 2 ^ 60 }
         ensures { self.new ≡ sent now_us width_us self.old }
@@ -80,8 +81,8 @@ impl Wire {
         }
     }
 
-    /// A pulse so many microseconds wide is added by hand and rises at this true time, whether the cable
-    /// is in or out. If the line is busy, nothing comes of it.
+    /// A pulse so many microseconds wide is added by hand and rises at this true time, whether the
+    /// cable is in or out. If the line is busy, nothing comes of it.
     pub fn add(&mut self, now_us: u64, width_us: u32)
         requires { now_us < 2 ^ 60 }
         ensures { self.new ≡ added now_us width_us self.old }

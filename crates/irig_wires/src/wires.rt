@@ -6,8 +6,8 @@ ghost use Rattle.irig_wires.specs.Happenings.{earlier_end, end_or, ending_on, ne
 
 use crate::wire::{Flight, Wire};
 
-/// The cables of a device, one from each generator: up to five. On those that it does not have nothing
-/// is sent.
+/// The cables of a device, one from each generator: up to five. On those that it does not have
+/// nothing is sent.
 #[derive(Clone, Copy, PartialEq, Eq)]
 pub struct Wires {
     pub(crate) a: Wire,
@@ -60,8 +60,8 @@ fn late_at(late_us: &[u16], line: usize) -> u16
 }
 
 impl Wires {
-    /// The cables of a device, plugged in. They are so many microseconds late, 0 to 1999, by the number
-    /// of their line; what the list has no number for is not late.
+    /// The cables of a device, plugged in. They are so many microseconds late, 0 to 1999, by the
+    /// number of their line; what the list has no number for is not late.
     pub fn new(late_us: &[u16]) -> Wires
         requires { All (λ us. us ≤ most_late_us) late_us.now }
         ensures { result ≡ wires_of late_us.now }
@@ -118,7 +118,8 @@ impl Wires {
         self.set(line, wire);
     }
 
-    /// Makes a line so late, 0 to 1999 us, for pulses that are sent from now on ([`Wire::be_late`]).
+    /// Makes a line so late, 0 to 1999 us, for pulses that are sent from now on
+    /// ([`Wire::be_late`]).
     pub fn be_late(&mut self, line: u8, late_us: u16)
         requires { late_us ≤ most_late_us }
         ensures { self.new ≡ with_wire self.old line (made_late late_us (wire_at self.old line)) }
@@ -168,8 +169,8 @@ impl Wires {
         flight
     }
 
-    /// Which pulse ends next, if any is on its way: the earliest end, of equal ends that of the lowest
-    /// line.
+    /// Which pulse ends next, if any is on its way: the earliest end, of equal ends that of the
+    /// lowest line.
     pub fn next_end(&self) -> Option<Ending>
         ensures { result ≡ next_end self.now }
     {
@@ -180,9 +181,9 @@ impl Wires {
         earlier_end(ending_on(0, self.a.flight), next)
     }
 
-    /// What happens next to a device that is ticked then, if it is to be ticked, and to which generators
-    /// send the next element then. At one time pulses that end come first, by the number of their line,
-    /// then the tick, then what generators send.
+    /// What happens next to a device that is ticked then, if it is to be ticked, and to which
+    /// generators send the next element then. At one time pulses that end come first, by the number
+    /// of their line, then the tick, then what generators send.
     pub fn next(&self, tick_us: Option<u64>, send_us: u64) -> Coming
         ensures { result ≡ next_of self.now tick_us send_us }
     {

@@ -79,8 +79,8 @@ fn a_cable_brings_one_pulse_at_a_time(rt: HostRuntime) {
     assert!(rt; wire.flight() == Some(flight(20_000, 25_000)));
 }
 
-/// The counter that gains 20 us a second passes over the 50,000th behind its first. The one that loses
-/// 70 shows 14,284 at two times.
+/// The counter that gains 20 us a second passes over the 50,000th behind its first. The one that
+/// loses 70 shows 14,284 at two times.
 #[test]
 fn a_counter_is_asked_back(rt: HostRuntime) -> Result<(), Fail> {
     assert!(rt; Oscillator::new(0, 1_001).is_none() && Oscillator::new(0, -1_001).is_none());
