@@ -1,12 +1,13 @@
 -- In which order things happen to a device.
 use Rattle.std.specs.Prelude.{nat_le, nat_lt}
 use Rattle.std.proofs.Common.{◌≡◌, ◌∙◌, ℕ, zero, suc, ◌+◌, ◌<◌, ◌≤◌, ◌⊎◌, Option, Some, None, refl, sym, ap, subst, arith, inl, inr}
-use Rattle.std.proofs.lemmas.Bool.{cases_Bool, cases_eq, cases_lt, leb-true, leb-false, ltb-true, ltb-false, ne_eqb}
+use Rattle.std.proofs.lemmas.Bool.{cases_Bool, cases_eq, cases_lt, cases_order, leb-true, leb-false, ltb-true, ltb-false, ne_eqb}
 use Rattle.irig_wires.specs.declared.wire.Flight.{Flight}
 use Rattle.irig_wires.specs.declared.wire.Wire.{Wire}
 use Rattle.irig_wires.specs.declared.wires.Wires.{Wires}
 use Rattle.irig_wires.specs.declared.wires.Ending.{Ending}
 use Rattle.irig_wires.specs.declared.wires.Coming.{Coming}
+use Rattle.irig_wires.specs.declared.wires.Happening.{Happening}
 use Rattle.irig_wires.specs.declared.wires.Happening.TheVariants.{End, Tick, Send}
 use Rattle.irig_wires.specs.Wires.{ended, taken, wire_at, with_wire}
 use Rattle.irig_wires.specs.Happenings.{earlier_end, end_or, ending_on, next_end, next_of, tick_or_send}
@@ -260,6 +261,77 @@ ends_none wires is = go (next_end wires) is (is_next_end wires)
     go : (o : Option Ending) → o ≡ None → IsNextEnd wires o → (line : ℕ) (flight : Flight) → ¬ IsOnItsWay wires line flight
     go None none first = first
     go (Some other) one first = absurd (cc)
+
+-- ---- there is one that comes first
+
+same_end : (wires : Wires) (x y : Ending) → EndsFirst wires x → EndsFirst wires y → x ≡ y
+same_end wires x y one two = elim (cases_order x.line y.line) [
+  | inl same ↦
+      let at = ap (flight_on wires) same in
+      let first = one.own.1 in
+      let second = two.own.1 in
+      let flights : x.flight ≡ y.flight = cc in
+      ap (λ (n : ℕ). let ending : Ending = record { line = n; flight = x.flight } in ending) same ∙ ap (λ (f : Flight). let ending : Ending = record { line = y.line; flight = f } in ending) flights
+  | inr (inl less) ↦ absurd (let later = two.lowest x.line x.flight one.own less in let not_later = one.first y.line y.flight two.own in omega arith)
+  | inr (inr more) ↦ absurd (let later = one.lowest y.line y.flight two.own more in let not_later = two.first x.line x.flight one.own in omega arith)
+]
+
+not_later : (wires : Wires) (tick : Option ℕ) (send : ℕ) (x y : Coming) → ComesFirst wires tick send x → ComesFirst wires tick send y → x.time_us ≤ y.time_us
+not_later wires tick send x y one two = go y.what refl
+  where
+    go : (what : Happening) → y.what ≡ what → x.time_us ≤ y.time_us
+    go (End ending) is =
+        let at = (two.is_end ending is).1 in
+        let low = one.ends ending.line ending.flight (two.is_end ending is).0.own in
+        omega arith
+    go Tick is = subst (λ (o : Option ℕ). IsNotBefore o x.time_us) (two.is_tick is).0 one.ticks
+    go Send is =
+        let at = (two.is_send is).0 in
+        let low = one.sends in
+        omega arith
+
+-- where a pulse ends, not all end behind
+no_other : (wires : Wires) (tick : Option ℕ) (send : ℕ) (x y : Coming) (ending : Ending) → ComesFirst wires tick send x → x.what ≡ End ending → x.time_us ≡ y.time_us → ¬ AllEndBehind wires y.time_us
+no_other wires tick send x y ending first is same behind =
+    let at = (first.is_end ending is).1 in
+    let later = behind ending.line ending.flight (first.is_end ending is).0.own in
+    absurd (omega arith)
+
+not_both : (wires : Wires) (tick : Option ℕ) (send : ℕ) (x y : Coming) → ComesFirst wires tick send x → ComesFirst wires tick send y → x.what ≡ Tick → y.what ≡ Send → x.time_us ≡ y.time_us → ⊥
+not_both wires tick send x y one two ticks sends same =
+    let behind : y.time_us < x.time_us = subst (λ (o : Option ℕ). IsBehind o y.time_us) (one.is_tick ticks).0 (two.is_send sends).2 in
+    absurd (omega arith)
+
+pub same_coming : (wires : Wires) (tick : Option ℕ) (send : ℕ) (x y : Coming) → ComesFirst wires tick send x → ComesFirst wires tick send y → x ≡ y
+same_coming wires tick send x y one two =
+    let low = not_later wires tick send x y one two in
+    let high = not_later wires tick send y x two one in
+    let times : x.time_us ≡ y.time_us = omega arith in
+    let times_back : y.time_us ≡ x.time_us = sym times in
+    ap (λ (n : ℕ). let coming : Coming = record { time_us = n; what = x.what } in coming) times ∙ ap (λ (w : Happening). let coming : Coming = record { time_us = y.time_us; what = w } in coming) (go x.what refl y.what refl times times_back)
+  where
+    go : (a : Happening) → x.what ≡ a → (b : Happening) → y.what ≡ b → x.time_us ≡ y.time_us → y.time_us ≡ x.time_us → x.what ≡ y.what
+    go (End a) is (End b) also times back = is ∙ ap End (same_end wires a b (one.is_end a is).0 (two.is_end b also).0) ∙ sym also
+    go (End a) is Tick also times back = absurd (no_other wires tick send x y a one is times (two.is_tick also).1)
+    go (End a) is Send also times back = absurd (no_other wires tick send x y a one is times (two.is_send also).1)
+    go Tick is (End b) also times back = absurd (no_other wires tick send y x b two also back (one.is_tick is).1)
+    go Tick is Tick also times back = is ∙ sym also
+    go Tick is Send also times back = absurd (not_both wires tick send x y one two is also times)
+    go Send is (End b) also times back = absurd (no_other wires tick send y x b two also back (one.is_send is).1)
+    go Send is Tick also times back = absurd (not_both wires tick send y x two one also is back)
+    go Send is Send also times back = is ∙ sym also
+
+-- what comes first is what `next` answers
+pub only_first : (wires : Wires) (tick : Option ℕ) (send : ℕ) (coming : Coming) → ComesFirst wires tick send coming → coming ≡ next_of wires tick send
+only_first wires tick send coming first = same_coming wires tick send coming (next_of wires tick send) first (comes_first wires tick send)
+
+-- the end that comes first is the next
+pub only_end : (wires : Wires) (ending : Ending) → EndsFirst wires ending → next_end wires ≡ Some ending
+only_end wires ending first = go (next_end wires) refl (is_next_end wires)
+  where
+    go : (o : Option Ending) → next_end wires ≡ o → IsNextEnd wires o → next_end wires ≡ Some ending
+    go None is none = absurd (none ending.line ending.flight first.own)
+    go (Some other) is next = is ∙ ap Some (same_end wires other ending next first)
 
 tick_not_back : (tick : Option ℕ) (send now : ℕ) → IsNotBefore tick now → now ≤ send → now ≤ (tick_or_send tick send).time_us
 tick_not_back None send now ticks sends = sends

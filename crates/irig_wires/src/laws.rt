@@ -9,7 +9,7 @@ ghost use Rattle.irig_wires.specs.Calls.{AreApart, AreBy, AreElements, Call, IsL
 ghost use Rattle.irig_wires.specs.Calls.Call.{Take};
 
 use crate::wire::{Flight, Wire};
-use crate::wires::{Ending, Happening, Wires};
+use crate::wires::{Coming, Ending, Happening, Wires};
 
 /// An oscillator counts evenly: its counter does not go back, and shows its rate more a second
 /// later. At the beginning of each second of true time nothing is rounded. Over any time the
@@ -62,16 +62,17 @@ pub fn a_line_left_alone_loses_none()
         → AreElements (sendings calls) → carried late calls ≡ as_sent late (sendings calls) }
 {}
 
-/// What `next` answers comes first of all that is to come, and what `next_end` answers is the end that
-/// comes first. When generators send next, no line has a pulse that has ended and was not taken.
+/// What `next` answers comes first of all that is to come, and nothing else does; what `next_end`
+/// answers is the end that comes first. When generators send next, no line has a pulse that has ended
+/// and was not taken.
 pub fn what_comes_next_comes_first()
-    ensures next { (wires : Wires) (tick : Option ℕ) (send : ℕ)
-        → ComesFirst wires tick send (next_of wires tick send) }
+    ensures next { (wires : Wires) (tick : Option ℕ) (send : ℕ) (coming : Coming)
+        → ComesFirst wires tick send coming ↔ (coming ≡ next_of wires tick send) }
     ensures sends { (wires : Wires) (tick : Option ℕ) (send line : ℕ) → line < 5
         → (next_of wires tick send).what ≡ Happening.Send
         → ended send (wire_at wires line).flight ≡ None }
-    ensures end { (wires : Wires) (ending : Ending) → next_end wires ≡ Some ending
-        → EndsFirst wires ending }
+    ensures end { (wires : Wires) (ending : Ending)
+        → EndsFirst wires ending ↔ (next_end wires ≡ Some ending) }
     ensures none { (wires : Wires) → next_end wires ≡ None → (line : ℕ) (flight : Flight)
         → ¬ IsOnItsWay wires line flight }
 {}
