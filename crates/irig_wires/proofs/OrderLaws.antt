@@ -1,7 +1,7 @@
 -- In which order things happen to a device.
 use Rattle.std.specs.Prelude.{nat_le, nat_lt}
-use Rattle.std.proofs.Common.{◌≡◌, ◌∙◌, ℕ, zero, suc, ◌+◌, ◌<◌, ◌≤◌, ◌⊎◌, Option, Some, None, refl, sym, ap, subst, arith, inl, inr}
-use Rattle.std.proofs.lemmas.Bool.{cases_Bool, cases_eq, cases_lt, cases_order, leb-true, leb-false, ltb-true, ltb-false, ne_eqb}
+use Rattle.std.proofs.Common.{◌≡◌, ◌∙◌, ℕ, zero, suc, ◌+◌, ◌<◌, ◌≤◌, ◌⊎◌, List, [], ◌∷◌, Option, Some, None, refl, sym, ap, subst, arith, inl, inr}
+use Rattle.std.proofs.lemmas.Bool.{cases_Bool, cases_eq, cases_lt, cases_order, leb-true, leb-false, ltb-true, ltb-false, eq-eqb, ne_eqb}
 use Rattle.irig_wires.specs.declared.wire.Flight.{Flight}
 use Rattle.irig_wires.specs.declared.wire.Wire.{Wire}
 use Rattle.irig_wires.specs.declared.wires.Wires.{Wires}
@@ -9,10 +9,10 @@ use Rattle.irig_wires.specs.declared.wires.Ending.{Ending}
 use Rattle.irig_wires.specs.declared.wires.Coming.{Coming}
 use Rattle.irig_wires.specs.declared.wires.Happening.{Happening}
 use Rattle.irig_wires.specs.declared.wires.Happening.TheVariants.{End, Tick, Send}
-use Rattle.irig_wires.specs.Wires.{ended, taken, wire_at, with_wire}
+use Rattle.irig_wires.specs.Wires.{ended, late_at, taken, wire_at, wire_of, wires_of, with_wire}
 use Rattle.irig_wires.specs.Happenings.{earlier_end, end_or, ending_on, next_end, next_of, tick_or_send}
 use Rattle.irig_wires.specs.Order.{AllEndBehind, ComesFirst, EndsFirst, IsBehind, IsNotBefore, IsOnItsWay, NoneEndsBefore, behind_end}
-use Rattle.irig_wires.specs.Calls.{Call, called, IsNotBack}
+use Rattle.irig_wires.specs.Calls.{Call, LineCall, called, called_on, wire_after, wires_after, calls_on, AreOnLines, IsNotBack}
 use Rattle.irig_wires.specs.Calls.Call.{Pull, Plug, BeLate, Add, Take}
 use Rattle.irig_wires.specs.Calls.Call.{Send as Sending}
 use Rattle.irig_wires.proofs.WireLaws.{added_flight, sent_flight, taken_busy, taken_flight, taken_free}
@@ -39,6 +39,27 @@ other_wire wires (suc (suc (suc (suc zero)))) wire (suc (suc (suc zero))) low sm
 other_wire wires (suc (suc (suc (suc zero)))) wire (suc (suc (suc (suc zero)))) low small other = absurd (other refl)
 other_wire wires (suc (suc (suc (suc zero)))) wire (suc (suc (suc (suc (suc i))))) low small other = absurd (omega (arith, small))
 other_wire wires (suc (suc (suc (suc (suc p))))) wire i low small other = absurd (omega (arith, low))
+
+at_first : (late : List ℕ) (line : ℕ) → line < 5 → wire_at (wires_of late) line ≡ wire_of (late_at late line)
+at_first late zero low = refl
+at_first late (suc zero) low = refl
+at_first late (suc (suc zero)) low = refl
+at_first late (suc (suc (suc zero))) low = refl
+at_first late (suc (suc (suc (suc zero)))) low = refl
+at_first late (suc (suc (suc (suc (suc i))))) low = absurd (omega (arith, low))
+
+-- each line of a device is what its own calls make of it
+pub each_alone : (late : List ℕ) (calls : List LineCall) (line : ℕ) → line < 5 → AreOnLines calls → wire_at (wires_after late calls) line ≡ wire_after (late_at late line) (calls_on line calls)
+each_alone late [] line small there = at_first late line small
+each_alone late (on ∷ calls) line small there =
+    let wires = wires_after late calls in
+    let before = each_alone late calls line small there.1 in
+    elim (cases_eq line on.line) [
+      | inl same ↦
+          rw (eq-eqb line on.line same)
+          (ap (wire_at (called_on on wires)) same ∙ own_wire wires on.line (called on.call (wire_at wires on.line)) there.0 ∙ ap (called on.call) (ap (wire_at wires) (sym same) ∙ before))
+      | inr apart ↦ rw (ne_eqb line on.line apart) (other_wire wires on.line (called on.call (wire_at wires on.line)) line there.0 small apart ∙ before)
+    ]
 
 -- ---- the earliest end
 
@@ -368,13 +389,33 @@ changed wires line wire time small from ends other flight on = elim (cases_eq ot
 ]
 
 -- a call that is made at a time or later leaves it so that none ended before
-pub kept : (wires : Wires) (line time : ℕ) (call : Call) → line < 5 → IsNotBack time call → NoneEndsBefore wires time → NoneEndsBefore (with_wire wires line (called call (wire_at wires line))) time
-kept wires line time Pull small back = changed wires line _ time small (λ flight on. inl on)
-kept wires line time Plug small back = changed wires line _ time small (λ flight on. inl on)
-kept wires line time (BeLate late) small back = changed wires line _ time small (λ flight on. inl on)
-kept wires line time (Sending now width) small back = changed wires line _ time small (λ flight on. elim (sent_flight now width (wire_at wires line) flight on) [ inl was ↦ inl was | inr h ↦ inr (let later = h.1 in omega arith) ])
-kept wires line time (Add now width) small back = changed wires line _ time small (λ flight on. elim (added_flight now width (wire_at wires line) flight on) [ inl was ↦ inl was | inr h ↦ inr (let later = h.1 in omega arith) ])
-kept wires line time (Take now) small back = changed wires line _ time small (λ flight on. inl (taken_flight now (wire_at wires line) flight on))
+kept_on : (wires : Wires) (line time : ℕ) (call : Call) → line < 5 → IsNotBack time call → NoneEndsBefore wires time → NoneEndsBefore (with_wire wires line (called call (wire_at wires line))) time
+kept_on wires line time Pull small back = changed wires line _ time small (λ flight on. inl on)
+kept_on wires line time Plug small back = changed wires line _ time small (λ flight on. inl on)
+kept_on wires line time (BeLate late) small back = changed wires line _ time small (λ flight on. inl on)
+kept_on wires line time (Sending now width) small back = changed wires line _ time small (λ flight on. elim (sent_flight now width (wire_at wires line) flight on) [ inl was ↦ inl was | inr h ↦ inr (let later = h.1 in omega arith) ])
+kept_on wires line time (Add now width) small back = changed wires line _ time small (λ flight on. elim (added_flight now width (wire_at wires line) flight on) [ inl was ↦ inl was | inr h ↦ inr (let later = h.1 in omega arith) ])
+kept_on wires line time (Take now) small back = changed wires line _ time small (λ flight on. inl (taken_flight now (wire_at wires line) flight on))
+
+pub kept : (wires : Wires) (on : LineCall) (time : ℕ) → on.line < 5 → IsNotBack time on.call → NoneEndsBefore wires time → NoneEndsBefore (called_on on wires) time
+kept wires on time small back ends = kept_on wires on.line time on.call small back ends
+
+-- what is taken ends now, if none ended before
+pub taken_at_end : (wires : Wires) (line now : ℕ) (flight : Flight) → line < 5 → NoneEndsBefore wires now → ended now (wire_at wires line).flight ≡ Some flight → flight.end_us ≡ now
+taken_at_end wires line now flight small ends is = go (wire_at wires line).flight refl
+  where
+    go : (o : Option Flight) → (wire_at wires line).flight ≡ o → flight.end_us ≡ now
+    go None free = absurd (let none = (taken_free now (wire_at wires line) free).1 in cc)
+    go (Some other) busy = elim (taken_busy now (wire_at wires line) other busy) [
+      | inl h ↦
+          let one = h.1 in
+          let same : other ≡ flight = cc in
+          let past = h.2 in
+          let not_before = ends line other (small, busy) in
+          let now_is : other.end_us ≡ now = omega arith in
+          ap (λ (f : Flight). f.end_us) (sym same) ∙ now_is
+      | inr h ↦ absurd (let none = h.1 in cc)
+    ]
 
 -- what has ended and is taken is on its way no more
 is_taken : (wires : Wires) (ending : Ending) (flight : Flight) → EndsFirst wires ending → (wire_at (behind_end wires ending) ending.line).flight ≡ Some flight → ⊥

@@ -1,8 +1,10 @@
 -- What an oscillator counts, in parts and asked back.
-use Rattle.std.proofs.Common.{◌≡◌, ℕ, ◌+◌, ◌-◌, ◌*◌, ◌/◌, ◌%◌, ◌^◌, ◌<◌, ◌≤◌, ◌↔◌, sym, ◌∙◌, ap, arith}
+use Rattle.std.proofs.Common.{◌≡◌, ℕ, ◌+◌, ◌-◌, ◌*◌, ◌/◌, ◌%◌, ◌^◌, ◌<◌, ◌≤◌, ◌↔◌, sym, ◌∙◌, ap, arith, inl, inr}
+use Rattle.std.specs.Prelude.{ℤ, pos, int_lt, unsigned_abs}
+use Rattle.std.proofs.lemmas.Bool.{cases_Bool}
 use Rattle.std.proofs.Math.Nat.{add-mul-div_right, div-lt_iff_lt-mul, le-div_iff_mul-le, mul-div_left, div-mul-le_self, mul-le-mul_right}
 use Rattle.std.proofs.lemmas.Nat.{div-add-mod'}
-use Rattle.irig_wires.specs.Oscillator.{counter_at, edges_by, time_of}
+use Rattle.irig_wires.specs.Oscillator.{counter_at, edges_by, rate_of, time_of}
 
 -- whole times z and a rest, each by a rate, are counted one by one
 parts : (q rest rate z : ℕ) → 0 < z → q * rate + rest * rate / z ≡ (q * z + rest) * rate / z
@@ -60,6 +62,13 @@ first_by_parts first rate r count m same ahead some t =
     (λ h. let it = first_is.0 h in omega arith, λ h. let low : time_of first rate count ≤ t = omega arith in first_is.1 low)
 
 -- ---- laws
+
+-- what gains or loses at most d in a second counts at most d more or less
+pub rate_near : (gain : ℤ) (d : ℕ) → unsigned_abs gain ≤ d → (1000000 ≤ rate_of gain + d) × (rate_of gain ≤ 1000000 + d)
+rate_near gain d few = elim (cases_Bool (int_lt gain (pos 0))) [
+  | inl below ↦ rw below (omega arith, omega arith)
+  | inr above ↦ rw above (omega arith, omega arith)
+]
 
 -- a counter does not go back
 pub monotone : (first rate s t : ℕ) → s ≤ t → counter_at first rate s ≤ counter_at first rate t

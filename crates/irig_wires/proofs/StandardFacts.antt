@@ -11,7 +11,7 @@ use Rattle.irig_wires.specs.Oscillator.{counter_at, edges_by, rate_of, time_of}
 use Rattle.irig_wires.specs.Wires.{added, made_late, plugged, pulled, sent, wire_at, wires_of, with_wire}
 use Rattle.irig_wires.specs.Happenings.{next_end, next_of}
 use Rattle.irig_wires.specs.Order.{ComesFirst, EndsFirst, behind_end}
-use Rattle.irig_wires.specs.Calls.{Call, AreBy, AreApart, AreElements, IsLeftAlone, brought, carried, sendings}
+use Rattle.irig_wires.specs.Calls.{Call, LineCall, AreBy, AreApart, AreElements, AreOnLines, IsLeftAlone, brought, calls_on, carried, sendings, wire_after, wires_after}
 use Rattle.irig_wires.specs.Calls.Call.{Take, Add, Pull}
 use Rattle.irig_wires.specs.Calls.Call.{Send as Sends}
 
@@ -168,3 +168,15 @@ known_limits = (refl, refl, refl)
 -- a pulse by hand or a cable that is out is not left alone
 pub known_touched : ¬ IsLeftAlone 350 (Add 0 5 ∷ []) × ¬ IsLeftAlone 350 (Pull ∷ left_alone) × ¬ IsLeftAlone 350 (Sends 10000 2000 ∷ Sends 0 8000 ∷ [])
 known_touched = (λ h. h, λ h. h, λ h. absurd (let none = h.0 in cc))
+
+-- ---- the lines of a device by their calls
+
+abbrev some_calls : List LineCall
+some_calls = record { line = 2; call = Add 29000 3000 } ∷ record { line = 1; call = Sends 20000 5000 } ∷ record { line = 0; call = Sends 20000 5000 } ∷ record { line = 0; call = Pull } ∷ []
+
+abbrev behind_them : Wires
+behind_them = wires_after (0 ∷ 350 ∷ 700 ∷ []) some_calls
+
+pub known_lines : (on_their_way behind_them ≡ None ∷ Some (flight 20350 25350) ∷ Some (flight 29000 32000) ∷ None ∷ None ∷ []) × (calls_on 0 some_calls ≡ Sends 20000 5000 ∷ Pull ∷ []) × (calls_on 4 some_calls ≡ [])
+    × (wire_at behind_them 0 ≡ wire_after 0 (calls_on 0 some_calls)) × (wire_at behind_them 1 ≡ wire_after 350 (calls_on 1 some_calls)) × AreOnLines some_calls
+known_lines = (refl, refl, refl, refl, refl, (omega arith, (omega arith, (omega arith, (omega arith, tt)))))

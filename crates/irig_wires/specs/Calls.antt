@@ -1,9 +1,10 @@
 -- The calls of a line, and what it brings by them. Lists have the newest first.
 -- Source: this project's profile.
-use Rattle.std.specs.Prelude.{◌≡◌, ℕ, ◌+◌, ◌≤◌, List, [], ◌∷◌, map, Option, Some, None, ⊤}
+use Rattle.std.specs.Prelude.{◌≡◌, ℕ, ◌+◌, ◌<◌, ◌≤◌, ◌==◌, if◌then◌else◌, List, [], ◌∷◌, map, Option, Some, None, ⊤}
 use Rattle.irig_wires.specs.declared.wire.Flight.{Flight}
 use Rattle.irig_wires.specs.declared.wire.Wire.{Wire}
-use Rattle.irig_wires.specs.Wires.{added, ended, flight_of, made_late, plugged, pulled, sent, taken, wire_of}
+use Rattle.irig_wires.specs.declared.wires.Wires.{Wires}
+use Rattle.irig_wires.specs.Wires.{added, ended, flight_of, made_late, plugged, pulled, sent, taken, wire_at, wire_of, wires_of, with_wire}
 
 -- what may be done with a line
 pub data Call : Type 0 where
@@ -107,3 +108,30 @@ AreElements (sending ∷ sendings) =
 -- each of them as a line brings it that is so late
 abbrev pub as_sent : (late : ℕ) → List Sending → List Flight
 as_sent late sendings = map (λ s. flight_of (s.time + late) s.width) sendings
+
+-- ---- the lines of a device
+
+-- a call of the line of a number
+pub record LineCall : Type 0 where
+  pub line : ℕ
+  pub call : Call
+
+-- the lines behind it
+abbrev pub called_on : LineCall → Wires → Wires
+called_on on wires = with_wire wires on.line (called on.call (wire_at wires on.line))
+
+-- the lines that were so late each at first, behind these calls
+abbrev pub wires_after : (late : List ℕ) → List LineCall → Wires
+wires_after late [] = wires_of late
+wires_after late (on ∷ calls) = called_on on (wires_after late calls)
+
+-- those of one line
+abbrev pub calls_on : (line : ℕ) → List LineCall → List Call
+calls_on line [] = []
+calls_on line (on ∷ calls) =
+    if line == on.line then on.call ∷ calls_on line calls else calls_on line calls
+
+-- each is of a line that there is
+abbrev pub AreOnLines : List LineCall → Type 0
+AreOnLines [] = ⊤
+AreOnLines (on ∷ calls) = (on.line < 5) × AreOnLines calls

@@ -1,20 +1,23 @@
 //! Laws of oscillators and lines over their definitions, for the crates above. They have no code.
 
-ghost use Rattle.std.specs.Prelude.{◌≡◌, ◌↔◌, ◌⊎◌, ◌<◌, ◌≤◌, ◌+◌, ◌*◌, ◌/◌, ℕ, List, Option, None, Some};
-ghost use Rattle.irig_wires.specs.Oscillator.{counter_at, edges_by, time_of};
-ghost use Rattle.irig_wires.specs.Wires.{ended, most_late_us, wire_at, with_wire};
+ghost use Rattle.std.specs.Prelude.{◌≡◌, ◌↔◌, ◌⊎◌, ◌<◌, ◌≤◌, ◌+◌, ◌*◌, ◌/◌, ℕ, ℤ, unsigned_abs, List, Option, None, Some};
+ghost use Rattle.irig_wires.specs.Oscillator.{counter_at, edges_by, rate_of, time_of};
+ghost use Rattle.irig_wires.specs.Wires.{ended, late_at, most_late_us, wire_at, with_wire};
 ghost use Rattle.irig_wires.specs.Happenings.{next_end, next_of};
 ghost use Rattle.irig_wires.specs.Order.{ComesFirst, EndsFirst, IsNotBefore, IsOnItsWay, NoneEndsBefore, behind_end};
-ghost use Rattle.irig_wires.specs.Calls.{AreApart, AreBy, AreElements, Call, IsLeftAlone, IsNotBack, as_sent, brought, called, carried, sendings, wire_after};
+ghost use Rattle.irig_wires.specs.Calls.{AreApart, AreBy, AreElements, AreOnLines, Call, IsLeftAlone, IsNotBack, LineCall, as_sent, brought, called, called_on, calls_on, carried, sendings, wire_after, wires_after};
 ghost use Rattle.irig_wires.specs.Calls.Call.{Take};
 
 use crate::wire::{Flight, Wire};
 use crate::wires::{Coming, Ending, Happening, Wires};
 
-/// An oscillator counts evenly: its counter does not go back, and shows its rate more a second
-/// later. At the beginning of each second of true time nothing is rounded. Over any time the
-/// counter counts what the rate says, rounded down, or one more.
+/// An oscillator counts evenly. What gains or loses no more than d microseconds a second counts no more
+/// than d more or less in each. The counter does not go back, and shows its rate more a second later. At
+/// the beginning of each second of true time nothing is rounded. Over any time it counts what the rate
+/// says, rounded down, or one more.
 pub fn an_oscillator_counts_evenly()
+    ensures rate { (gain : ℤ) (d : ℕ) → unsigned_abs gain ≤ d
+        → (1000000 ≤ rate_of gain + d) × (rate_of gain ≤ 1000000 + d) }
     ensures forward { (first rate s t : ℕ) → s ≤ t
         → counter_at first rate s ≤ counter_at first rate t }
     ensures second { (first rate t : ℕ)
@@ -32,12 +35,16 @@ pub fn a_count_has_its_first_time()
         → (count ≤ counter_at first rate time) ↔ (time_of first rate count ≤ time) }
 {}
 
-/// What is done with one line of a device changes that line alone.
+/// What is done with one line of a device changes that line alone: each is what its own calls make of
+/// it.
 pub fn lines_are_apart()
     ensures own { (wires : Wires) (line : ℕ) (wire : Wire) → line < 5
         → wire_at (with_wire wires line wire) line ≡ wire }
     ensures others { (wires : Wires) (line : ℕ) (wire : Wire) (other : ℕ) → line < 5 → other < 5
         → ¬ (other ≡ line) → wire_at (with_wire wires line wire) other ≡ wire_at wires other }
+    ensures each { (late : List ℕ) (calls : List LineCall) (line : ℕ) → line < 5
+        → AreOnLines calls → wire_at (wires_after late calls) line
+        ≡ wire_after (late_at late line) (calls_on line calls) }
 {}
 
 /// A line never has two pulses at once, whatever is sent or added: what is on its way stays until
@@ -77,16 +84,19 @@ pub fn what_comes_next_comes_first()
         → ¬ IsOnItsWay wires line flight }
 {}
 
-/// Time does not go back. If none of all that is to come lies before now, what happens next does
-/// not either; and no call that is made from now on brings an end before now. So pulses that are
-/// taken in order of time are taken in the order of their ends, those of one time by the number of
-/// their line.
+/// Time does not go back. If none of all that is to come lies before now, what happens next does not
+/// either; and no call that is made from now on brings an end before now. So a pulse is taken at its
+/// very end, and by calls in order of time pulses are taken in the order of their ends; those of one
+/// time by the number of their line.
 pub fn time_does_not_go_back()
     ensures next { (wires : Wires) (tick : Option ℕ) (send now : ℕ) → NoneEndsBefore wires now
         → IsNotBefore tick now → now ≤ send → now ≤ (next_of wires tick send).time_us }
-    ensures kept { (wires : Wires) (line time : ℕ) (call : Call) → line < 5 → IsNotBack time call
-        → NoneEndsBefore wires time
-        → NoneEndsBefore (with_wire wires line (called call (wire_at wires line))) time }
+    ensures kept { (wires : Wires) (on : LineCall) (time : ℕ) → on.line < 5
+        → IsNotBack time on.call → NoneEndsBefore wires time
+        → NoneEndsBefore (called_on on wires) time }
+    ensures taken { (wires : Wires) (line now : ℕ) (flight : Flight) → line < 5
+        → NoneEndsBefore wires now → ended now (wire_at wires line).flight ≡ Some flight
+        → flight.end_us ≡ now }
     ensures row { (wires : Wires) (first next : Ending) → next_end wires ≡ Some first
         → next_end (behind_end wires first) ≡ Some next
         → (first.flight.end_us ≤ next.flight.end_us)

@@ -45,8 +45,8 @@ impl Oscillator {
     pub fn time_of(self, count: u64) -> u64
         requires { count < 2 ^ 62 }
         ensures value { result ≡ time_of self.first (rate_of self.gain_us) count }
-        ensures first { (time : ℕ) → (count ≤ counter_at self.first (rate_of self.gain_us)
-            time) ↔ (result ≤ time) }
+        ensures first { (time : ℕ)
+            → (count ≤ counter_at self.first (rate_of self.gain_us) time) ↔ (result ≤ time) }
     {
         let rate = self.rate();
         let ahead = count.saturating_sub(u64::from(self.first));

@@ -1,5 +1,8 @@
-use Rattle.irig_wires.proofs.OscillatorLaws.{a_second_later, at_edges, monotone, over_a_time}
+use Rattle.irig_wires.proofs.OscillatorLaws.{a_second_later, at_edges, monotone, over_a_time, rate_near}
 use Rattle.irig_wires.proofs.laws.an_oscillator_counts_evenly.Goals as goal
+
+pub returns-clause-rate : goal.returns-clause-rate
+returns-clause-rate _ = rate_near
 
 pub returns-clause-forward : goal.returns-clause-forward
 returns-clause-forward _ = monotone
