@@ -1,5 +1,5 @@
 -- What a drawer makes of an event that the plant has taken.
-use Rattle.std.proofs.Common.{◌≡◌, ℕ, ◌<◌, List, [], ◌∷◌, ◌++◌, length, Option, Some, None, Result, Ok, Err, refl, sym, ap, ◌∙◌, subst, arith, append-nil}
+use Rattle.std.proofs.Common.{◌≡◌, ℕ, ◌<◌, List, [], ◌∷◌, ◌++◌, length, Some, None, Result, Ok, Err, refl, sym, ap, ◌∙◌, subst, arith, append-nil}
 use Rattle.std.specs.Prelude.{All, OnOk, slice_index_or, vec_len}
 use Rattle.irig_plant.specs.declared.event.Event.{Event}
 use Rattle.irig_plant.specs.declared.event.Event.TheVariants.{GenEdge, Tick, Carry, Damage, Replay, Raw, Fault, Repair, Restart}
@@ -7,12 +7,11 @@ use Rattle.irig_plant.specs.Refusals.{refusal}
 use Rattle.irig_plant.specs.Schedule.{Setup}
 use Rattle.irig_scene.specs.Scene.{Scene, scene}
 use Rattle.report_found.specs.declared.tick.Tick.{Tick as TickOf}
-use Rattle.report_found.specs.Books.{tick_of, ticks_at}
+use Rattle.report_found.specs.Books.{tick_of}
 use Rattle.report_found.specs.Findings.{lists_below}
 use Rattle.report_found.proofs.BookLaws.{latest, the_tick, no_tick, known_reader}
 use Rattle.report_found.proofs.GrowLaws.{lists_alike}
 use Rattle.report_lanes.specs.declared.drawer.Drawer.{Drawer}
-use Rattle.report_lanes.specs.declared.lane.Lane.{Lane}
 use Rattle.report_lanes.specs.declared.reader.ReaderLanes.{ReaderLanes}
 use Rattle.report_lanes.specs.Lanes.{open_of, open_lanes}
 use Rattle.report_lanes.specs.Runs.{AreOpenAt, IsDrawerAt}

@@ -1,6 +1,5 @@
 -- What it is for a lane to be a longest run of a reader's ticks, the newest first.
-use Rattle.std.specs.Prelude.{◌≡◌, ℕ, true, false, List, [], ◌∷◌, ◌++◌, All, ⊤, Option, Some}
-use Rattle.report_found.specs.declared.kind.Kind.{Kind}
+use Rattle.std.specs.Prelude.{◌≡◌, ℕ, true, false, List, [], ◌∷◌, ◌++◌, All, ⊤, Some}
 use Rattle.report_found.specs.declared.stretch.Stretch.{Stretch}
 use Rattle.report_found.specs.declared.tick.Tick.{Tick}
 use Rattle.report_found.specs.LongestRuns.{newest}
