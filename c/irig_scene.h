@@ -5,6 +5,7 @@
  * a log says. Link with libirig_scene (`make -C c`; docs/C.md). A run asks `malloc`, `realloc` and
  * `free` for memory (irig_heap.c), gives all of it back, and keeps nothing between calls. It needs
  * `memcpy`, `memmove` and `memset` of the C library and `__udivti3`, which compilers bring along.
+ * The library is for machines with pointers of 64 bits; compilers for others refuse this header.
  *
  * Pointers. `text` leads to `count` bytes that no other call writes meanwhile, `log` to `room`
  * bytes, `entries`, `stretches` and `lanes` to `room` of these, `reason` to `reason_room` bytes,
@@ -61,6 +62,7 @@ typedef struct irig_span {
     size_t start;
     size_t end;
 } irig_span;
+IRIG_ASSERT((sizeof(irig_span) == 16u) && (offsetof(irig_span, end) == 8u));
 
 /* Why a scenario is refused: zeros if it is not. The spans lie in the reason. */
 typedef struct irig_refusal {
@@ -73,6 +75,10 @@ typedef struct irig_refusal {
     irig_span allowed; /* what may stand there */
     uint8_t number;    /* of the refusal: 11 to 16, 19 to 34; docs/FAULTS.md has them */
 } irig_refusal;
+IRIG_ASSERT((sizeof(irig_refusal) == 88u) && (offsetof(irig_refusal, whole) == 8u) &&
+            (offsetof(irig_refusal, place) == 16u) && (offsetof(irig_refusal, key) == 32u) &&
+            (offsetof(irig_refusal, value) == 48u) && (offsetof(irig_refusal, allowed) == 64u) &&
+            (offsetof(irig_refusal, number) == 80u));
 
 /* The same run; with `ports` the log has after each tick what its ports told, as with `irig run
  * --ports`. If a line is refused, `refusal` says which and as what, and as much of the reason is
@@ -99,6 +105,10 @@ typedef struct irig_entry {
     uint8_t ports;       /* how many ports it has, 3 or 5 */
     uint8_t has_truth;   /* 0 if no second is true there */
 } irig_entry;
+IRIG_ASSERT((sizeof(irig_entry) == 152u) && (offsetof(irig_entry, line) == 8u) &&
+            (offsetof(irig_entry, truth) == 16u) && (offsetof(irig_entry, told) == 28u) &&
+            (offsetof(irig_entry, lock_count) == 128u) && (offsetof(irig_entry, sod) == 136u) &&
+            (offsetof(irig_entry, reader) == 140u) && (offsetof(irig_entry, has_truth) == 145u));
 
 enum {
     IRIG_VERDICT_NONE = 0,       /* a line is refused, or the run failed */
@@ -114,6 +124,8 @@ typedef struct irig_verdict {
     uint8_t kind;   /* IRIG_VERDICT_NONE .. */
     uint8_t reader; /* its place in the plant line, or 0 */
 } irig_verdict;
+IRIG_ASSERT((sizeof(irig_verdict) == 16u) && (offsetof(irig_verdict, kind) == 8u) &&
+            (offsetof(irig_verdict, reader) == 9u));
 
 /* The same run, whose log is written as numbers, silent edges too: as many of its entries as `room`
  * holds; those of `entries` after that stay as they were. `*whole` is how many entries the log has.
@@ -236,6 +248,7 @@ typedef struct irig_frame_options {
     uint8_t parity;          /* 0 even, 1 odd */
     uint8_t sense;           /* to give UTC the offset is 0 added, 1 subtracted */
 } irig_frame_options;
+IRIG_ASSERT((sizeof(irig_frame_options) == 6u) && (offsetof(irig_frame_options, sense) == 5u));
 
 /* Writes the frame of a UTC second as `irig frame` prints it: ten groups of ten letters with a blank
  * between, and a newline; no 0 behind it. `time` are `count` letters, as 2016-12-31T23:59:59Z. */
