@@ -88,8 +88,10 @@ def shown(text: str) -> str:
     return "".join(letter if letter.isprintable() else ascii(letter)[1:-1] for letter in text)
 
 
-def reason_of(error: ImportError | OSError | ValueError) -> str:
+def reason_of(error: ImportError | MemoryError | OSError | ValueError) -> str:
     """What is wrong, in words."""
     if isinstance(error, UnicodeDecodeError):
         return "it is no text"
+    if isinstance(error, MemoryError):
+        return "out of memory"
     return str(getattr(error, "strerror", None) or error)

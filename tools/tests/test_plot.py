@@ -435,6 +435,14 @@ class Refusals(unittest.TestCase):
             with self.subTest(text):
                 self.says(says, *plot(text))
 
+    def test_no_memory(self) -> None:
+        """For the run, for what is drawn of it, and for the picture: status 6 is that of c/irig_scene.h."""
+        for name in ("run_entries", "run_lanes", "run_stretches"):
+            with self.subTest(name), mock.patch(f"irig._library.{name}", lambda *words: 6, create=True):
+                self.says("plot: -: out of memory\n", *plot(ONE_EDGE))
+        with mock.patch("parts.drawing.draw", side_effect=MemoryError):
+            self.says("/a.svg: out of memory\n", *plot(ONE_EDGE))
+
     def test_words(self) -> None:
         for options, says in (
             (["--edges", "5"], "'5' is not of the form FROM-TO"),

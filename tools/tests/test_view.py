@@ -1,12 +1,16 @@
 #!/usr/bin/env python3
 """Tests of view: what its page has in it, which line of a scenario made which edge, what it says of wrong
 words; and, if there is a Chromium, what the page does when keys are pressed and the mouse is moved."""
+import io
 import json
 import re
 import subprocess
+import sys
 import tempfile
 import unittest
+from contextlib import redirect_stderr
 from pathlib import Path
+from unittest import mock
 
 import browser
 from loading import ROOT, InAFolder, loaded
@@ -127,6 +131,25 @@ class Page(InAFolder):
             ran, page = run(self.folder, SCENARIO, *words)
             self.assertEqual((ran.returncode, ran.stderr.count("\n"), page.read_text()), (0, 1, text))
             self.assertIn(f"view: {words[0]} is not needed any more", ran.stderr)
+
+    def test_no_memory(self) -> None:
+        """For the run, for what is drawn of it, for its log, and for the page: status 6 is that of c/irig_scene.h."""
+        view, page, source = loaded(VIEW), self.folder / "page.html", self.folder / "plant.jsonl"
+        source.write_text(SCENARIO)
+        words = [str(VIEW), str(source), "-o", str(page)]
+
+        def no_memory(*words: object) -> int:
+            return 6
+
+        for place, patch in (
+            *((source, mock.patch(f"irig._library.{name}", no_memory, create=True))
+              for name in ("run_entries", "run_lanes", "run_shown")),
+            (page, mock.patch.object(view, "page_of", side_effect=MemoryError)),
+        ):
+            told = io.StringIO()
+            with mock.patch.object(sys, "argv", words), patch, redirect_stderr(told):
+                self.assertRaisesRegex(SystemExit, "2", view.main)
+            self.assertEqual((told.getvalue(), page.exists()), (f"view: {place}: out of memory\n", False))
 
     def test_mistakes(self) -> None:
         log = (ROOT / "examples/one_liar.log").read_text()
