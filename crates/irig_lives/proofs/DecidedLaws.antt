@@ -126,14 +126,14 @@ same_self Marker = refl
 same_self Bad = refl
 
 module _ (within : ℕ) (line : ℕ → Symbol) (edges : ℕ → ℕ) where
-  pulse_is : (k : ℕ) (p : Pulse) → is_pulse_of within line edges k p ≡ true → IsPulseOf line edges within k p
+  pub pulse_is : (k : ℕ) (p : Pulse) → is_pulse_of within line edges k p ≡ true → IsPulseOf line edges within k p
   unfolding is_pulse_of
   pulse_is k p e =
       let a = both (nat_lt (element_at edges k) (p.rise + within)) _ e in
       let b = both (nat_lt p.rise (element_at edges k + within)) _ a.1 in
       ((ltb-true _ _ a.0, ltb-true _ _ b.0), same_is (symbol_of p.width) (line k) b.1)
 
-  pulse_from : (k : ℕ) (p : Pulse) → IsPulseOf line edges within k p → is_pulse_of within line edges k p ≡ true
+  pub pulse_from : (k : ℕ) (p : Pulse) → IsPulseOf line edges within k p → is_pulse_of within line edges k p ≡ true
   unfolding is_pulse_of
   pulse_from k p h =
       let same : is_same (symbol_of p.width) (line k) ≡ true = subst (λ (x : Symbol). is_same (symbol_of p.width) x ≡ true) h.1 (same_self (symbol_of p.width)) in
@@ -182,7 +182,7 @@ module _ (within : ℕ) (line : ℕ → Symbol) (edges : ℕ → ℕ) where
     ]
 
     -- what is so below an element is so below a later one
-    lower : (j k : ℕ) (ps : List Pulse) → j ≤ k → ArePulsesLately within line edges now j ps → ArePulsesLately within line edges now k ps
+    pub lower : (j k : ℕ) (ps : List Pulse) → j ≤ k → ArePulsesLately within line edges now j ps → ArePulsesLately within line edges now k ps
     lower j k [] less h = tt
     lower j k (p ∷ ps) less (inl old) = inl (old.0, lower j k ps less old.1)
     lower j k (p ∷ ps) less (inr new) = inr (new.0, omega (arith, less, new.1), new.2, new.3)

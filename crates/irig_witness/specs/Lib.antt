@@ -1,0 +1,4 @@
+pub mod Oscillator
+pub mod TrueFrames
+pub mod Witness
+pub mod Promise

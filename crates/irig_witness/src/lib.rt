@@ -1,0 +1,15 @@
+//! The audit of a simulated device, which knows the true time: from the calls that the device gets,
+//! beside what true lines would have sent, it says if the premises were kept under which a
+//! [`Timekeeper`](irig_timekeeper::Timekeeper) tells the truth. If they were, each second that the
+//! device announces is the true one, and each stamp names its instant.
+#![tactic(auto)]
+
+mod laws;
+mod line;
+mod oscillator;
+
+pub use laws::{
+    a_device_vouches, a_late_line_is_true, an_audit_doubts_no_true_line, an_audit_is_right,
+};
+pub use line::{LineWitness, after_rise, new_witness};
+pub use oscillator::Oscillator;
