@@ -5,4 +5,5 @@ pub mod OscillatorLaws
 pub mod VouchLaws
 pub mod ExactLaws
 pub mod LateLaws
+pub mod WatchLaws
 pub mod KeptFacts

@@ -1,4 +1,6 @@
 pub mod Oscillator
 pub mod TrueFrames
 pub mod Witness
+pub mod Watches
 pub mod Promise
+pub mod Devices

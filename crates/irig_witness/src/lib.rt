@@ -4,12 +4,16 @@
 //! device announces is the true one, and each stamp names its instant.
 #![tactic(auto)]
 
+mod device;
 mod laws;
 mod line;
 mod oscillator;
+mod watch;
 
+pub use device::Device;
 pub use laws::{
     a_device_vouches, a_late_line_is_true, an_audit_doubts_no_true_line, an_audit_is_right,
 };
-pub use line::{LineWitness, after_rise, new_witness};
+pub use line::{LineWitness, Risen, after_rise, new_witness};
 pub use oscillator::Oscillator;
+pub use watch::Watch;

@@ -1,0 +1,11 @@
+use Rattle.irig_witness.specs.Witness.{lines_by}
+use Rattle.irig_witness.proofs.device.Device.restart.Goals as goal
+
+pub returns-clause-on : goal.returns-clause-on
+returns-clause-on g c made symbol before calls is =
+    let o = c.args.self.now.oscillator in
+    record {
+      lived = c.restart.ensures.lived made calls is.lived;
+      watch = c.new-self.ensures made.clock (lines_by symbol o.first_us o.rate_us);
+      clock = is.clock;
+    }

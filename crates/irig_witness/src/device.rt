@@ -1,0 +1,186 @@
+//! A device that is audited as it goes.
+
+ghost use Rattle.std.specs.Prelude.{◌≡◌, ◌<◌, ◌≤◌, ◌∷◌, ◌%◌, ◌^◌, ◌+◌, [], ℕ, List, None, Some, MatchResult};
+ghost use Rattle.irig_frame.specs.declared.symbol.Symbol.{Symbol};
+ghost use Rattle.irig_lines.specs.Delays.{corrected, delay_at};
+ghost use Rattle.irig_lines.specs.Refusals.{clock_fault};
+ghost use Rattle.irig_reader.specs.Rules.{IsReaderRules};
+ghost use Rattle.irig_timekeeper.specs.Keepers.{ForKeeping};
+ghost use Rattle.irig_timekeeper.specs.Keeping.{answer_at, place_told, stamp_at};
+ghost use Rattle.irig_timekeeper.specs.Life.{Call};
+ghost use Rattle.irig_timekeeper.specs.Lived.{MadeOf};
+ghost use Rattle.irig_vote.specs.Vote.{ports_in};
+
+use crate::line::Risen;
+use crate::oscillator::Oscillator;
+use crate::watch::Watch;
+use irig_frame::Symbol;
+use irig_lines::{ClockFault, ClockRules, delay_at};
+use irig_port::Port;
+use irig_time::{LeapTable, Rules};
+use irig_timekeeper::{Beat, Stamp, Timekeeper};
+
+/// A simulated device: a timekeeper by a counter of which the true rate is known, and its audit.
+///
+/// Its times are those of that counter in 64 bits, where it does not wrap, and less than 2^56. The
+/// timekeeper is told them by 32 bits.
+#[derive(Drop)]
+pub struct Device<P: Port> {
+    pub(crate) keeper: Timekeeper<P>,
+    pub(crate) clock: ClockRules,
+    pub(crate) oscillator: Oscillator,
+    pub(crate) watch: Watch,
+    ghost same: { keeper.clock ≡ clock },
+}
+
+impl<P: Port> Device<P> {
+    ghost use Rattle.irig_witness.specs.Devices.{HearsOn, IsDeviceOf, IsSetAs, StampsTruly, TellsTruly, TicksOn, element_on, risen_on};
+    ghost use Rattle.irig_witness.specs.Watches.{may_tick};
+
+    /// A device to which nothing has happened, and whose life begins at a time, with reader's rules that
+    /// are [`in_range`](irig_reader::in_range); or the setup's [`first fault`](irig_lines::clock_fault).
+    pub fn new(
+        rules: Rules,
+        clock: ClockRules,
+        table: LeapTable,
+        oscillator: Oscillator,
+        start: u64,
+    ) -> Result<Self, ClockFault>
+        requires rules { IsReaderRules clock.reader_rules }
+        requires start { start < 2 ^ 56 }
+        ensures { MatchResult result
+            (λ device. (device.oscillator ≡ oscillator)
+            × ((symbol : ℕ → ℕ → Symbol) → IsDeviceOf device (record {
+              rules = rules;
+              clock = clock;
+              table = table;
+            }) symbol start []))
+            (λ fault. clock_fault clock.reader_rules clock.drift_us clock.wander_ppb ≡ Some fault) }
+    {
+        let keeper = Timekeeper::new(rules, clock, table)?;
+        Ok(Device {
+            keeper,
+            clock,
+            oscillator,
+            watch: Watch::new(start),
+        })
+    }
+
+    /// Of which element of its line alone a pulse may be that rises then: the one whose symbol
+    /// [`hear`](Self::hear) asks for.
+    pub fn element(&self, line: u8, rise_us: u64) -> u64
+        requires late { 32768 ≤ rise_us }
+        requires small { rise_us + 32768 < 2 ^ 56 }
+        ensures value { result ≡ element_on self.now line rise_us }
+        ensures small { result < 2 ^ 43 }
+    {
+        let rise = self.risen_on(line, rise_us);
+        self.oscillator.element_near(rise)
+    }
+
+    /// A pulse on a line, once it has ended: its place in its frame, 1 to 100, or 0 out of step. It rises
+    /// at `rise_us`, at the device, and is `width_us` microseconds wide. A true line has `symbol` at the
+    /// [`element`](Self::element) that it may be.
+    pub fn hear(&mut self, line: u8, rise_us: u64, width_us: u32, symbol: Symbol) -> u8
+        requires line { line < ports_in self.old.clock.redundancy }
+        requires late { 32768 ≤ rise_us }
+        requires small { rise_us + 32768 < 2 ^ 56 }
+        ensures on { HearsOn self.old self.new line rise_us width_us symbol }
+        ensures place { ForKeeping self.old.keeper (λ k. result
+            ≡ place_told k line (risen_on self.old line rise_us % 2 ^ 32) width_us) }
+        ensures set { IsSetAs self.new self.old }
+    {
+        let rise = self.risen_on(line, rise_us);
+        let element = self.oscillator.element_near(rise);
+        let pulse = Risen {
+            rise,
+            width_us,
+            element,
+            begins: self.oscillator.begins(element),
+            symbol,
+        };
+        self.watch = self.watch.hear(&self.clock, line, pulse);
+        self.keeper.hear(line, low(rise_us), width_us)
+    }
+
+    // When a pulse rose at its clock.
+    fn risen_on(&self, line: u8, rise_us: u64) -> u64
+        requires late { 32768 ≤ rise_us }
+        requires small { rise_us + 32768 < 2 ^ 56 }
+        ensures value { result ≡ risen_on self.now line rise_us }
+        ensures low { corrected (rise_us % 2 ^ 32) (delay_at self.now.clock.delays line)
+            ≡ result % 2 ^ 32 }
+        ensures small { result < 2 ^ 56 }
+    {
+        let delay_us = delay_at(&self.clock.delays, line);
+        let by_us = u64::from(delay_us.unsigned_abs());
+        if delay_us < 0 {
+            rise_us + by_us
+        } else {
+            rise_us - by_us
+        }
+    }
+
+    /// A tick: what is said of a second, if an edge has come since the last one.
+    pub fn tick(&mut self, now: u64) -> Option<Beat>
+        requires { now < 2 ^ 56 }
+        ensures on { TicksOn self.old self.new now }
+        ensures answer { ForKeeping self.old.keeper (λ k. result ≡ answer_at k (now % 2 ^ 32)) }
+        // the law `a_device_vouches`
+        ensures truth { TellsTruly self.old self.new now result }
+        ensures set { IsSetAs self.new self.old }
+    {
+        self.watch = self.watch.tick(&self.clock, now);
+        self.keeper.tick(low(now))
+    }
+
+    /// The stamp of an event, by the counter.
+    pub fn stamp(&self, time: u64) -> Option<Stamp>
+        ensures value { ForKeeping self.now.keeper (λ k. result ≡ stamp_at k (time % 2 ^ 32)) }
+        // the law `a_device_vouches`
+        ensures truth { StampsTruly self.now time result }
+    {
+        self.keeper.stamp(low(time))
+    }
+
+    /// As new: another life begins, at a time.
+    pub fn restart(&mut self, start: u64)
+        requires { start < 2 ^ 56 }
+        ensures on { (made : MadeOf) (symbol : ℕ → ℕ → Symbol) (before : ℕ) (calls : List Call)
+            → IsDeviceOf self.old made symbol before calls
+            → IsDeviceOf self.new made symbol start [] }
+        ensures set { IsSetAs self.new self.old }
+    {
+        self.watch = Watch::new(start);
+        self.keeper.restart();
+    }
+
+    /// Whether the calls of this life kept the premises.
+    pub fn is_kept(&self) -> bool
+        ensures { result ≡ self.now.watch.is_kept }
+    {
+        self.watch.is_kept()
+    }
+
+    /// Whether a tick that comes now is in order.
+    pub fn may_tick(&self, now: u64) -> bool
+        requires { now < 2 ^ 56 }
+        ensures { result ≡ may_tick self.now.watch now }
+    {
+        self.watch.may_tick(now)
+    }
+
+    /// Its timekeeper, of which all else can be asked.
+    pub fn keeper(&self) -> &Timekeeper<P>
+        ensures { result.now ≡ self.now.keeper }
+    {
+        &self.keeper
+    }
+}
+
+// By a counter of 32 bits.
+fn low(time: u64) -> u32
+    ensures { result ≡ time % 2 ^ 32 }
+{
+    (time % 4_294_967_296) as u32
+}

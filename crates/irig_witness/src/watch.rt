@@ -1,0 +1,170 @@
+//! The audit of a device, as it goes.
+
+ghost use Rattle.std.specs.Prelude.{◌≡◌, ◌<◌, ◌∷◌, ◌^◌, if◌then◌else◌, [], ℕ, List};
+ghost use Rattle.irig_sync.specs.Edges.{element_at};
+ghost use Rattle.irig_vote.specs.Vote.{ports_in};
+ghost use Rattle.irig_timekeeper.specs.Life.{Call};
+ghost use Rattle.irig_timekeeper.specs.Life.Call.{Hear, Tick};
+ghost use Rattle.irig_witness.specs.Witness.{TrueLines};
+
+use crate::line::{LineWitness, Risen, after_rise, new_witness};
+use irig_lines::{ClockRules, is_pulse};
+
+/// The audit of a device so far. Its times are those of the device's counter, which does not wrap here.
+#[derive(Clone, Copy, PartialEq, Eq)]
+pub struct Watch {
+    pub(crate) a: LineWitness,
+    pub(crate) b: LineWitness,
+    pub(crate) c: LineWitness,
+    pub(crate) d: LineWitness,
+    pub(crate) e: LineWitness,
+    pub(crate) last_tick: u64,
+    pub(crate) is_kept: bool,
+    ghost small: { last_tick < 2 ^ 56 },
+}
+
+impl Watch {
+    ghost use Rattle.irig_witness.specs.Watches as watches;
+    ghost use Rattle.irig_witness.specs.Watches.{IsWatchOf};
+
+    /// Of a device whose life begins at a time, less than 2^56: it was made or restarted.
+    pub fn new(start: u64) -> Self
+        requires { start < 2 ^ 56 }
+        ensures { (c : ClockRules) (x : TrueLines) → IsWatchOf result c x start [] }
+    {
+        Watch {
+            a: new_witness(),
+            b: new_witness(),
+            c: new_witness(),
+            d: new_witness(),
+            e: new_witness(),
+            last_tick: start,
+            is_kept: true,
+        }
+    }
+
+    /// Whether the calls so far kept the premises: they were in order, and at each tick at most f lines
+    /// were untrue.
+    pub fn is_kept(&self) -> bool
+        ensures { result ≡ self.now.is_kept }
+    {
+        self.is_kept
+    }
+
+    /// What it is behind a pulse that a line's counter told, with what a true line has there.
+    pub fn hear(self, clock: &ClockRules, line: u8, pulse: Risen) -> Self
+        requires line { line < ports_in clock.now.redundancy }
+        requires rise { pulse.rise < 2 ^ 58 }
+        requires element { pulse.element < 2 ^ 58 }
+        requires begins { pulse.begins < 2 ^ 58 }
+        ensures { (x : TrueLines) (start : ℕ) (calls : List Call)
+            → IsWatchOf self clock.now x start calls → pulse.element ≡ x.near pulse.rise
+            → pulse.begins ≡ element_at x.edges pulse.element
+            → pulse.symbol ≡ x.symbol line pulse.element
+            → IsWatchOf result clock.now x start (Hear line pulse.rise pulse.width_us ∷ calls) }
+    {
+        if !is_pulse(pulse.width_us) {
+            return self;
+        }
+        let witness = after_rise(self.witness_at(line), clock.within.us(), pulse);
+        let mut watch = self.with_witness(line, witness);
+        watch.is_kept = self.kept_at_pulse(line, pulse.rise);
+        watch
+    }
+
+    /// What it is behind a tick.
+    pub fn tick(self, clock: &ClockRules, now: u64) -> Self
+        requires { now < 2 ^ 56 }
+        ensures { (x : TrueLines) (start : ℕ) (calls : List Call)
+            → IsWatchOf self clock.now x start calls
+            → IsWatchOf result clock.now x start (Tick now ∷ calls) }
+    {
+        let mut watch = self;
+        watch.last_tick = now;
+        watch.is_kept = self.kept_at_tick(clock.redundancy.f(), now);
+        watch
+    }
+
+    /// Whether a tick that comes now is in order.
+    pub fn may_tick(&self, now: u64) -> bool
+        requires { now < 2 ^ 56 }
+        ensures { result ≡ watches.may_tick self.now now }
+    {
+        self.last_tick <= now
+            && now + 504_000 < self.last_tick + 1_800_000_000
+            && self.rose_by(now + 4_000)
+    }
+
+    fn rose_by(&self, time: u64) -> bool
+        ensures { result ≡ watches.rose_by self.now time }
+    {
+        self.a.rise <= time
+            && self.b.rise <= time
+            && self.c.rise <= time
+            && self.d.rise <= time
+            && self.e.rise <= time
+    }
+
+    fn kept_at_pulse(&self, line: u8, rise: u64) -> bool
+        requires { rise < 2 ^ 58 }
+        ensures { result ≡ watches.kept_at_pulse self.now line rise }
+    {
+        self.is_kept && self.may_hear(line, rise)
+    }
+
+    fn kept_at_tick(&self, f: u8, now: u64) -> bool
+        requires { now < 2 ^ 56 }
+        ensures { result ≡ watches.kept_at_tick self.now f now }
+    {
+        self.is_kept && self.may_tick(now) && self.doubted(now) <= f
+    }
+
+    fn may_hear(&self, line: u8, rise: u64) -> bool
+        requires { rise < 2 ^ 58 }
+        ensures { result ≡ watches.may_hear self.now line rise }
+    {
+        self.witness_at(line).rise <= rise && self.last_tick <= rise + 500_000
+    }
+
+    fn doubted(&self, now: u64) -> u8
+        ensures { result ≡ watches.doubted_in self.now now }
+    {
+        one_if(now < self.a.clear)
+            + one_if(now < self.b.clear)
+            + one_if(now < self.c.clear)
+            + one_if(now < self.d.clear)
+            + one_if(now < self.e.clear)
+    }
+
+    fn witness_at(&self, line: u8) -> LineWitness
+        ensures { result ≡ watches.witness_at self.now line }
+    {
+        match line {
+            0 => self.a,
+            1 => self.b,
+            2 => self.c,
+            3 => self.d,
+            _ => self.e,
+        }
+    }
+
+    fn with_witness(self, line: u8, witness: LineWitness) -> Self
+        ensures { result ≡ watches.with_witness self line witness }
+    {
+        let mut watch = self;
+        match line {
+            0 => watch.a = witness,
+            1 => watch.b = witness,
+            2 => watch.c = witness,
+            3 => watch.d = witness,
+            _ => watch.e = witness,
+        }
+        watch
+    }
+}
+
+fn one_if(is_so: bool) -> u8
+    ensures { result ≡ (if is_so then 1 else 0) }
+{
+    if is_so { 1 } else { 0 }
+}
