@@ -215,12 +215,12 @@ not_no : (b : Bool) → not b ≡ false → b ≡ true
 not_no true e = refl
 not_no false e = absurd cc
 
-no_more : (a b : Bool) → (b ≡ false → a ≡ false) → cond a 1 0 ≤ cond b 1 0
+pub no_more : (a b : Bool) → (b ≡ false → a ≡ false) → cond a 1 0 ≤ cond b 1 0
 no_more true true h = omega arith
 no_more false b h = omega arith
 no_more true false h = (let wrong : true ≡ false = h refl in absurd cc)
 
-five_more : (f a b c d e v w x y z : ℕ) → a ≤ v → b ≤ w → c ≤ x → d ≤ y → e ≤ z → 0 + v + w + x + y + z ≤ f → 0 + a + b + c + d + e ≤ f
+pub five_more : (f a b c d e v w x y z : ℕ) → a ≤ v → b ≤ w → c ≤ x → d ≤ y → e ≤ z → 0 + v + w + x + y + z ≤ f → 0 + a + b + c + d + e ≤ f
 five_more f a b c d e v w x y z la lb lc ld le few = omega (arith, la, lb, lc, ld, le, few)
 
 module _ (IsTrue : ℕ → List Pulse → Type 0) (is_true : ℕ → List Pulse → Bool) (f : ℕ) (decides : (now : ℕ) (pulses : List Pulse) → IsTrue now pulses ↔ (is_true now pulses ≡ true)) where

@@ -9,7 +9,7 @@ use Rattle.irig_lines.specs.Steps.{is_pulse}
 use Rattle.irig_timekeeper.specs.Life.{Call, pulses_on, AreTrueAtTicks}
 use Rattle.irig_timekeeper.specs.Life.Call.{Hear, Tick}
 use Rattle.irig_lives.proofs.DecidedLaws.{both}
-use Rattle.irig_witness.specs.Witness.{TrueLines, is_doubted, line_witness, were_true}
+use Rattle.irig_witness.specs.Witness.{TrueLines, WereTrueBeside, is_doubted, line_witness, were_true}
 use Rattle.irig_witness.proofs.LineLaws.{IsWitnessed, nothing_witnessed, rise_witnessed}
 
 not_before : (now clear : ℕ) → nat_lt now clear ≡ false → clear ≤ now
@@ -46,3 +46,17 @@ module _ (within : ℕ) (x : TrueLines) where
           },
           true_at_ticks f calls a.1,
         )
+
+  -- what it says is so, whatever symbols it is compared with
+  pub true_beside : (f : ℕ) (calls : List Call) → were_true within f x calls ≡ true → WereTrueBeside within f x calls
+  true_beside f [] e = tt
+  true_beside f (Hear port rise width ∷ calls) e = true_beside f calls e
+  true_beside f (Tick now ∷ calls) e =
+      let a = both _ _ e in (
+        record {
+          untrue = is_doubted within x calls now;
+          few = leb-true _ _ a.0;
+          true_lines = λ line less right. ((line_witness within x line calls).next, (line_is line calls).all now (not_before _ _ right));
+        },
+        true_beside f calls a.1,
+      )

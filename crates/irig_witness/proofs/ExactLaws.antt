@@ -1,7 +1,8 @@
 -- An audit doubts no true line: what it knows of a line is no more than what is so.
-use Rattle.std.specs.Prelude.{◌==◌, ◌&&◌, nat_lt, nat_le, max}
-use Rattle.std.proofs.Common.{◌≡◌, ◌∙◌, ℕ, ◌+◌, ◌-◌, ◌*◌, ◌/◌, ◌%◌, ◌<◌, ◌≤◌, ◌⊎◌, true, false, List, [], ◌∷◌, refl, sym, ap, subst, arith, inl, inr}
-use Rattle.std.proofs.lemmas.Bool.{cases_Bool, eqb-true}
+use Rattle.std.specs.Prelude.{◌==◌, ◌&&◌, nat_lt, nat_le, max, cond, count_by}
+use Rattle.std.specs.List.{range_with_len}
+use Rattle.std.proofs.Common.{◌≡◌, ◌↔◌, Bool, ◌∙◌, ℕ, ◌+◌, ◌-◌, ◌*◌, ◌/◌, ◌%◌, ◌<◌, ◌≤◌, ◌⊎◌, true, false, List, [], ◌∷◌, refl, sym, ap, subst, arith, inl, inr}
+use Rattle.std.proofs.lemmas.Bool.{cases_Bool, eqb-true, and_from, le-leb}
 use Rattle.std.proofs.lemmas.Nat.{div-mul-add}
 use Rattle.irig_frame.specs.declared.symbol.Symbol.{Symbol}
 use Rattle.irig_sync.specs.Edges.{IsClock}
@@ -9,16 +10,19 @@ use Rattle.irig_sync.specs.Lines.{Pulse, pulse_at, IsTimeOf, IsAfter}
 use Rattle.irig_sync.specs.FaultyLines.{IsPulseOf}
 use Rattle.irig_sync.proofs.EdgeLaws.{is_later}
 use Rattle.irig_vote.specs.declared.redundancy.Redundancy.{Redundancy}
+use Rattle.irig_vote.specs.Vote.{f_of}
+use Rattle.irig_lines.specs.declared.setup.ClockRules.{ClockRules}
 use Rattle.irig_lines.specs.Exactness.{most_within_us}
 use Rattle.irig_lines.specs.Lines.{ArePulsesLately}
 use Rattle.irig_lines.specs.Steps.{is_pulse}
 use Rattle.irig_timekeeper.specs.Life.{Call, pulses_on, AreInOrder}
 use Rattle.irig_timekeeper.specs.Life.Call.{Hear, Tick}
-use Rattle.irig_lives.specs.Decided.{is_pulse_of}
-use Rattle.irig_lives.proofs.DecidedLaws.{both, pulse_is, pulse_from}
+use Rattle.irig_lives.specs.Decided.{in_order, is_pulse_of}
+use Rattle.irig_lives.proofs.DecidedLaws.{both, five_more, no_more, order_decided, order_is, pulse_is, pulse_from}
 use Rattle.irig_witness.specs.Oscillator.{edges_by, element_near, KeepsRate}
 use Rattle.irig_witness.specs.declared.line.LineWitness.{LineWitness}
-use Rattle.irig_witness.specs.Witness.{TrueLines, new_witness, forgets, after_false, after_true, after_rise, line_witness}
+use Rattle.irig_witness.specs.Witness.{KeepsPremises, TrueLines, WereTrueBeside, new_witness, forgets, after_false, after_true, after_rise, is_doubted, is_kept, line_witness, lines_by, were_true}
+use Rattle.irig_witness.proofs.CallLaws.{true_beside}
 use Rattle.irig_witness.proofs.OscillatorLaws.{element_is, quartz}
 
 not_le : (a b : ℕ) → nat_le a b ≡ false → b < a
@@ -155,3 +159,32 @@ module _ (d first rate within : ℕ) (keeps : KeepsRate d rate) (small : within 
       let most : 100 * x < j * rate + rate = omega (arith, low, high, split, small, keeps.least, keeps.few) in
       let rest : 100 * x ≡ j * rate + (100 * x - j * rate) = omega (arith, least) in
       ap (λ (n : ℕ). n / rate) rest ∙ div-mul-add j rate (100 * x - j * rate) (omega (arith, most, least))
+
+-- ---- the whole audit
+
+-- of five lines at most as many are doubted as are untrue, if no other one is doubted
+fewer : (p q : ℕ → Bool) (f : ℕ) → ((line : ℕ) → line < 5 → q line ≡ false → p line ≡ false) → count_by q (range_with_len 0 5) ≤ f → count_by p (range_with_len 0 5) ≤ f
+fewer p q f only few = five_more f _ _ _ _ _ _ _ _ _ _ (on 0 (omega arith)) (on 1 (omega arith)) (on 2 (omega arith)) (on 3 (omega arith)) (on 4 (omega arith)) few
+  where
+    on : (line : ℕ) → line < 5 → cond (p line) 1 0 ≤ cond (q line) 1 0
+    on line less = no_more (p line) (q line) (only line less)
+
+module _ (d first rate : ℕ) (keeps : KeepsRate d rate) (symbol : ℕ → ℕ → Symbol) (c : ClockRules) (start : ℕ) where
+  beside_true : (calls : List Call) → AreInOrder start c.redundancy calls → WereTrueBeside c.within.us (f_of c.redundancy) (lines_by symbol first rate) calls → were_true c.within.us (f_of c.redundancy) (lines_by symbol first rate) calls ≡ true
+  beside_true [] order truth = refl
+  beside_true (Hear port rise width ∷ calls) order truth = beside_true calls order.2 truth
+  beside_true (Tick now ∷ calls) order truth = and_from _ _ (le-leb _ _ (fewer _ truth.0.untrue (f_of c.redundancy) clear truth.0.few)) (beside_true calls order.3 truth.1)
+    where
+      clear : (line : ℕ) → line < 5 → truth.0.untrue line ≡ false → is_doubted c.within.us (lines_by symbol first rate) calls now line ≡ false
+      clear line less right =
+          let are = truth.0.true_lines line less right in
+          not_doubted c.within.us d (lines_by symbol first rate) (near_clock d first rate c.within.us keeps c.within.few) (finds_element d first rate c.within.us keeps c.within.few) start c.redundancy line now are.0 calls order.3 are.1
+
+  pub exact : (calls : List Call) → KeepsPremises c (lines_by symbol first rate) start calls ↔ (is_kept c (lines_by symbol first rate) start calls ≡ true)
+  exact calls = (
+    λ keeps_so. and_from _ _ ((order_decided start c.redundancy calls).0 keeps_so.order) (beside_true calls keeps_so.order keeps_so.truth),
+    λ kept. (let e = both (in_order start c.redundancy calls) _ kept in record {
+      order = order_is start c.redundancy calls e.0;
+      truth = true_beside c.within.us (lines_by symbol first rate) (f_of c.redundancy) calls e.1;
+    }),
+  )

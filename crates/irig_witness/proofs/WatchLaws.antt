@@ -1,21 +1,21 @@
 -- What an audit keeps behind a call.
 use Rattle.std.specs.Prelude.{◌==◌, ◌&&◌, nat_lt, nat_le, count_by}
 use Rattle.std.specs.List.{range_with_len}
-use Rattle.std.proofs.Common.{◌≡◌, ◌∙◌, ℕ, zero, suc, ◌+◌, ◌<◌, ◌≤◌, Bool, true, false, cond, List, [], ◌∷◌, refl, sym, ap, subst, arith, inl, inr}
+use Rattle.std.proofs.Common.{◌≡◌, ◌∙◌, ℕ, zero, suc, ◌+◌, ◌<◌, Bool, true, false, cond, List, [], ◌∷◌, refl, sym, ap, arith, inl, inr}
 use Rattle.std.proofs.lemmas.Bool.{cases_Bool, eqb-true, le-leb, lt-ltb}
 use Rattle.irig_frame.specs.declared.symbol.Symbol.{Symbol}
-use Rattle.irig_sync.specs.Lines.{Pulse, pulse_at}
+use Rattle.irig_sync.specs.Lines.{pulse_at}
 use Rattle.irig_vote.specs.Vote.{f_of, ports_in}
 use Rattle.irig_lines.specs.declared.setup.ClockRules.{ClockRules}
 use Rattle.irig_lines.specs.Steps.{is_pulse}
-use Rattle.irig_timekeeper.specs.Life.{Call, pulses_on, last_tick}
+use Rattle.irig_timekeeper.specs.Life.{Call, pulses_on}
 use Rattle.irig_timekeeper.specs.Life.Call.{Hear, Tick}
 use Rattle.irig_timekeeper.proofs.OrderLaws.{five}
 use Rattle.irig_lives.specs.Decided.{have_risen, in_order, is_after, is_pulse_of}
 use Rattle.irig_witness.specs.declared.line.LineWitness.{LineWitness}
 use Rattle.irig_witness.specs.declared.watch.Watch.{Watch}
 use Rattle.irig_witness.specs.Witness.{TrueLines, after_rise, after_true, is_doubted, is_kept, line_witness, new_witness, were_true}
-use Rattle.irig_witness.specs.Watches.{IsWatchOf, doubted_in, kept_at_pulse, kept_at_tick, may_tick, one_if, rose_by, with_witness, witness_at}
+use Rattle.irig_witness.specs.Watches.{IsWatchOf, doubted_in, kept_at_pulse, kept_at_tick, may_tick, rose_by, with_witness, witness_at}
 
 -- ---- five lines
 

@@ -37,14 +37,18 @@ element_on device line rise =
 abbrev pub edges_of : {P : Type 0} {g : Ghosts P} → Device P g → ℕ → ℕ
 edges_of device = edges_by device.oscillator.first_us device.oscillator.rate_us
 
+-- lines of these symbols, by that counter
+abbrev pub lines_on : {P : Type 0} {g : Ghosts P} → Device P g
+    → (symbol : (line element : ℕ) → Symbol) → TrueLines
+lines_on device symbol = lines_by symbol device.oscillator.first_us device.oscillator.rate_us
+
 -- it was made of this, its life began at a time, and these calls came since, the newest first; its audit
 -- is of them, beside lines of these symbols
 pub record IsDeviceOf {P : Type 0} {g : Ghosts P} (device : Device P g) (made : MadeOf)
     (symbol : (line element : ℕ) → Symbol) (start : ℕ) (calls : List Call)
     : Type 0 where
   pub lived : HasLived device.keeper made calls
-  pub watch : IsWatchOf device.watch made.clock
-      (lines_by symbol device.oscillator.first_us device.oscillator.rate_us) start calls
+  pub watch : IsWatchOf device.watch made.clock (lines_on device symbol) start calls
   pub clock : device.clock ≡ made.clock
 
 -- the setting and the oscillator are the same

@@ -1,14 +1,15 @@
 -- The audit of a device: a fold over its calls, beside what true lines would have sent. It says if the
 -- premises were kept under which a timekeeper tells the truth.
 -- Source: docs/WIRES.md, what a timekeeper asks.
-use Rattle.std.specs.Prelude.{ℕ, ◌+◌, ◌==◌, Bool, true, ◌&&◌, nat_lt, nat_le, max, if◌then◌else◌, List, [], ◌∷◌, count_by}
+use Rattle.std.specs.Prelude.{◌≡◌, ℕ, ◌+◌, ◌==◌, ◌<◌, ◌≤◌, Bool, true, false, ◌&&◌, nat_lt, nat_le, max, if◌then◌else◌, List, [], ◌∷◌, count_by, ⊤}
 use Rattle.std.specs.List.{range_with_len}
 use Rattle.irig_frame.specs.declared.symbol.Symbol.{Symbol}
 use Rattle.irig_sync.specs.Lines.{pulse_at}
 use Rattle.irig_vote.specs.Vote.{f_of}
 use Rattle.irig_lines.specs.declared.setup.ClockRules.{ClockRules}
+use Rattle.irig_lines.specs.Lines.{ArePulsesLately}
 use Rattle.irig_lines.specs.Steps.{is_pulse}
-use Rattle.irig_timekeeper.specs.Life.{Call}
+use Rattle.irig_timekeeper.specs.Life.{Call, pulses_on, AreInOrder}
 use Rattle.irig_timekeeper.specs.Life.Call.{Hear, Tick}
 use Rattle.irig_lives.specs.Decided.{in_order, is_pulse_of}
 use Rattle.irig_witness.specs.declared.line.LineWitness.{LineWitness}
@@ -94,3 +95,25 @@ were_true within f x (Tick now ∷ calls) =
 abbrev pub is_kept : ClockRules → TrueLines → (start : ℕ) → List Call → Bool
 is_kept c x start calls =
     in_order start c.redundancy calls && were_true c.within.us (f_of c.redundancy) x calls
+
+-- ---- what it decides
+
+-- all but at most f of the five lines brought of late only pulses that they would have sent
+pub record AreTrueBeside (within f : ℕ) (x : TrueLines) (now : ℕ) (calls : List Call) : Type 0 where
+  pub untrue : ℕ → Bool
+  pub few : count_by untrue (range_with_len 0 5) ≤ f
+  pub true_lines : (line : ℕ) → line < 5 → untrue line ≡ false
+      → (k : ℕ) × ArePulsesLately within (x.symbol line) x.edges now k (pulses_on line calls)
+
+-- so at each tick
+abbrev pub WereTrueBeside : (within f : ℕ) → TrueLines → List Call → Type 0
+WereTrueBeside within f x [] = ⊤
+WereTrueBeside within f x (Hear port rise width ∷ calls) = WereTrueBeside within f x calls
+WereTrueBeside within f x (Tick now ∷ calls) =
+    AreTrueBeside within f x now calls × WereTrueBeside within f x calls
+
+-- the premises as they are meant
+pub record KeepsPremises (c : ClockRules) (x : TrueLines) (start : ℕ) (calls : List Call)
+    : Type 0 where
+  pub order : AreInOrder start c.redundancy calls
+  pub truth : WereTrueBeside c.within.us (f_of c.redundancy) x calls

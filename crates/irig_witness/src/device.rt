@@ -1,15 +1,17 @@
 //! A device that is audited as it goes.
 
-ghost use Rattle.std.specs.Prelude.{◌≡◌, ◌<◌, ◌≤◌, ◌∷◌, ◌%◌, ◌^◌, ◌+◌, [], ℕ, List, None, Some, MatchResult};
+ghost use Rattle.std.specs.Prelude.{◌≡◌, ◌<◌, ◌≤◌, ◌∷◌, ◌%◌, ◌^◌, ◌+◌, ◌&&◌, [], ℕ, List, None, Some, MatchResult};
 ghost use Rattle.irig_frame.specs.declared.symbol.Symbol.{Symbol};
 ghost use Rattle.irig_lines.specs.Delays.{corrected, delay_at};
 ghost use Rattle.irig_lines.specs.Refusals.{clock_fault};
 ghost use Rattle.irig_reader.specs.Rules.{IsReaderRules};
 ghost use Rattle.irig_timekeeper.specs.Keepers.{ForKeeping};
-ghost use Rattle.irig_timekeeper.specs.Keeping.{answer_at, place_told, stamp_at};
+ghost use Rattle.irig_timekeeper.specs.Keeping.{answer_at, place_told, stamp_at, wait_at};
 ghost use Rattle.irig_timekeeper.specs.Life.{Call};
+ghost use Rattle.irig_timekeeper.specs.Life.Call.{Tick};
 ghost use Rattle.irig_timekeeper.specs.Lived.{MadeOf};
 ghost use Rattle.irig_vote.specs.Vote.{ports_in};
+ghost use Rattle.irig_lives.specs.Decided.{in_order};
 
 use crate::line::Risen;
 use crate::oscillator::Oscillator;
@@ -34,7 +36,8 @@ pub struct Device<P: Port> {
 }
 
 impl<P: Port> Device<P> {
-    ghost use Rattle.irig_witness.specs.Devices.{HearsOn, IsDeviceOf, IsSetAs, StampsTruly, TellsTruly, TicksOn, element_on, risen_on};
+    ghost use Rattle.irig_witness.specs.Devices.{HearsOn, IsDeviceOf, IsSetAs, StampsTruly, TellsTruly, TicksOn, element_on, lines_on, risen_on};
+    ghost use Rattle.irig_witness.specs.Witness.{is_kept};
     ghost use Rattle.irig_witness.specs.Watches.{may_tick};
 
     /// A device to which nothing has happened, and whose life begins at a time, with reader's rules that
@@ -157,7 +160,10 @@ impl<P: Port> Device<P> {
 
     /// Whether the calls of this life kept the premises.
     pub fn is_kept(&self) -> bool
-        ensures { result ≡ self.now.watch.is_kept }
+        ensures value { result ≡ self.now.watch.is_kept }
+        ensures exact { (made : MadeOf) (symbol : ℕ → ℕ → Symbol) (start : ℕ) (calls : List Call)
+            → IsDeviceOf self.now made symbol start calls
+            → result ≡ is_kept made.clock (lines_on self.now symbol) start calls }
     {
         self.watch.is_kept()
     }
@@ -165,16 +171,20 @@ impl<P: Port> Device<P> {
     /// Whether a tick that comes now is in order.
     pub fn may_tick(&self, now: u64) -> bool
         requires { now < 2 ^ 56 }
-        ensures { result ≡ may_tick self.now.watch now }
+        ensures value { result ≡ may_tick self.now.watch now }
+        ensures exact { (made : MadeOf) (symbol : ℕ → ℕ → Symbol) (start : ℕ) (calls : List Call)
+            → IsDeviceOf self.now made symbol start calls
+            → in_order start made.clock.redundancy (Tick now ∷ calls)
+            ≡ (result && in_order start made.clock.redundancy calls) }
     {
         self.watch.may_tick(now)
     }
 
-    /// Its timekeeper, of which all else can be asked.
-    pub fn keeper(&self) -> &Timekeeper<P>
-        ensures { result.now ≡ self.now.keeper }
+    /// How long until a tick has something to do, if no call comes before it, in microseconds.
+    pub fn wait(&self, now: u64) -> u32
+        ensures { ForKeeping self.now.keeper (λ k. result ≡ wait_at k (now % 2 ^ 32)) }
     {
-        &self.keeper
+        self.keeper.wait(low(now))
     }
 }
 

@@ -1,6 +1,6 @@
 //! Laws of an audit over its definitions. They have no code.
 
-ghost use Rattle.std.specs.Prelude.{◌≡◌, ◌∷◌, ◌%◌, ◌^◌, ◌<◌, ◌≤◌, ◌+◌, ◌*◌, ℕ, List, Some, true, false};
+ghost use Rattle.std.specs.Prelude.{◌≡◌, ◌↔◌, ◌∷◌, ◌%◌, ◌^◌, ◌<◌, ◌≤◌, ◌+◌, ◌*◌, ℕ, List, Some, true, false};
 ghost use Rattle.irig_frame.specs.declared.symbol.Symbol.{Symbol};
 ghost use Rattle.irig_sync.specs.Lines.{Pulse};
 ghost use Rattle.irig_time.specs.Timelines.{TimelineValue};
@@ -12,9 +12,10 @@ ghost use Rattle.irig_timekeeper.specs.Life.{Call, Made, AreInOrder, LivesTruly,
 ghost use Rattle.irig_timekeeper.specs.Life.Call.{Tick};
 ghost use Rattle.irig_lives.specs.Decided.{in_order};
 ghost use Rattle.irig_witness.specs.Oscillator.{AreLatePulses, KeepsRate, counter_at, edges_by};
-ghost use Rattle.irig_witness.specs.Witness.{TrueLines, is_doubted, is_kept, lines_by};
+ghost use Rattle.irig_witness.specs.Witness.{KeepsPremises, TrueLines, is_doubted, is_kept, lines_by};
 ghost use Rattle.irig_witness.specs.Promise.{IsStampedInTime, IsTrueDevice, IsTrueSetup, lines_of};
 
+use irig_lines::ClockRules;
 use irig_time::UtcSecond;
 use irig_timekeeper::{Beat, Stamp};
 use irig_vote::Redundancy;
@@ -85,6 +86,16 @@ pub fn an_audit_doubts_no_true_line()
         → AreInOrder start redundancy calls
         → ArePulsesLately within (symbol line) (edges_by first rate) now k (pulses_on line calls)
         → is_doubted within (lines_by symbol first rate) calls now line ≡ false }
+{}
+
+/// An audit is exact: beside lines of whatever symbols, by a counter that keeps a rate, it is kept exactly
+/// if calls were in order, and at each tick all but at most f lines had brought in the last 1.2 s only
+/// pulses of their elements, in order, each so near its place as the setting says.
+pub fn an_audit_is_exact()
+    ensures { (d first rate : ℕ) (symbol : ℕ → ℕ → Symbol) (clock : ClockRules) (start : ℕ)
+        (calls : List Call) → KeepsRate d rate
+        → KeepsPremises clock (lines_by symbol first rate) start calls
+        ↔ (is_kept clock (lines_by symbol first rate) start calls ≡ true) }
 {}
 
 /// A late line is true: let its pulses come in order, each between `least` and `most` microseconds of true

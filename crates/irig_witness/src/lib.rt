@@ -12,7 +12,8 @@ mod watch;
 
 pub use device::Device;
 pub use laws::{
-    a_device_vouches, a_late_line_is_true, an_audit_doubts_no_true_line, an_audit_is_right,
+    a_device_vouches, a_late_line_is_true, an_audit_doubts_no_true_line, an_audit_is_exact,
+    an_audit_is_right,
 };
 pub use line::{LineWitness, Risen, after_rise, new_witness};
 pub use oscillator::Oscillator;

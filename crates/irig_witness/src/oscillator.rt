@@ -2,7 +2,7 @@
 
 ghost use Rattle.std.specs.Prelude.{◌≡◌, ◌≤◌, ◌<◌, ◌^◌, ◌+◌};
 ghost use Rattle.irig_sync.specs.Edges.{element_at};
-ghost use Rattle.irig_witness.specs.Oscillator.{edges_by, element_near};
+ghost use Rattle.irig_witness.specs.Oscillator.{counter_at, edges_by, element_near};
 
 /// The counter of a device, as it truly runs, at a constant rate. Here it does not wrap.
 #[derive(Clone, Copy, PartialEq, Eq)]
@@ -25,6 +25,15 @@ impl Oscillator {
         ensures rate { result.rate_us ≡ rate_us }
     {
         Oscillator { first_us, rate_us }
+    }
+
+    /// What it shows so many microseconds of true time behind where T(0) begins, less than 2^43 of them.
+    pub fn shows(self, time_us: u64) -> u64
+        requires { time_us < 2 ^ 43 }
+        ensures value { result ≡ counter_at self.first_us self.rate_us time_us }
+        ensures small { result < 2 ^ 57 }
+    {
+        self.first_us + time_us * u64::from(self.rate_us) / 1_000_000
     }
 
     /// The element of its line of which alone a pulse may be that rose then, less than 2^56 us: the

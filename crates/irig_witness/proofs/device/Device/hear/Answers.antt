@@ -1,34 +1,32 @@
-use Rattle.std.proofs.Common.{◌≡◌, ◌∙◌, ℕ, ◌%◌, ◌^◌, ◌∷◌, refl, sym, ap, subst}
+use Rattle.std.proofs.Common.{◌≡◌, ◌∙◌, ℕ, ◌%◌, ◌^◌, ◌∷◌, sym, ap, subst}
 use Rattle.irig_lines.specs.declared.setup.ClockRules.{ClockRules}
 use Rattle.irig_lines.specs.Delays.{corrected, delay_at}
 use Rattle.irig_timekeeper.specs.Keeping.{place_told}
 use Rattle.irig_timekeeper.specs.Life.Call.{Hear}
 use Rattle.irig_witness.specs.Oscillator.{element_near}
-use Rattle.irig_witness.specs.Witness.{lines_by}
 use Rattle.irig_witness.specs.Watches.{IsWatchOf}
-use Rattle.irig_witness.specs.Devices.{risen_on}
+use Rattle.irig_witness.specs.Devices.{lines_on, risen_on}
 use Rattle.irig_witness.proofs.device.Device.hear.Goals as goal
+
+-- what the timekeeper takes the rise to be, by the delays of the same rules
+low_is : (rise line low risen : ℕ) (c k : ClockRules) → low ≡ rise % 2 ^ 32 → k ≡ c → corrected (rise % 2 ^ 32) (delay_at c.delays line) ≡ risen % 2 ^ 32 → corrected low (delay_at k.delays line) ≡ risen % 2 ^ 32
+low_is rise line low risen c k is same e =
+    ap (λ (n : ℕ). corrected n (delay_at k.delays line)) is ∙ ap (λ (r : ClockRules). corrected (rise % 2 ^ 32) (delay_at r.delays line)) same ∙ e
 
 pub returns-clause-on : goal.returns-clause-on
 returns-clause-on g c made symbol start calls is said =
     let d = c.args.self.now in
     let line = c.args.line in
-    let first = d.oscillator.first_us in
-    let rate = d.oscillator.rate_us in
-    let x = lines_by symbol first rate in
     let rise : c.risen_on-rise.result ≡ risen_on d line c.args.rise_us = c.risen_on-rise.ensures.value in
     let low : corrected c.low.result (delay_at made.clock.delays line) ≡ risen_on d line c.args.rise_us % 2 ^ 32 =
-        ap (λ (n : ℕ). corrected n (delay_at made.clock.delays line)) c.low.ensures
-        ∙ ap (λ (k : ClockRules). corrected (c.args.rise_us % 2 ^ 32) (delay_at k.delays line)) (sym is.clock)
-        ∙ c.risen_on-rise.ensures.low ∙ ap (λ (n : ℕ). n % 2 ^ 32) rise in
-    let element : c.element_near-element.result ≡ element_near first rate (risen_on d line c.args.rise_us) = c.element_near-element.ensures.value ∙ ap (element_near first rate) rise in
-    let heard : IsWatchOf c.hear-self.result d.clock x start (Hear line c.risen_on-rise.result c.args.width_us ∷ calls) =
-        c.hear-self.ensures x start calls (subst (λ (k : ClockRules). IsWatchOf d.watch k x start calls) (sym is.clock) is.watch) c.element_near-element.ensures.value c.begins.ensures.value
-        (said ∙ ap (symbol line) (sym element)) in
+    low_is c.args.rise_us line c.low.result (risen_on d line c.args.rise_us) d.clock made.clock c.low.ensures (sym is.clock) (c.risen_on-rise.ensures.low ∙ ap (λ (n : ℕ). n % 2 ^ 32) rise) in
+    let heard : IsWatchOf c.hear-self.result d.clock (lines_on d symbol) start (Hear line c.risen_on-rise.result c.args.width_us ∷ calls) =
+    c.hear-self.ensures (lines_on d symbol) start calls (subst (λ (k : ClockRules). IsWatchOf d.watch k (lines_on d symbol) start calls) (sym is.clock) is.watch) c.element_near-element.ensures.value c.begins.ensures.value
+    (said ∙ ap (symbol line) (sym (c.element_near-element.ensures.value ∙ ap (element_near d.oscillator.first_us d.oscillator.rate_us) rise))) in
     record {
       lived = c.hear.ensures.lived made calls (risen_on d line c.args.rise_us) is.lived low;
-      watch = subst (λ (k : ClockRules). IsWatchOf c.hear-self.result k x start (Hear line (risen_on d line c.args.rise_us) c.args.width_us ∷ calls)) is.clock
-          (subst (λ (n : ℕ). IsWatchOf c.hear-self.result d.clock x start (Hear line n c.args.width_us ∷ calls)) rise heard);
+      watch = subst (λ (k : ClockRules). IsWatchOf c.hear-self.result k (lines_on d symbol) start (Hear line (risen_on d line c.args.rise_us) c.args.width_us ∷ calls)) is.clock
+          (subst (λ (n : ℕ). IsWatchOf c.hear-self.result d.clock (lines_on d symbol) start (Hear line n c.args.width_us ∷ calls)) rise heard);
       clock = is.clock;
     }
 
@@ -36,10 +34,6 @@ pub returns-clause-place : goal.returns-clause-place
 returns-clause-place g c k is =
     let d = c.args.self.now in
     let line = c.args.line in
-    let rise : c.risen_on-rise.result ≡ risen_on d line c.args.rise_us = c.risen_on-rise.ensures.value in
-    let clock : k.clock ≡ d.clock = sym is.clock ∙ d.same in
     let low : corrected c.low.result (delay_at k.clock.delays line) ≡ risen_on d line c.args.rise_us % 2 ^ 32 =
-        ap (λ (n : ℕ). corrected n (delay_at k.clock.delays line)) c.low.ensures
-        ∙ ap (λ (r : ClockRules). corrected (c.args.rise_us % 2 ^ 32) (delay_at r.delays line)) clock
-        ∙ c.risen_on-rise.ensures.low ∙ ap (λ (n : ℕ). n % 2 ^ 32) rise in
-    c.hear.ensures.place k is ∙ ap (λ (n : ℕ). place_told k line n c.args.width_us) low
+    low_is c.args.rise_us line c.low.result (risen_on d line c.args.rise_us) d.clock k.clock c.low.ensures (sym is.clock ∙ d.same) (c.risen_on-rise.ensures.low ∙ ap (λ (n : ℕ). n % 2 ^ 32) c.risen_on-rise.ensures.value) in
+    ◌∙◌ {b = place_told k line (corrected c.low.result (delay_at k.clock.delays line)) c.args.width_us} (c.hear.ensures.place k is) (ap (λ (n : ℕ). place_told k line n c.args.width_us) low)

@@ -1,4 +1,4 @@
-use Rattle.std.proofs.Common.{◌≡◌, ◌∙◌, ℕ, ◌∷◌, sym, subst}
+use Rattle.std.proofs.Common.{◌∙◌, ℕ, ◌∷◌, sym, subst}
 use Rattle.std.proofs.lemmas.Bool.{and_from}
 use Rattle.irig_timekeeper.specs.Life.Call.{Tick}
 use Rattle.irig_timekeeper.specs.Truth.{IsStampedTruly}

@@ -1,4 +1,4 @@
-use Rattle.std.proofs.Common.{◌≡◌, ◌∙◌, ℕ, refl, ap}
+use Rattle.std.proofs.Common.{◌∙◌, ℕ, refl, ap}
 use Rattle.irig_witness.specs.Watches.{kept_at_tick}
 use Rattle.irig_witness.proofs.WatchLaws.{ticks_on}
 use Rattle.irig_witness.proofs.watch.Watch.tick.Goals as goal
