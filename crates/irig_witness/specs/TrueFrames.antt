@@ -32,6 +32,7 @@ is_harmless rules t f s =
 abbrev pub blank_at : ℕ → Symbol
 blank_at k = if is_marker_place k then Marker else Zero
 
+-- all of it
 unfoldable pub blank : List Symbol
 blank = map blank_at (range_with_len 0 100)
 

@@ -43,6 +43,7 @@ abbrev pub may_hear : Watch → (line rise : ℕ) → Bool
 may_hear w line rise =
     nat_le (witness_at w line).rise rise && nat_le w.last_tick (rise + 500000)
 
+-- a count of one
 abbrev pub one_if : Bool → ℕ
 one_if b = if b then 1 else 0
 

@@ -81,9 +81,9 @@ impl<P: Port> Device<P> {
         self.oscillator.element_near(rise)
     }
 
-    /// A pulse on a line, once it has ended: its place in its frame, 1 to 100, or 0 out of step. It rises
-    /// at `rise_us`, at the device, and is `width_us` microseconds wide. A true line has `symbol` at the
-    /// [`element`](Self::element) that it may be.
+    /// A pulse on a line, once it has ended, to the timekeeper and to its audit: its place in its frame, 1
+    /// to 100, or 0 out of step. It rises at the device at `rise_us`, and is `width_us` microseconds wide.
+    /// A true line has `symbol` at the [`element`](Self::element) that it may be.
     pub fn hear(&mut self, line: u8, rise_us: u64, width_us: u32, symbol: Symbol) -> u8
         requires line { line < ports_in self.old.clock.redundancy }
         requires late { 32768 ≤ rise_us }
@@ -124,20 +124,21 @@ impl<P: Port> Device<P> {
         }
     }
 
-    /// A tick: what is said of a second, if an edge has come since the last one.
+    /// A tick, of the timekeeper and of its audit: what is said of a second, if an edge has come since the
+    /// last one.
     pub fn tick(&mut self, now: u64) -> Option<Beat>
         requires { now < 2 ^ 56 }
         ensures on { TicksOn self.old self.new now }
         ensures answer { ForKeeping self.old.keeper (λ k. result ≡ answer_at k (now % 2 ^ 32)) }
+        ensures set { IsSetAs self.new self.old }
         // the law `a_device_vouches`
         ensures truth { TellsTruly self.old self.new now result }
-        ensures set { IsSetAs self.new self.old }
     {
         self.watch = self.watch.tick(&self.clock, now);
         self.keeper.tick(low(now))
     }
 
-    /// The stamp of an event, by the counter.
+    /// The stamp of an event at a time, by the seconds that were announced last.
     pub fn stamp(&self, time: u64) -> Option<Stamp>
         ensures value { ForKeeping self.now.keeper (λ k. result ≡ stamp_at k (time % 2 ^ 32)) }
         // the law `a_device_vouches`

@@ -20,8 +20,8 @@ use irig_time::UtcSecond;
 use irig_timekeeper::{Beat, Stamp};
 use irig_vote::Redundancy;
 
-/// An audit is right: if it says of a device's calls that the premises were kept, the device lived
-/// truly, whatever its counter is compared with, as long as that is true.
+/// An audit is right: let a device be what its setting says, and the lines true beside which its calls
+/// are audited. If the audit is kept, the device has lived as the laws of a timekeeper ask.
 pub fn an_audit_is_right()
     ensures lives { (t : TimelineValue) (x : TrueLines) (made : Made) (start : ℕ)
         (calls : List Call) → IsTrueDevice t made.rules made.clock made.table x

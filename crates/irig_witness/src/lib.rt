@@ -15,6 +15,6 @@ pub use laws::{
     a_device_vouches, a_late_line_is_true, an_audit_doubts_no_true_line, an_audit_is_exact,
     an_audit_is_right,
 };
-pub use line::{LineWitness, Risen, after_rise, new_witness};
+pub use line::{LineWitness, Risen};
 pub use oscillator::Oscillator;
 pub use watch::Watch;

@@ -43,8 +43,8 @@ pub struct Risen {
 // The first tick that no longer asks for a pulse comes so long behind its rise.
 const FORGET_US: u64 = 1_200_001;
 
-/// Of a line on which nothing has come.
-pub fn new_witness() -> LineWitness
+// Of a line on which nothing has come.
+pub(crate) fn new_witness() -> LineWitness
     ensures { result ≡ witness.new_witness }
 {
     LineWitness {
@@ -56,9 +56,8 @@ pub fn new_witness() -> LineWitness
     }
 }
 
-/// What is known of a line behind a pulse, if a pulse of a true line rises less than `within_us`
-/// microseconds from its element's begin.
-pub fn after_rise(line: LineWitness, within_us: u32, pulse: Risen) -> LineWitness
+// Behind a pulse. Those of a true line rise less than `within_us` from their elements' begins.
+pub(crate) fn after_rise(line: LineWitness, within_us: u32, pulse: Risen) -> LineWitness
     requires within { within_us ≤ most_within_us }
     requires rise { pulse.rise < 2 ^ 58 }
     requires element { pulse.element < 2 ^ 58 }

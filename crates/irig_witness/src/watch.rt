@@ -51,7 +51,7 @@ impl Watch {
         self.is_kept
     }
 
-    /// What it is behind a pulse that a line's counter told, with what a true line has there.
+    /// What it is behind a pulse on a line, with what a true line has there.
     pub fn hear(self, clock: &ClockRules, line: u8, pulse: Risen) -> Self
         requires line { line < ports_in clock.now.redundancy }
         requires rise { pulse.rise < 2 ^ 58 }
