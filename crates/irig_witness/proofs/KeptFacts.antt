@@ -6,6 +6,8 @@ use Rattle.std.proofs.Common.{◌≡◌, ◌∙◌, ℕ, zero, suc, ◌+◌, ◌
 use Rattle.std.specs.Prelude.{◌==◌, nat_le}
 use Rattle.std.proofs.Math.Path.{fun_ext}
 use Rattle.irig_frame.specs.declared.symbol.Symbol.{Symbol}
+use Rattle.irig_sync.specs.Lines.{Pulse, pulse_at}
+use Rattle.irig_lines.specs.Lines.{ArePulsesLately}
 use Rattle.irig_frame.specs.Faults.{values_of, field_at}
 use Rattle.irig_control.specs.Parity.{ones}
 use Rattle.irig_control.specs.Control.{control_of, offset_in}
@@ -28,10 +30,11 @@ use Rattle.irig_timekeeper.specs.Rule.{step_checked, goes_against}
 use Rattle.irig_timekeeper.specs.Truth.{IsToldInHoldover}
 use Rattle.irig_lives.specs.Decided.{is_after, have_risen, in_order, is_same, is_pulse_of}
 use Rattle.irig_lives.proofs.LifeFacts.{are_new, at, claim_of, clock, frame, line, new_lines, no_table, noon, nothing, rules, silence, told_0, told_1, told_2, true_claim, true_table, width_of}
-use Rattle.irig_witness.specs.Oscillator.{begins_at, counter_at, edges_by}
+use Rattle.irig_witness.specs.Oscillator.{AreLatePulses, begins_at, counter_at, edges_by}
 use Rattle.irig_witness.specs.TrueFrames.{claims_only, is_harmless, true_symbol}
 use Rattle.irig_witness.specs.Witness.{is_kept, lines_by}
 use Rattle.irig_witness.specs.Promise.{IsStampedInTime, IsTrueSetup, lines_of}
+use Rattle.irig_witness.proofs.LateLaws.{late_true}
 use Rattle.irig_witness.proofs.VouchLaws.{device, in_time, stamps, tells}
 
 -- ---- the plant line
@@ -154,3 +157,16 @@ broken = refl
 
 broken_by_plant : is_kept made.clock (lines_of rules noon sent first rate) start (Tick now ∷ elements_before 600 300) ≡ false
 broken_by_plant = ap (λ x. is_kept made.clock x start (Tick now ∷ elements_before 600 300)) same_lines ∙ broken
+
+-- ---- two pulses of a line that comes 350 us late, of which the device takes 300 us off, are those of a true
+-- line by a setting of 52 us
+
+abbrev late_pulses : List Pulse
+late_pulses = pulse_at 4293510050 2000 ∷ pulse_at 4293500050 8000 ∷ []
+
+late : AreLatePulses line first rate 350 350 300 2 late_pulses
+unfolding line frame
+late = (1, omega arith, refl, (350, omega arith, omega arith, refl), (0, omega arith, refl, (350, omega arith, omega arith, refl), tt))
+
+late_are_true : (then : ℕ) → ArePulsesLately 52 line (edges_by first rate) then 2 late_pulses
+late_are_true then = late_true 40 first rate setup.steady 52 350 350 300 (omega arith) (omega arith) (omega arith) line then 2 late_pulses late

@@ -52,7 +52,7 @@ impl<P: Port> Device<P> {
         requires rules { IsReaderRules clock.reader_rules }
         requires start { start < 2 ^ 56 }
         ensures { MatchResult result
-            (λ device. (device.oscillator ≡ oscillator)
+            (λ device. (device.clock ≡ clock) × (device.oscillator ≡ oscillator)
             × ((symbol : ℕ → ℕ → Symbol) → IsDeviceOf device (record {
               rules = rules;
               clock = clock;

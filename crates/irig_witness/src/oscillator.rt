@@ -9,16 +9,18 @@ ghost use Rattle.irig_witness.specs.Oscillator.{counter_at, edges_by, element_ne
 pub struct Oscillator {
     pub(crate) first_us: u64,
     pub(crate) rate_us: u32,
-    ghost early: { first_us < 2 ^ 56 },
+    ghost late: { 32768 ≤ first_us },
+    ghost early: { first_us < 2 ^ 55 },
     ghost least: { 999000 ≤ rate_us },
     ghost most: { rate_us ≤ 1001000 },
 }
 
 impl Oscillator {
-    /// A counter that shows so many microseconds where T(0) begins, less than 2^56, and counts on by
-    /// so many in each second, 999,000 to 1,001,000.
+    /// A counter that shows so many microseconds where T(0) begins, 2^15 or more and less than 2^55, and
+    /// counts on by so many in each second, 999,000 to 1,001,000.
     pub fn new(first_us: u64, rate_us: u32) -> Self
-        requires early { first_us < 2 ^ 56 }
+        requires late { 32768 ≤ first_us }
+        requires early { first_us < 2 ^ 55 }
         requires least { 999000 ≤ rate_us }
         requires most { rate_us ≤ 1001000 }
         ensures first { result.first_us ≡ first_us }
@@ -31,7 +33,8 @@ impl Oscillator {
     pub fn shows(self, time_us: u64) -> u64
         requires { time_us < 2 ^ 43 }
         ensures value { result ≡ counter_at self.first_us self.rate_us time_us }
-        ensures small { result < 2 ^ 57 }
+        ensures late { 32768 ≤ result }
+        ensures small { result + 32768 < 2 ^ 56 }
     {
         self.first_us + time_us * u64::from(self.rate_us) / 1_000_000
     }

@@ -15,6 +15,8 @@ mod generators;
 #[cfg(test)]
 mod keepers;
 #[cfg(test)]
+mod played;
+#[cfg(test)]
 mod ports;
 #[cfg(test)]
 mod rates;
