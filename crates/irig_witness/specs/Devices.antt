@@ -42,8 +42,8 @@ abbrev pub lines_on : {P : Type 0} {g : Ghosts P} → Device P g
     → (symbol : (line element : ℕ) → Symbol) → TrueLines
 lines_on device symbol = lines_by symbol device.oscillator.first_us device.oscillator.rate_us
 
--- it was made of this, its life began at a time, and these calls came since, the newest first; its audit
--- is of them, beside lines of these symbols
+-- it was made of this, its life began at a time, and these calls came since, the newest first; its
+-- audit is of them, beside lines of these symbols
 pub record IsDeviceOf {P : Type 0} {g : Ghosts P} (device : Device P g) (made : MadeOf)
     (symbol : (line element : ℕ) → Symbol) (start : ℕ) (calls : List Call)
     : Type 0 where
@@ -71,8 +71,8 @@ TicksOn old new now =
     → IsDeviceOf old made symbol start calls
     → IsDeviceOf new made symbol start (Tick now ∷ calls)
 
--- if the audit is kept behind a tick, beside what generators sent, the second that the tick announces is
--- the true one, and its told edge lies near it
+-- if the audit is kept behind a tick, beside what generators sent, the second that the tick
+-- announces is the true one, and its told edge lies near it
 abbrev pub TellsTruly : {P : Type 0} {g : Ghosts P} → (old new : Device P g) → (now : ℕ)
     → Option Beat → Type 0
 TellsTruly old new now told =

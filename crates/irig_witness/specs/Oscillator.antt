@@ -1,5 +1,5 @@
--- A device's true oscillator: what its counter shows at a true time, and when elements begin by it. The
--- counter does not wrap here.
+-- A device's true oscillator: what its counter shows at a true time, and when elements begin by it.
+-- The counter does not wrap here.
 -- Source: this project's profile.
 use Rattle.std.specs.Prelude.{◌≡◌, ℕ, ◌+◌, ◌-◌, ◌*◌, ◌/◌, ◌<◌, ◌≤◌, List, [], ◌∷◌, ⊤}
 use Rattle.irig_frame.specs.declared.symbol.Symbol.{Symbol}
@@ -7,8 +7,8 @@ use Rattle.irig_frame.specs.Symbols.{symbol_of}
 use Rattle.irig_sync.specs.Lines.{Pulse}
 use Rattle.irig_lines.specs.Exactness.{most_drift_us, most_within_us}
 
--- when T(n) begins by a counter that showed its first number where T(0) began, and counts on by so much
--- in each second
+-- when T(n) begins by a counter that showed its first number where T(0) began, and counts on by so
+-- much in each second
 abbrev pub edges_by : (first rate : ℕ) → ℕ → ℕ
 edges_by first rate n = first + n * rate
 
@@ -30,8 +30,9 @@ pub record KeepsRate (d rate : ℕ) : Type 0 where
 abbrev pub begins_at : ℕ → ℕ
 begins_at k = k * 10000
 
--- the pulses, the newest first, are those of some elements before the k-th, in order. Each rose between
--- `least` and `most` us of true time behind its element's begin, and `taken` us are taken off its rise
+-- the pulses, the newest first, are those of some elements before the k-th, in order. Each rose
+-- between `least` and `most` us of true time behind its element's begin, and `taken` us are taken
+-- off its rise
 abbrev pub AreLatePulses : (ℕ → Symbol) → (first rate least most taken : ℕ) → ℕ → List Pulse
     → Type 0
 AreLatePulses line first rate least most taken k [] = ⊤

@@ -24,8 +24,8 @@ pub record IsTrueDevice (t : TimelineValue) (rules : Rules) (c : ClockRules) (ta
   pub learns : WandersAsSet c x.edges
   pub lines : (line : ℕ) → IsLineOf rules t (x.symbol line)
 
--- what a plant line has to say of a device: its counter keeps its rate, and its leap table is true if it
--- needs one
+-- what a plant line has to say of a device: its counter keeps its rate, and its leap table is true
+-- if it needs one
 pub record IsTrueSetup (t : TimelineValue) (rate : ℕ) (c : ClockRules) (table : TableValue)
     : Type 0 where
   pub times : IsTimeline t
@@ -38,8 +38,8 @@ abbrev pub lines_of : Rules → TimelineValue → (sent : (line second : ℕ) �
 lines_of rules t sent first rate =
     lines_by (λ line. true_symbol rules t (sent line)) first rate
 
--- the stamp names the instant so many microseconds behind T(n), but for its bound and the drift of two
--- seconds
+-- the stamp names the instant so many microseconds behind T(n), but for its bound and the drift of
+-- two seconds
 pub record IsStampedInTime (t : TimelineValue) (d n tau : ℕ) (stamp : Stamp) : Type 0 where
   pub m : ℕ
   pub truth : IsSecond t m stamp.second

@@ -1,5 +1,5 @@
--- What a line carries if it is true: the frames that its generator sends, but for those that claim what
--- is not so.
+-- What a line carries if it is true: the frames that its generator sends, but for those that claim
+-- what is not so.
 -- Source: docs/WIRES.md, what a timekeeper asks; docs/SCENARIOS.md.
 use Rattle.std.specs.Prelude.{ℕ, ◌/◌, ◌%◌, ◌==◌, Bool, true, false, ◌&&◌, if◌then◌else◌, List, [], ◌∷◌, length, map, get_or, Option, Some, None, is_none}
 use Rattle.std.specs.List.{range_with_len}
@@ -21,8 +21,8 @@ claims_only (Some truth) (tells.Claim c) = same_claim c truth
 claims_only None (tells.Claim c) = false
 claims_only truth _ = true
 
--- these symbols are a frame of the f-th second that does no harm: each may stand at its element, and
--- together they claim nothing but the truth
+-- these symbols are a frame of the f-th second that does no harm: each may stand at its element,
+-- and together they claim nothing but the truth
 abbrev pub is_harmless : Rules → TimelineValue → ℕ → List Symbol → Bool
 is_harmless rules t f s =
     (length s == 100) && is_none (first_wrong 0 s)

@@ -1,5 +1,5 @@
--- The audit of a device: a fold over its calls, beside what true lines would have sent. It says if the
--- premises were kept under which a timekeeper tells the truth.
+-- The audit of a device: a fold over its calls, beside what true lines would have sent. It says if
+-- the premises were kept under which a timekeeper tells the truth.
 -- Source: docs/WIRES.md, what a timekeeper asks.
 use Rattle.std.specs.Prelude.{◌≡◌, ℕ, ◌+◌, ◌==◌, ◌<◌, ◌≤◌, Bool, true, false, ◌&&◌, nat_lt, nat_le, max, if◌then◌else◌, List, [], ◌∷◌, count_by, ⊤}
 use Rattle.std.specs.List.{range_with_len}
@@ -15,8 +15,8 @@ use Rattle.irig_lives.specs.Decided.{in_order, is_pulse_of}
 use Rattle.irig_witness.specs.declared.line.LineWitness.{LineWitness}
 use Rattle.irig_witness.specs.Oscillator.{edges_by, element_near}
 
--- what true lines would have sent: the symbol of each line at each element, when seconds begin, and which
--- element alone a rise may be of
+-- what true lines would have sent: the symbol of each line at each element, when seconds begin, and
+-- which element alone a rise may be of
 pub record TrueLines : Type 0 where
   pub symbol : (line element : ℕ) → Symbol
   pub edges : ℕ → ℕ
@@ -44,8 +44,8 @@ forgets rise = rise + 1200001
 abbrev pub after_false : LineWitness → (rise : ℕ) → LineWitness
 after_false a rise = record a { clear = max a.clear (forgets rise); rise = rise }
 
--- behind a pulse of the j-th element: that is one that was yet to come; or it is that of the last pulse,
--- which then was the false one; or it was past
+-- behind a pulse of the j-th element: that is one that was yet to come; or it is that of the last
+-- pulse, which then was the false one; or it was past
 abbrev pub after_true : LineWitness → (j rise : ℕ) → LineWitness
 after_true a j rise =
     if nat_le a.next j

@@ -40,8 +40,9 @@ impl<P: Port> Device<P> {
     ghost use Rattle.irig_witness.specs.Witness.{is_kept};
     ghost use Rattle.irig_witness.specs.Watches.{may_tick};
 
-    /// A device to which nothing has happened, and whose life begins at a time, with reader's rules that
-    /// are [`in_range`](irig_reader::in_range); or the setup's [`first fault`](irig_lines::clock_fault).
+    /// A device to which nothing has happened, and whose life begins at a time, with reader's rules
+    /// that are [`in_range`](irig_reader::in_range); or the first fault of its setup, by
+    /// [`clock_fault`](irig_lines::clock_fault).
     pub fn new(
         rules: Rules,
         clock: ClockRules,
@@ -81,9 +82,9 @@ impl<P: Port> Device<P> {
         self.oscillator.element_near(rise)
     }
 
-    /// A pulse on a line, once it has ended, to the timekeeper and to its audit: its place in its frame, 1
-    /// to 100, or 0 out of step. It rises at the device at `rise_us`, and is `width_us` microseconds wide.
-    /// A true line has `symbol` at the [`element`](Self::element) that it may be.
+    /// A pulse on a line, once it has ended, to the timekeeper and to its audit: its place in its
+    /// frame, 1 to 100, or 0 out of step. It rises at the device at `rise_us`, and is `width_us`
+    /// microseconds wide. A true line has `symbol` at its [`element`](Self::element).
     pub fn hear(&mut self, line: u8, rise_us: u64, width_us: u32, symbol: Symbol) -> u8
         requires line { line < ports_in self.old.clock.redundancy }
         requires late { 32768 ≤ rise_us }
@@ -124,8 +125,8 @@ impl<P: Port> Device<P> {
         }
     }
 
-    /// A tick, of the timekeeper and of its audit: what is said of a second, if an edge has come since the
-    /// last one.
+    /// A tick, of the timekeeper and of its audit: what is said of a second, if an edge has come
+    /// since the last one.
     pub fn tick(&mut self, now: u64) -> Option<Beat>
         requires { now < 2 ^ 56 }
         ensures on { TicksOn self.old self.new now }

@@ -20,8 +20,8 @@ use irig_time::UtcSecond;
 use irig_timekeeper::{Beat, Stamp};
 use irig_vote::Redundancy;
 
-/// An audit is right: let a device be what its setting says, and the lines true beside which its calls
-/// are audited. If the audit is kept, the device has lived as the laws of a timekeeper ask.
+/// An audit is right: let a device be what its setting says, and the lines true beside which its
+/// calls are audited. If the audit is kept, the device has lived as the laws of a timekeeper ask.
 pub fn an_audit_is_right()
     ensures lives { (t : TimelineValue) (x : TrueLines) (made : Made) (start : ℕ)
         (calls : List Call) → IsTrueDevice t made.rules made.clock made.table x
@@ -35,8 +35,8 @@ pub fn an_audit_is_right()
         → answer_at (life_of made calls) (now % 2 ^ 32) ≡ Some beat
         → beat.report.announce ≡ Some u
         → IsToldInHoldover t x.edges 0 0 made.clock now beat u }
-    // And each stamp names its instant that is asked for at a time at which a tick could come, of an event
-    // of the half hour before.
+    // And each stamp names its instant that is asked for at a time at which a tick could come, of
+    // an event of the half hour before.
     ensures stamps { (t : TimelineValue) (x : TrueLines) (made : Made) (start time now : ℕ)
         (calls : List Call) (stamp : Stamp) → IsTrueDevice t made.rules made.clock made.table x
         → is_kept made.clock x start calls ≡ true
@@ -46,10 +46,11 @@ pub fn an_audit_is_right()
         → IsStampedTruly t x.edges 0 time stamp }
 {}
 
-/// A device vouches for what it says, by what a plant line says of it alone: the timeline, a counter that
-/// keeps to its rate, and a leap table that is true, or a holdover of at most 57 seconds. Whatever its
-/// generators sent, and whatever else happened to it, if its audit is kept beside what they sent, each
-/// second that it announces is the true one, and its told edge lies near it.
+/// A device vouches for what it says, by what a plant line says of it alone: the timeline, a
+/// counter that keeps to its rate, and a leap table that is true, or a holdover of at most 57
+/// seconds. Whatever its generators sent, and whatever else happened to it, if its audit is kept
+/// beside what they sent, each second that it announces is the true one, and its told edge lies
+/// near it.
 pub fn a_device_vouches()
     ensures tells { (t : TimelineValue) (sent : ℕ → ℕ → List (List Symbol)) (first rate : ℕ)
         (made : Made) (start now : ℕ) (calls : List Call) (beat : Beat) (u : UtcSecond)
@@ -58,8 +59,8 @@ pub fn a_device_vouches()
         → answer_at (life_of made calls) (now % 2 ^ 32) ≡ Some beat
         → beat.report.announce ≡ Some u
         → IsToldInHoldover t (edges_by first rate) 0 0 made.clock now beat u }
-    // By true time: a stamp of the instant so many microseconds behind T(n) names one that lies no further
-    // from it than its bound and the drift of two seconds.
+    // By true time: a stamp of the instant so many microseconds behind T(n) names one that lies no
+    // further from it than its bound and the drift of two seconds.
     ensures stamps { (t : TimelineValue) (sent : ℕ → ℕ → List (List Symbol))
         (first rate n tau : ℕ) (made : Made) (start now : ℕ) (calls : List Call) (stamp : Stamp)
         → IsTrueSetup t rate made.clock made.table → tau < 1000000
@@ -70,16 +71,17 @@ pub fn a_device_vouches()
         → stamp_at (life_of made calls) (counter_at first rate (n * 1000000 + tau) % 2 ^ 32)
         ≡ Some stamp
         → IsStampedInTime t made.clock.drift_us n tau stamp }
-    // Two devices stamp one instant alike, each with a counter, lines, ticks and a setting of its own:
-    // their stamps differ by the sum of their bounds at most, and the drift of two seconds of each.
+    // Two devices stamp one instant alike, each with a counter, lines, ticks and a setting of its
+    // own: their stamps differ by the sum of their bounds at most, and the drift of two seconds of
+    // each.
     ensures together { (t : TimelineValue) (d e n tau : ℕ) (one two : Stamp)
         → (by_one : IsStampedInTime t d n tau one) → (by_two : IsStampedInTime t e n tau two)
         → by_one.m * 1000000 + one.offset_us
         ≤ by_two.m * 1000000 + two.offset_us + one.bound_us + two.bound_us + 2 * d + 2 * e }
 {}
 
-/// No alarm too many: a line whose pulses of the last 1.2 s are those of the line that the audit compares
-/// it with, each so near its place as the setting says, is not doubted.
+/// No alarm too many: a line whose pulses of the last 1.2 s are those of the line that the audit
+/// compares it with, each so near its place as the setting says, is not doubted.
 pub fn an_audit_doubts_no_true_line()
     ensures { (d first rate within : ℕ) (symbol : ℕ → ℕ → Symbol) (redundancy : Redundancy)
         (start line now k : ℕ) (calls : List Call) → KeepsRate d rate → within ≤ most_within_us
@@ -88,9 +90,9 @@ pub fn an_audit_doubts_no_true_line()
         → is_doubted within (lines_by symbol first rate) calls now line ≡ false }
 {}
 
-/// An audit is exact: beside lines of whatever symbols, by a counter that keeps a rate, it is kept exactly
-/// if calls were in order, and at each tick all but at most f lines had brought in the last 1.2 s only
-/// pulses of their elements, in order, each so near its place as the setting says.
+/// An audit is exact: beside lines of whatever symbols, by a counter that keeps a rate, it is kept
+/// exactly if calls were in order, and at each tick all but at most f lines had brought in the last
+/// 1.2 s only pulses of their elements, in order, each so near its place as the setting says.
 pub fn an_audit_is_exact()
     ensures { (d first rate : ℕ) (symbol : ℕ → ℕ → Symbol) (clock : ClockRules) (start : ℕ)
         (calls : List Call) → KeepsRate d rate
@@ -98,9 +100,9 @@ pub fn an_audit_is_exact()
         ↔ (is_kept clock (lines_by symbol first rate) start calls ≡ true) }
 {}
 
-/// A late line is true: let its pulses come in order, each between `least` and `most` microseconds of true
-/// time behind its element's begin, and let the device take a delay of `taken` off. If that leaves them
-/// by 2 us nearer their places than the setting says, they are those of a true line.
+/// A late line is true: let its pulses come in order, each between `least` and `most` microseconds
+/// of true time behind its element's begin, and let the device take a delay of `taken` off. If they
+/// are then less than `within` - 1 microseconds off, by true time, they are those of a true line.
 pub fn a_late_line_is_true()
     ensures { (d first rate within least most taken : ℕ) (line : ℕ → Symbol) (now k : ℕ)
         (pulses : List Pulse) → KeepsRate d rate → most < 10000 → most + 1 < within + taken

@@ -64,7 +64,8 @@ pub(crate) fn after_rise(line: LineWitness, within_us: u32, pulse: Risen) -> Lin
     requires begins { pulse.begins < 2 ^ 58 }
     ensures { (symbols : ℕ → Symbol) (edges : ℕ → ℕ) → pulse.begins ≡ element_at edges pulse.element
         → pulse.symbol ≡ symbols pulse.element
-        → result ≡ witness.after_rise within_us symbols edges line pulse.element pulse.rise pulse.width_us }
+        → result ≡ witness.after_rise within_us symbols edges line pulse.element pulse.rise
+        pulse.width_us }
 {
     if is_true(pulse, within_us) {
         after_true(line, pulse.element, pulse.rise)

@@ -16,8 +16,8 @@ pub struct Oscillator {
 }
 
 impl Oscillator {
-    /// A counter that shows so many microseconds where T(0) begins, 2^15 or more and less than 2^55, and
-    /// counts on by so many in each second, 999,000 to 1,001,000.
+    /// A counter that shows so many microseconds where T(0) begins, 2^15 or more and less than
+    /// 2^55, and counts on by so many in each second, 999,000 to 1,001,000.
     pub fn new(first_us: u64, rate_us: u32) -> Self
         requires late { 32768 ≤ first_us }
         requires early { first_us < 2 ^ 55 }
@@ -29,7 +29,8 @@ impl Oscillator {
         Oscillator { first_us, rate_us }
     }
 
-    /// What it shows so many microseconds of true time behind where T(0) begins, less than 2^43 of them.
+    /// What it shows so many microseconds of true time behind where T(0) begins, less than 2^43 of
+    /// them.
     pub fn shows(self, time_us: u64) -> u64
         requires { time_us < 2 ^ 43 }
         ensures value { result ≡ counter_at self.first_us self.rate_us time_us }

@@ -10,7 +10,8 @@ ghost use Rattle.irig_witness.specs.Witness.{TrueLines};
 use crate::line::{LineWitness, Risen, after_rise, new_witness};
 use irig_lines::{ClockRules, is_pulse};
 
-/// The audit of a device so far. Its times are those of the device's counter, which does not wrap here.
+/// The audit of a device so far. Its times are those of the device's counter, which does not wrap
+/// here.
 #[derive(Clone, Copy, PartialEq, Eq)]
 pub struct Watch {
     pub(crate) a: LineWitness,
@@ -43,8 +44,8 @@ impl Watch {
         }
     }
 
-    /// Whether the calls so far kept the premises: they were in order, and at each tick at most f lines
-    /// were untrue.
+    /// Whether the calls so far kept the premises: they were in order, and at each tick at most f
+    /// lines were untrue.
     pub fn is_kept(&self) -> bool
         ensures { result ≡ self.now.is_kept }
     {

@@ -1,6 +1,7 @@
-//! A device that is played, with an audit: its counter gains 20 us a second, and wraps by 32 bits in the
-//! fourth second. Three lines come 0, 350 and 700 us late, by a setting of 450 us, so that the third one is
-//! untrue. Two of three are from the ninth second on, when the second one comes 600 us late.
+//! A device that is played, with an audit: its counter gains 20 us a second, and wraps by 32 bits
+//! in the fourth second. Three lines come 0, 350 and 700 us late, by a setting of 450 us, so that
+//! the third one is untrue. Two of three are from the ninth second on, when the second one comes
+//! 600 us late.
 
 ghost use Rattle.std.specs.Prelude.{◌≡◌, ◌<◌, ◌^◌};
 ghost use Rattle.irig_reader.specs.Rules.{IsReaderRules};
@@ -44,8 +45,8 @@ fn counter() -> Oscillator {
     Oscillator::new(4_291_000_000, 1_000_020)
 }
 
-/// Plays a pulse that rises so many microseconds behind T(0), and is the symbol of an element. Whether the
-/// device takes it for that element.
+/// Plays a pulse that rises so many microseconds behind T(0), and is the symbol of an element.
+/// Whether the device takes it for that element.
 fn hear(device: &mut Device<FlowPort>, line: u8, time_us: u64, element: u64, symbol: Symbol) -> bool
     requires lines { device.old.clock.redundancy ≡ Three }
     requires line { line < 3 }
