@@ -30,7 +30,7 @@ use Rattle.irig_timekeeper.specs.Rule.{step_checked, goes_against}
 use Rattle.irig_timekeeper.specs.Truth.{IsToldInHoldover}
 use Rattle.irig_lives.specs.Decided.{is_after, have_risen, in_order, is_same, is_pulse_of}
 use Rattle.irig_lives.proofs.LifeFacts.{are_new, at, claim_of, clock, frame, line, new_lines, no_table, noon, nothing, rules, silence, told_0, told_1, told_2, true_claim, true_table, width_of}
-use Rattle.irig_witness.specs.Oscillator.{AreLatePulses, begins_at, counter_at, edges_by}
+use Rattle.irig_witness.specs.Oscillator.{IsLateLine, begins_at, counter_at, edges_by}
 use Rattle.irig_witness.specs.TrueFrames.{claims_only, is_harmless, true_symbol}
 use Rattle.irig_witness.specs.Witness.{is_kept, lines_by}
 use Rattle.irig_witness.specs.Promise.{IsStampedInTime, IsTrueSetup, lines_of}
@@ -164,9 +164,19 @@ broken_by_plant = ap (λ x. is_kept made.clock x start (Tick now ∷ elements_be
 abbrev late_pulses : List Pulse
 late_pulses = pulse_at 4293510050 2000 ∷ pulse_at 4293500050 8000 ∷ []
 
-late : AreLatePulses line first rate 350 350 300 2 late_pulses
+late : IsLateLine 52 line first rate late_pulses
 unfolding line frame
-late = (1, omega arith, refl, (350, omega arith, omega arith, refl), (0, omega arith, refl, (350, omega arith, omega arith, refl), tt))
+late = record {
+  next = 2;
+  least = 350;
+  most = 350;
+  taken = 300;
+  small = omega arith;
+  high = omega arith;
+  low = omega arith;
+  are = (1, omega arith, refl, (350, omega arith, omega arith, refl), (0, omega arith, refl, (350, omega arith, omega arith, refl), tt));
+}
 
 late_are_true : (then : ℕ) → ArePulsesLately 52 line (edges_by first rate) then 2 late_pulses
-late_are_true then = late_true 40 first rate setup.steady 52 350 350 300 (omega arith) (omega arith) (omega arith) line then 2 late_pulses late
+unfolding late
+late_are_true then = late_true 40 first rate setup.steady 52 line then late_pulses late

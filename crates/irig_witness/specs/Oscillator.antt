@@ -41,3 +41,16 @@ AreLatePulses line first rate least most taken k (p ∷ ps) =
     × ((late : ℕ) × (least ≤ late) × (late ≤ most)
     × (p.rise + taken ≡ counter_at first rate (begins_at j + late)))
     × AreLatePulses line first rate least most taken j ps
+
+-- a line is so late: its pulses are those of some elements, and what its device takes off leaves less
+-- than it allows, but for 1 us
+pub record IsLateLine (within : ℕ) (line : ℕ → Symbol) (first rate : ℕ) (pulses : List Pulse)
+    : Type 0 where
+  pub next : ℕ
+  pub least : ℕ
+  pub most : ℕ
+  pub taken : ℕ
+  pub small : most < 10000
+  pub high : most + 1 < within + taken
+  pub low : taken + 1 < within + least
+  pub are : AreLatePulses line first rate least most taken next pulses

@@ -1,9 +1,11 @@
 //! Laws of an audit over its definitions. They have no code.
 
-ghost use Rattle.std.specs.Prelude.{◌≡◌, ◌↔◌, ◌∷◌, ◌%◌, ◌^◌, ◌<◌, ◌≤◌, ◌+◌, ◌*◌, ℕ, List, Some, true, false};
+ghost use Rattle.std.specs.Prelude.{◌≡◌, ◌↔◌, ◌∷◌, ◌%◌, ◌^◌, ◌<◌, ◌≤◌, ◌+◌, ◌*◌, ℕ, Bool, List, Some, count_by, true, false};
+ghost use Rattle.std.specs.List.{range_with_len};
 ghost use Rattle.irig_frame.specs.declared.symbol.Symbol.{Symbol};
 ghost use Rattle.irig_sync.specs.Lines.{Pulse};
 ghost use Rattle.irig_time.specs.Timelines.{TimelineValue};
+ghost use Rattle.irig_vote.specs.Vote.{f_of};
 ghost use Rattle.irig_lines.specs.Exactness.{most_within_us};
 ghost use Rattle.irig_lines.specs.Lines.{ArePulsesLately, IsTrueLately};
 ghost use Rattle.irig_timekeeper.specs.Keeping.{answer_at, stamp_at};
@@ -11,7 +13,7 @@ ghost use Rattle.irig_timekeeper.specs.Truth.{IsStampedTruly, IsToldInHoldover};
 ghost use Rattle.irig_timekeeper.specs.Life.{Call, Made, AreInOrder, LivesTruly, life_of, pulses_on};
 ghost use Rattle.irig_timekeeper.specs.Life.Call.{Tick};
 ghost use Rattle.irig_lives.specs.Decided.{in_order};
-ghost use Rattle.irig_witness.specs.Oscillator.{AreLatePulses, KeepsRate, counter_at, edges_by};
+ghost use Rattle.irig_witness.specs.Oscillator.{IsLateLine, KeepsRate, counter_at, edges_by};
 ghost use Rattle.irig_witness.specs.Witness.{KeepsPremises, TrueLines, is_doubted, is_kept, lines_by};
 ghost use Rattle.irig_witness.specs.Promise.{IsStampedInTime, IsTrueDevice, IsTrueSetup, lines_of};
 
@@ -104,8 +106,16 @@ pub fn an_audit_is_exact()
 /// of true time behind its element's begin, and let the device take a delay of `taken` off. If they
 /// are then less than `within` - 1 microseconds off, by true time, they are those of a true line.
 pub fn a_late_line_is_true()
-    ensures { (d first rate within least most taken : ℕ) (line : ℕ → Symbol) (now k : ℕ)
-        (pulses : List Pulse) → KeepsRate d rate → most < 10000 → most + 1 < within + taken
-        → taken + 1 < within + least → AreLatePulses line first rate least most taken k pulses
-        → ArePulsesLately within line (edges_by first rate) now k pulses }
+    ensures line { (d first rate within now : ℕ) (line : ℕ → Symbol) (pulses : List Pulse)
+        → KeepsRate d rate → (late : IsLateLine within line first rate pulses)
+        → ArePulsesLately within line (edges_by first rate) now late.next pulses }
+    // So an audit is kept of calls in order, however often the device ticks, if all but at most f of its
+    // lines are so late, each by itself.
+    ensures kept { (d first rate start : ℕ) (symbol : ℕ → ℕ → Symbol) (clock : ClockRules)
+        (calls : List Call) (untrue : ℕ → Bool) → KeepsRate d rate
+        → AreInOrder start clock.redundancy calls
+        → count_by untrue (range_with_len 0 5) ≤ f_of clock.redundancy
+        → ((line : ℕ) → line < 5 → untrue line ≡ false
+        → IsLateLine clock.within.us (symbol line) first rate (pulses_on line calls))
+        → is_kept clock (lines_by symbol first rate) start calls ≡ true }
 {}
