@@ -42,8 +42,8 @@ AreLatePulses line first rate least most taken k (p ∷ ps) =
     × (p.rise + taken ≡ counter_at first rate (begins_at j + late)))
     × AreLatePulses line first rate least most taken j ps
 
--- a line is so late: its pulses are those of some elements, and what its device takes off leaves less
--- than it allows, but for 1 us
+-- a line is so late: its pulses are those of some elements, and what its device takes off leaves
+-- less than it allows, but for 1 us
 pub record IsLateLine (within : ℕ) (line : ℕ → Symbol) (first rate : ℕ) (pulses : List Pulse)
     : Type 0 where
   pub next : ℕ

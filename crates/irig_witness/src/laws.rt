@@ -109,8 +109,8 @@ pub fn a_late_line_is_true()
     ensures line { (d first rate within now : ℕ) (line : ℕ → Symbol) (pulses : List Pulse)
         → KeepsRate d rate → (late : IsLateLine within line first rate pulses)
         → ArePulsesLately within line (edges_by first rate) now late.next pulses }
-    // So an audit is kept of calls in order, however often the device ticks, if all but at most f of its
-    // lines are so late, each by itself.
+    // So an audit of calls in order is kept, however often the device ticks, if all but at most f
+    // of its lines are so late, each by itself.
     ensures kept { (d first rate start : ℕ) (symbol : ℕ → ℕ → Symbol) (clock : ClockRules)
         (calls : List Call) (untrue : ℕ → Bool) → KeepsRate d rate
         → AreInOrder start clock.redundancy calls
