@@ -15,7 +15,8 @@ use Rattle.irig_port.specs.declared.told.Told.{Told}
 use Rattle.irig_port.specs.declared.told.Told.TheVariants as tells
 use Rattle.irig_port.specs.Told.{told_of}
 
--- what is told claims nothing but this, or nothing at all
+-- what is told claims nothing but this, or nothing at all. It is `is_untrue` of irig_plant, on which
+-- nothing here stands, the other way round
 abbrev pub claims_only : Option Claim → Told → Bool
 claims_only (Some truth) (tells.Claim c) = same_claim c truth
 claims_only None (tells.Claim c) = false
