@@ -19,10 +19,18 @@ counted_by_parts time rate =
     parts (time / 1000000) (time % 1000000) rate 1000000 (omega arith) ∙ ap (λ n. n * rate / 1000000) (div-add-mod' time 1000000)
 
 -- a counter that gains no more than a thousandth stays small for as long as a scenario can last
-pub counted_few : (time rate : ℕ) → time < 2 ^ 60 → rate ≤ 1001000 → time * rate / 1000000 < 2 ^ 61 - 2 ^ 32
+pub counted_few : (time rate : ℕ) → time < 2 ^ 60 → rate ≤ 1001000 → time * rate / 1000000 < 2 ^ 61 - 2 ^ 55
 counted_few time rate short slow =
     let most : time * rate ≤ time * 1001000 = omega (arith, mul-le-mul_right time slow) in
     (div-lt_iff_lt-mul (omega arith)).1 (omega arith)
+
+-- and it counts no more than twice the time
+pub counted_upto : (time rate : ℕ) → rate ≤ 1001000 → time * rate / 1000000 ≤ 2 * time
+counted_upto time rate slow =
+    let most : time * rate ≤ time * 1001000 = omega (arith, mul-le-mul_right time slow) in
+    let some : 0 < 1000000 = omega arith in
+    let less : time * rate / 1000000 < 2 * time + 1 = (div-lt_iff_lt-mul some).1 (omega arith) in
+    omega arith
 
 -- a quotient rounded up is at most t where t times what divides is enough
 pub rounded_up : (x rate t : ℕ) → 0 < rate → ((x + (rate - 1)) / rate ≤ t) ↔ (x ≤ t * rate)

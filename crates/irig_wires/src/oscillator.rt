@@ -1,6 +1,6 @@
 //! The oscillator of a device.
 
-ghost use Rattle.std.specs.Prelude.{◌≡◌, ◌≤◌, ◌<◌, ◌^◌, ◌↔◌, ℕ, MatchOption, unsigned_abs};
+ghost use Rattle.std.specs.Prelude.{◌≡◌, ◌≤◌, ◌<◌, ◌+◌, ◌*◌, ◌^◌, ◌↔◌, ℕ, MatchOption, unsigned_abs};
 ghost use Rattle.irig_wires.specs.Oscillator.{counter_at, most_gain_us, rate_of, time_of};
 
 const SECOND_US: u64 = 1_000_000;
@@ -9,15 +9,17 @@ const SECOND_US: u64 = 1_000_000;
 /// not wrap here, and true times are microseconds behind its first count.
 #[derive(Clone, Copy, PartialEq, Eq)]
 pub struct Oscillator {
-    pub(crate) first: u32,
+    pub(crate) first: u64,
     pub(crate) gain_us: i16,
     ghost few: { unsigned_abs gain_us ≤ most_gain_us },
+    ghost early: { first < 2 ^ 55 },
 }
 
 impl Oscillator {
-    /// One whose counter shows `first` at the beginning and truly gains `gain_us` microseconds in
-    /// each second, if these are -1000 to 1000.
-    pub fn new(first: u32, gain_us: i16) -> Option<Self>
+    /// One whose counter shows `first` at the beginning, less than 2^55, and truly gains `gain_us`
+    /// microseconds in each second, if these are -1000 to 1000.
+    pub fn new(first: u64, gain_us: i16) -> Option<Self>
+        requires { first < 2 ^ 55 }
         ensures { MatchOption result (most_gain_us < unsigned_abs gain_us)
             (λ oscillator. (oscillator.first ≡ first) × (oscillator.gain_us ≡ gain_us)) }
     {
@@ -33,11 +35,13 @@ impl Oscillator {
         requires { time_us < 2 ^ 60 }
         ensures value { result ≡ counter_at self.first (rate_of self.gain_us) time_us }
         ensures few { result < 2 ^ 61 }
+        ensures least { self.first ≤ result }
+        ensures most { result ≤ self.first + 2 * time_us }
     {
         let rate = self.rate();
         let seconds = time_us / SECOND_US;
         let rest_us = time_us % SECOND_US;
-        u64::from(self.first) + (seconds * rate + rest_us * rate / SECOND_US)
+        self.first + (seconds * rate + rest_us * rate / SECOND_US)
     }
 
     /// The first true time at which the counter shows a count, or more: 0 if it does so from the
@@ -49,12 +53,20 @@ impl Oscillator {
             → (count ≤ counter_at self.first (rate_of self.gain_us) time) ↔ (result ≤ time) }
     {
         let rate = self.rate();
-        let ahead = count.saturating_sub(u64::from(self.first));
+        let ahead = count.saturating_sub(self.first);
         ahead / rate * SECOND_US + (ahead % rate * SECOND_US + (rate - 1)) / rate
     }
 
-    // How many microseconds the counter counts in a second.
-    fn rate(self) -> u64
+    /// What the counter shows at the beginning.
+    pub fn first(self) -> u64
+        ensures value { result ≡ self.first }
+        ensures early { result < 2 ^ 55 }
+    {
+        self.first
+    }
+
+    /// How many microseconds the counter counts in a second.
+    pub fn rate(self) -> u64
         ensures value { result ≡ rate_of self.gain_us }
         ensures least { 999000 ≤ result }
         ensures most { result ≤ 1001000 }

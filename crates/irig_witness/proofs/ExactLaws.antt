@@ -19,7 +19,8 @@ use Rattle.irig_timekeeper.specs.Life.{Call, pulses_on, AreInOrder}
 use Rattle.irig_timekeeper.specs.Life.Call.{Hear, Tick}
 use Rattle.irig_lives.specs.Decided.{in_order, is_pulse_of}
 use Rattle.irig_lives.proofs.DecidedLaws.{both, five_more, no_more, order_decided, order_is, pulse_is, pulse_from}
-use Rattle.irig_witness.specs.Oscillator.{edges_by, element_near, KeepsRate}
+use Rattle.irig_witness.specs.Elements.{element_near, KeepsRate}
+use Rattle.irig_wires.specs.Oscillator.{edges_by}
 use Rattle.irig_witness.specs.declared.line.LineWitness.{LineWitness}
 use Rattle.irig_witness.specs.Witness.{KeepsPremises, TrueLines, WereTrueBeside, new_witness, forgets, after_false, after_true, after_rise, is_doubted, is_kept, line_witness, lines_by, were_true}
 use Rattle.irig_witness.proofs.CallLaws.{true_beside}

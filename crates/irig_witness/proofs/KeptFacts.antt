@@ -30,7 +30,8 @@ use Rattle.irig_timekeeper.specs.Rule.{step_checked, goes_against}
 use Rattle.irig_timekeeper.specs.Truth.{IsToldInHoldover}
 use Rattle.irig_lives.specs.Decided.{is_after, have_risen, in_order, is_same, is_pulse_of}
 use Rattle.irig_lives.proofs.LifeFacts.{are_new, at, claim_of, clock, frame, line, new_lines, no_table, noon, nothing, rules, silence, told_0, told_1, told_2, true_claim, true_table, width_of}
-use Rattle.irig_witness.specs.Oscillator.{IsLateLine, begins_at, counter_at, edges_by}
+use Rattle.irig_witness.specs.Elements.{IsLateLine, begins_at}
+use Rattle.irig_wires.specs.Oscillator.{counter_at, edges_by}
 use Rattle.irig_witness.specs.TrueFrames.{claims_only, is_harmless, true_symbol}
 use Rattle.irig_witness.specs.Witness.{is_kept, lines_by}
 use Rattle.irig_witness.specs.Promise.{IsStampedInTime, IsTrueSetup, lines_of}

@@ -12,7 +12,8 @@ use Rattle.irig_lines.specs.Steps.{is_pulse}
 use Rattle.irig_timekeeper.specs.Life.{Call, pulses_on, AreInOrder}
 use Rattle.irig_timekeeper.specs.Life.Call.{Hear, Tick}
 use Rattle.irig_lines.specs.Lines.{ArePulsesLately}
-use Rattle.irig_witness.specs.Oscillator.{edges_by, counter_at, begins_at, KeepsRate, AreLatePulses, IsLateLine}
+use Rattle.irig_witness.specs.Elements.{begins_at, KeepsRate, AreLatePulses, IsLateLine}
+use Rattle.irig_wires.specs.Oscillator.{edges_by, counter_at}
 use Rattle.irig_witness.specs.Witness.{WereTrueBeside, is_kept, lines_by}
 use Rattle.irig_witness.proofs.ExactLaws.{exact}
 use Rattle.irig_witness.proofs.OscillatorLaws.{element_is}

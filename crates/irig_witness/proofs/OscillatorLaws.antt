@@ -7,7 +7,8 @@ use Rattle.irig_lines.specs.declared.setup.ClockRules.{ClockRules}
 use Rattle.irig_lines.specs.Edges.{IsQuartz}
 use Rattle.irig_lines.specs.Paces.{WandersAsSet}
 use Rattle.irig_timekeeper.specs.Truth.{IsInstant}
-use Rattle.irig_witness.specs.Oscillator.{edges_by, counter_at, KeepsRate}
+use Rattle.irig_witness.specs.Elements.{KeepsRate}
+use Rattle.irig_wires.specs.Oscillator.{edges_by, counter_at}
 
 pub next_edge : (first rate n : ℕ) → edges_by first rate (n + 1) ≡ edges_by first rate n + rate
 next_edge first rate n = grind arith

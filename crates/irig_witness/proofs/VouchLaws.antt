@@ -21,7 +21,7 @@ use Rattle.irig_timekeeper.proofs.LifeLaws.{TellAlwaysTruly, device_true}
 use Rattle.irig_timekeeper.proofs.StampLaws.{stamped, near_instant}
 use Rattle.irig_lives.specs.Decided.{in_order}
 use Rattle.irig_lives.proofs.DecidedLaws.{both, order_is}
-use Rattle.irig_witness.specs.Oscillator.{counter_at, edges_by}
+use Rattle.irig_wires.specs.Oscillator.{counter_at, edges_by}
 use Rattle.irig_witness.specs.Witness.{TrueLines, is_kept}
 use Rattle.irig_witness.specs.Promise.{IsStampedInTime, IsTrueDevice, IsTrueSetup, lines_of}
 use Rattle.irig_witness.proofs.CallLaws.{true_at_ticks}

@@ -13,7 +13,8 @@ use Rattle.irig_timekeeper.specs.Life.Call.{Hear, Tick}
 use Rattle.irig_timekeeper.specs.Lived.{MadeOf, HasLived}
 use Rattle.irig_timekeeper.specs.Truth.{IsToldInHoldover}
 use Rattle.irig_witness.specs.declared.device.Device.{Device}
-use Rattle.irig_witness.specs.Oscillator.{counter_at, edges_by, element_near}
+use Rattle.irig_witness.specs.Elements.{element_near}
+use Rattle.irig_wires.specs.Oscillator.{rate_of, counter_at, edges_by}
 use Rattle.irig_witness.specs.TrueFrames.{true_symbol}
 use Rattle.irig_witness.specs.Witness.{TrueLines, lines_by}
 use Rattle.irig_witness.specs.Watches.{IsWatchOf, may_tick}
@@ -31,16 +32,16 @@ risen_on device line rise = risen_at rise (delay_at device.clock.delays line)
 -- of which element of its line alone that pulse may be
 abbrev pub element_on : {P : Type 0} {g : Ghosts P} → Device P g → (line rise : ℕ) → ℕ
 element_on device line rise =
-    element_near device.oscillator.first_us device.oscillator.rate_us (risen_on device line rise)
+    element_near device.oscillator.first (rate_of device.oscillator.gain_us) (risen_on device line rise)
 
 -- when seconds begin by its counter
 abbrev pub edges_of : {P : Type 0} {g : Ghosts P} → Device P g → ℕ → ℕ
-edges_of device = edges_by device.oscillator.first_us device.oscillator.rate_us
+edges_of device = edges_by device.oscillator.first (rate_of device.oscillator.gain_us)
 
 -- lines of these symbols, by that counter
 abbrev pub lines_on : {P : Type 0} {g : Ghosts P} → Device P g
     → (symbol : (line element : ℕ) → Symbol) → TrueLines
-lines_on device symbol = lines_by symbol device.oscillator.first_us device.oscillator.rate_us
+lines_on device symbol = lines_by symbol device.oscillator.first (rate_of device.oscillator.gain_us)
 
 -- it was made of this, its life began at a time, and these calls came since, the newest first; its
 -- audit is of them, beside lines of these symbols
@@ -79,7 +80,7 @@ TellsTruly old new now told =
     (t : TimelineValue) (sent : (line second : ℕ) → List (List Symbol)) (made : MadeOf) (start : ℕ)
     (calls : List Call) (beat : Beat) (u : UtcSecond)
     → IsDeviceOf old made (λ line. true_symbol made.rules t (sent line)) start calls
-    → IsTrueSetup t old.oscillator.rate_us made.clock made.table → new.watch.is_kept ≡ true
+    → IsTrueSetup t (rate_of old.oscillator.gain_us) made.clock made.table → new.watch.is_kept ≡ true
     → told ≡ Some beat → beat.report.announce ≡ Some u
     → IsToldInHoldover t (edges_of old) 0 0 made.clock now beat u
 
@@ -91,8 +92,8 @@ StampsTruly device time said =
     (t : TimelineValue) (sent : (line second : ℕ) → List (List Symbol)) (made : MadeOf)
     (start now n tau : ℕ) (calls : List Call) (stamp : Stamp)
     → IsDeviceOf device made (λ line. true_symbol made.rules t (sent line)) start calls
-    → IsTrueSetup t device.oscillator.rate_us made.clock made.table → device.watch.is_kept ≡ true
+    → IsTrueSetup t (rate_of device.oscillator.gain_us) made.clock made.table → device.watch.is_kept ≡ true
     → may_tick device.watch now ≡ true → time ≤ now → now ≤ time + 1800000000
     → tau < 1000000
-    → time ≡ counter_at device.oscillator.first_us device.oscillator.rate_us (n * 1000000 + tau)
+    → time ≡ counter_at device.oscillator.first (rate_of device.oscillator.gain_us) (n * 1000000 + tau)
     → said ≡ Some stamp → IsStampedInTime t made.clock.drift_us n tau stamp

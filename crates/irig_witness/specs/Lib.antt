@@ -1,4 +1,4 @@
-pub mod Oscillator
+pub mod Elements
 pub mod TrueFrames
 pub mod Witness
 pub mod Watches

@@ -12,7 +12,7 @@ use Rattle.irig_lines.specs.Lines.{IsLineOf}
 use Rattle.irig_lines.specs.Paces.{WandersAsSet}
 use Rattle.irig_timekeeper.specs.declared.stamp.Stamp.{Stamp}
 use Rattle.irig_timekeeper.specs.Truth.{IsDevice}
-use Rattle.irig_witness.specs.Oscillator.{KeepsRate}
+use Rattle.irig_witness.specs.Elements.{KeepsRate}
 use Rattle.irig_witness.specs.TrueFrames.{true_symbol}
 use Rattle.irig_witness.specs.Witness.{TrueLines, lines_by}
 

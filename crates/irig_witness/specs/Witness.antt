@@ -13,7 +13,8 @@ use Rattle.irig_timekeeper.specs.Life.{Call, pulses_on, AreInOrder}
 use Rattle.irig_timekeeper.specs.Life.Call.{Hear, Tick}
 use Rattle.irig_lives.specs.Decided.{in_order, is_pulse_of}
 use Rattle.irig_witness.specs.declared.line.LineWitness.{LineWitness}
-use Rattle.irig_witness.specs.Oscillator.{edges_by, element_near}
+use Rattle.irig_witness.specs.Elements.{element_near}
+use Rattle.irig_wires.specs.Oscillator.{edges_by}
 
 -- what true lines would have sent: the symbol of each line at each element, when seconds begin, and
 -- which element alone a rise may be of

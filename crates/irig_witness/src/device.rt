@@ -13,14 +13,15 @@ ghost use Rattle.irig_timekeeper.specs.Lived.{MadeOf};
 ghost use Rattle.irig_vote.specs.Vote.{ports_in};
 ghost use Rattle.irig_lives.specs.Decided.{in_order};
 
+use crate::elements::{begins, element_near};
 use crate::line::Risen;
-use crate::oscillator::Oscillator;
 use crate::watch::Watch;
 use irig_frame::Symbol;
 use irig_lines::{ClockFault, ClockRules, delay_at};
 use irig_port::Port;
 use irig_time::{LeapTable, Rules};
 use irig_timekeeper::{Beat, Stamp, Timekeeper};
+use irig_wires::Oscillator;
 
 /// A simulated device: a timekeeper by a counter of which the true rate is known, and its audit.
 ///
@@ -79,7 +80,7 @@ impl<P: Port> Device<P> {
         ensures small { result < 2 ^ 43 }
     {
         let rise = self.risen_on(line, rise_us);
-        self.oscillator.element_near(rise)
+        element_near(self.oscillator, rise)
     }
 
     /// A pulse on a line, once it has ended, to the timekeeper and to its audit: its place in its
@@ -95,12 +96,12 @@ impl<P: Port> Device<P> {
         ensures set { IsSetAs self.new self.old }
     {
         let rise = self.risen_on(line, rise_us);
-        let element = self.oscillator.element_near(rise);
+        let element = element_near(self.oscillator, rise);
         let pulse = Risen {
             rise,
             width_us,
             element,
-            begins: self.oscillator.begins(element),
+            begins: begins(self.oscillator, element),
             symbol,
         };
         self.watch = self.watch.hear(&self.clock, line, pulse);

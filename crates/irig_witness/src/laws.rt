@@ -13,7 +13,8 @@ ghost use Rattle.irig_timekeeper.specs.Truth.{IsStampedTruly, IsToldInHoldover};
 ghost use Rattle.irig_timekeeper.specs.Life.{Call, Made, AreInOrder, LivesTruly, life_of, pulses_on};
 ghost use Rattle.irig_timekeeper.specs.Life.Call.{Tick};
 ghost use Rattle.irig_lives.specs.Decided.{in_order};
-ghost use Rattle.irig_witness.specs.Oscillator.{IsLateLine, KeepsRate, counter_at, edges_by};
+ghost use Rattle.irig_wires.specs.Oscillator.{counter_at, edges_by};
+ghost use Rattle.irig_witness.specs.Elements.{IsLateLine, KeepsRate};
 ghost use Rattle.irig_witness.specs.Witness.{KeepsPremises, TrueLines, is_doubted, is_kept, lines_by};
 ghost use Rattle.irig_witness.specs.Promise.{IsStampedInTime, IsTrueDevice, IsTrueSetup, lines_of};
 

@@ -5,16 +5,16 @@
 #![tactic(auto)]
 
 mod device;
+mod elements;
 mod laws;
 mod line;
-mod oscillator;
 mod watch;
 
 pub use device::Device;
+pub use irig_wires::Oscillator;
 pub use laws::{
     a_device_vouches, a_late_line_is_true, an_audit_doubts_no_true_line, an_audit_is_exact,
     an_audit_is_right,
 };
 pub use line::{LineWitness, Risen};
-pub use oscillator::Oscillator;
 pub use watch::Watch;

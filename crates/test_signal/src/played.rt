@@ -41,26 +41,39 @@ fn clock() -> ClockRules
     }
 }
 
-fn counter() -> Oscillator {
-    Oscillator::new(4_291_000_000, 1_000_020)
-}
+const FIRST: u64 = 4_291_000_000;
 
 /// Plays a pulse that rises so many microseconds behind T(0), and is the symbol of an element.
 /// Whether the device takes it for that element.
-fn hear(device: &mut Device<FlowPort>, line: u8, time_us: u64, element: u64, symbol: Symbol) -> bool
+fn hear(
+    device: &mut Device<FlowPort>,
+    counter: Oscillator,
+    line: u8,
+    time_us: u64,
+    element: u64,
+    symbol: Symbol,
+) -> bool
+    requires counter { counter.first ≡ 4291000000 }
     requires lines { device.old.clock.redundancy ≡ Three }
     requires line { line < 3 }
     requires time { time_us < 2 ^ 43 }
     ensures { device.new.clock ≡ device.old.clock }
 {
-    let rise_us = counter().shows(time_us);
+    let rise_us = counter.count_at(time_us);
     let near = device.element(line, rise_us);
     device.hear(line, rise_us, symbol.width_us(), symbol);
     near == element
 }
 
 /// Plays the frame of a second on three lines.
-fn play(device: &mut Device<FlowPort>, frame: [Symbol; 100], second: u32, late_us: u32) -> bool
+fn play(
+    device: &mut Device<FlowPort>,
+    counter: Oscillator,
+    frame: [Symbol; 100],
+    second: u32,
+    late_us: u32,
+) -> bool
+    requires counter { counter.first ≡ 4291000000 }
     requires lines { device.old.clock.redundancy ≡ Three }
     requires early { second < 1000 }
     ensures { device.new.clock ≡ device.old.clock }
@@ -70,9 +83,16 @@ fn play(device: &mut Device<FlowPort>, frame: [Symbol; 100], second: u32, late_u
         let symbol = frame[place as usize];
         let element = 100 * u64::from(second) + u64::from(place);
         let time_us = 10_000 * element;
-        is_near &= hear(device, 0, time_us, element, symbol);
-        is_near &= hear(device, 1, time_us + u64::from(late_us), element, symbol);
-        is_near &= hear(device, 2, time_us + 700, element, symbol);
+        is_near &= hear(device, counter, 0, time_us, element, symbol);
+        is_near &= hear(
+            device,
+            counter,
+            1,
+            time_us + u64::from(late_us),
+            element,
+            symbol,
+        );
+        is_near &= hear(device, counter, 2, time_us + 700, element, symbol);
     }
     is_near
 }
@@ -89,12 +109,15 @@ fn an_audit_is_kept_until_two_lines_are_untrue(rt: HostRuntime) -> Result<(), Fa
     ) else {
         return Err(Fail::from("no plant"));
     };
-    let start = counter().shows(0);
+    let Some(counter) = Oscillator::new(FIRST, 20) else {
+        return Err(Fail::from("no oscillator"));
+    };
+    let start = counter.count_at(0);
     let Ok(mut device) = Device::<FlowPort>::new(
         Rules::PLAIN,
         clock(),
         LeapTable::empty(),
-        counter(),
+        counter,
         start,
     ) else {
         return Err(Fail::from("no device"));
@@ -104,21 +127,21 @@ fn an_audit_is_kept_until_two_lines_are_untrue(rt: HostRuntime) -> Result<(), Fa
             return Err(Fail::from("no frame"));
         };
         let late_us = if n < 8 { 350 } else { 600 };
-        assert!(rt; play(&mut device, frame, n, late_us));
-        let now = counter().shows(1_000_000 * u64::from(n) + 1_002_000);
+        assert!(rt; play(&mut device, counter, frame, n, late_us));
+        let now = counter.count_at(1_000_000 * u64::from(n) + 1_002_000);
         assert!(rt; device.may_tick(now) && device.wait(now) == 0);
         let Some(beat) = device.tick(now) else {
             return Err(Fail::from("no second"));
         };
         assert!(rt; device.is_kept() == (n < 8));
-        let event = counter().shows(1_000_000 * u64::from(n) + 1_001_000);
+        let event = counter.count_at(1_000_000 * u64::from(n) + 1_001_000);
         let Some(stamp) = device.stamp(event) else {
             continue;
         };
         assert!(rt; beat.report.announce == timeline.at(u64::from(n) + 1) && n > 0);
         assert!(rt; stamp.offset_us.abs_diff(651) <= 1 || n >= 8);
     }
-    device.restart(counter().shows(11_000_000));
+    device.restart(counter.count_at(11_000_000));
     assert!(rt; device.is_kept() && device.stamp(start).is_none());
     Ok(())
 }

@@ -1,5 +1,5 @@
 use Rattle.std.proofs.Common.{◌+◌, ◌*◌, arith}
-use Rattle.irig_witness.specs.Oscillator.{counter_at}
+use Rattle.irig_wires.specs.Oscillator.{counter_at}
 use Rattle.irig_witness.specs.Promise.{lines_of}
 use Rattle.irig_witness.proofs.VouchLaws.{device, in_time, tells, stamps}
 use Rattle.irig_witness.proofs.laws.a_device_vouches.Goals as goal

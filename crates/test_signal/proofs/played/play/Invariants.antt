@@ -7,4 +7,5 @@ invariant-loop-place l = record {
   same : l.device.clock ≡ l.initial.device.clock;
   lines : l.device.clock.redundancy ≡ Three;
   early : l.second < 1000;
+  counter : l.counter.first ≡ 4291000000;
 }

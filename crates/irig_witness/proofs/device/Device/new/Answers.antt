@@ -1,4 +1,5 @@
 use Rattle.std.proofs.Common.{refl}
+use Rattle.irig_wires.specs.Oscillator.{rate_of}
 use Rattle.irig_witness.specs.Witness.{lines_by}
 use Rattle.irig_witness.proofs.device.Device.new.Goals as goal
 
@@ -8,7 +9,7 @@ returns g c = (
   refl,
   λ symbol. record {
     lived = c.in_ok-keeper.ensures.lived;
-    watch = c.new-2.ensures c.args.clock (lines_by symbol c.args.oscillator.first_us c.args.oscillator.rate_us);
+    watch = c.new-2.ensures c.args.clock (lines_by symbol c.args.oscillator.first (rate_of c.args.oscillator.gain_us));
     clock = refl;
   },
 )

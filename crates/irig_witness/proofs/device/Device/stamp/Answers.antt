@@ -4,6 +4,7 @@ use Rattle.irig_timekeeper.specs.Life.Call.{Tick}
 use Rattle.irig_timekeeper.specs.Truth.{IsStampedTruly}
 use Rattle.irig_lives.specs.Decided.{in_order}
 use Rattle.irig_lives.proofs.DecidedLaws.{both, order_is}
+use Rattle.irig_wires.specs.Oscillator.{rate_of}
 use Rattle.irig_witness.specs.Promise.{lines_of}
 use Rattle.irig_witness.proofs.VouchLaws.{device, in_time, lives_well}
 use Rattle.irig_witness.proofs.WatchLaws.{tick_is}
@@ -12,8 +13,8 @@ use Rattle.irig_witness.proofs.device.Device.stamp.Goals as goal
 pub returns-clause-truth : goal.returns-clause-truth
 returns-clause-truth g c t sent made start now n tau calls stamp is setup kept turn past young small at said =
     let d = c.args.self.now in
-    let first = d.oscillator.first_us in
-    let rate = d.oscillator.rate_us in
+    let first = d.oscillator.first in
+    let rate = rate_of d.oscillator.gain_us in
     let x = lines_of made.rules t sent first rate in
     let keeps = sym is.watch.kept ∙ kept in
     let order = (both (in_order start made.clock.redundancy calls) _ keeps).0 in

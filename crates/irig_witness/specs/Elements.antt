@@ -1,20 +1,12 @@
--- A device's true oscillator: what its counter shows at a true time, and when elements begin by it.
+-- Elements of a line by a device's true oscillator, and how late pulses of them may be.
 -- The counter does not wrap here.
 -- Source: this project's profile.
 use Rattle.std.specs.Prelude.{◌≡◌, ℕ, ◌+◌, ◌-◌, ◌*◌, ◌/◌, ◌<◌, ◌≤◌, List, [], ◌∷◌, ⊤}
 use Rattle.irig_frame.specs.declared.symbol.Symbol.{Symbol}
 use Rattle.irig_frame.specs.Symbols.{symbol_of}
 use Rattle.irig_sync.specs.Lines.{Pulse}
+use Rattle.irig_wires.specs.Oscillator.{counter_at}
 use Rattle.irig_lines.specs.Exactness.{most_drift_us, most_within_us}
-
--- when T(n) begins by a counter that showed its first number where T(0) began, and counts on by so
--- much in each second
-abbrev pub edges_by : (first rate : ℕ) → ℕ → ℕ
-edges_by first rate n = first + n * rate
-
--- what it shows so many microseconds of true time behind where T(0) began
-abbrev pub counter_at : (first rate : ℕ) → ℕ → ℕ
-counter_at first rate time = first + time * rate / 1000000
 
 -- the element that begins less than 450 us from a rise, if there is one: it can be no other
 abbrev pub element_near : (first rate : ℕ) → ℕ → ℕ
