@@ -11,7 +11,7 @@ ghost use Rattle.irig_witness.specs.Witness as witness;
 use irig_frame::{Symbol, classify};
 
 /// What is known of a line by its pulses so far, in microseconds of a counter that does not wrap.
-#[derive(Clone, Copy, PartialEq, Eq)]
+#[derive(Clone, Copy)]
 pub struct LineWitness {
     /// The true pulses so far are of elements before this one,
     pub next: u64,

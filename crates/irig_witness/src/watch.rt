@@ -12,7 +12,7 @@ use irig_lines::{ClockRules, is_pulse};
 
 /// The audit of a device so far. Its times are those of the device's counter, which does not wrap
 /// here.
-#[derive(Clone, Copy, PartialEq, Eq)]
+#[derive(Clone, Copy)]
 pub struct Watch {
     pub(crate) a: LineWitness,
     pub(crate) b: LineWitness,

@@ -3,9 +3,20 @@ use Rattle.irig_lines.specs.declared.setup.ClockRules.{ClockRules}
 use Rattle.irig_timekeeper.specs.Life.Call.{Tick}
 use Rattle.irig_wires.specs.Oscillator.{rate_of}
 use Rattle.irig_witness.specs.Watches.{IsWatchOf}
+use Rattle.irig_witness.specs.Devices.{lines_on}
 use Rattle.irig_witness.specs.Promise.{lines_of}
 use Rattle.irig_witness.proofs.VouchLaws.{device, lives_well}
 use Rattle.irig_witness.proofs.device.Device.tick.Goals as goal
+
+pub returns-clause-on : goal.returns-clause-on
+returns-clause-on g c made symbol start calls is =
+    let d = c.args.self.now in
+    record {
+      lived = c.tick.ensures.lived made calls c.args.now is.lived c.low.ensures;
+      watch = subst (λ (k : ClockRules). IsWatchOf c.tick-self.result k (lines_on d symbol) start (Tick c.args.now ∷ calls)) is.clock
+          (c.tick-self.ensures (lines_on d symbol) start calls (subst (λ (k : ClockRules). IsWatchOf d.watch k (lines_on d symbol) start calls) (sym is.clock) is.watch));
+      clock = is.clock;
+    }
 
 pub returns-clause-truth : goal.returns-clause-truth
 returns-clause-truth g c t sent made start calls beat u is setup kept told says =
