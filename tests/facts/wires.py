@@ -83,7 +83,7 @@ def coming(cables: list[Cable], tick: int | None, send: int) -> Antt:
     return record(time_us=time, what=Antt("Happening.Tick" if kind == TICK else "Happening.Send"))
 
 
-@question("model", "irig_wires.next_of")
+@question("model", "irig_wires.coming_of")
 def what_is_next(random: Random) -> Iterator[tuple]:
     for _ in range(100):
         cables = random_cables(random)

@@ -10,7 +10,7 @@ use Rattle.irig_wires.specs.declared.wires.Coming.{Coming}
 use Rattle.irig_wires.specs.declared.wires.Happening.{Happening}
 use Rattle.irig_wires.specs.declared.wires.Happening.TheVariants.{End, Tick, Send}
 use Rattle.irig_wires.specs.Wires.{ended, late_at, taken, wire_at, wire_of, wires_of, with_wire}
-use Rattle.irig_wires.specs.Happenings.{earlier_end, end_or, ending_on, next_end, next_of, tick_or_send}
+use Rattle.irig_wires.specs.Happenings.{earlier_end, end_or, ending_on, next_end, coming_of, tick_or_send}
 use Rattle.irig_wires.specs.Order.{AllEndBehind, ComesFirst, EndsFirst, IsBehind, IsNotBefore, IsOnItsWay, NoneEndsBefore, behind_end}
 use Rattle.irig_wires.specs.Calls.{Call, LineCall, called, called_on, wire_after, wires_after, calls_on, AreOnLines, IsNotBack}
 use Rattle.irig_wires.specs.Calls.Call.{Pull, Plug, BeLate, Add, Take}
@@ -250,11 +250,11 @@ first_of wires tick send (Some ending) other first is = elim (cases_Bool (nat_le
 
 -- ---- laws
 
-pub comes_first : (wires : Wires) (tick : Option ℕ) (send : ℕ) → ComesFirst wires tick send (next_of wires tick send)
+pub comes_first : (wires : Wires) (tick : Option ℕ) (send : ℕ) → ComesFirst wires tick send (coming_of wires tick send)
 comes_first wires tick send = first_of wires tick send (next_end wires) (tick_or_send tick send) (is_next_end wires) (is_other tick send)
 
 -- when generators send next, what has ended was taken
-pub all_taken : (wires : Wires) (tick : Option ℕ) (send line : ℕ) → line < 5 → (next_of wires tick send).what ≡ Send → ended send (wire_at wires line).flight ≡ None
+pub all_taken : (wires : Wires) (tick : Option ℕ) (send line : ℕ) → line < 5 → (coming_of wires tick send).what ≡ Send → ended send (wire_at wires line).flight ≡ None
 all_taken wires tick send line small what = go (wire_at wires line).flight refl
   where
     go : (o : Option Flight) → (wire_at wires line).flight ≡ o → ended send (wire_at wires line).flight ≡ None
@@ -343,8 +343,8 @@ same_coming wires tick send x y one two =
     go Send is Send also times back = is ∙ sym also
 
 -- what comes first is what `next` answers
-pub only_first : (wires : Wires) (tick : Option ℕ) (send : ℕ) (coming : Coming) → ComesFirst wires tick send coming → coming ≡ next_of wires tick send
-only_first wires tick send coming first = same_coming wires tick send coming (next_of wires tick send) first (comes_first wires tick send)
+pub only_first : (wires : Wires) (tick : Option ℕ) (send : ℕ) (coming : Coming) → ComesFirst wires tick send coming → coming ≡ coming_of wires tick send
+only_first wires tick send coming first = same_coming wires tick send coming (coming_of wires tick send) first (comes_first wires tick send)
 
 -- the end that comes first is the next
 pub only_end : (wires : Wires) (ending : Ending) → EndsFirst wires ending → next_end wires ≡ Some ending
@@ -369,7 +369,7 @@ end_not_back (Some ending) other now ends rest = elim (cases_Bool (nat_le ending
 ]
 
 -- what happens next does not come before now, if nothing of all that is to come does
-pub not_back : (wires : Wires) (tick : Option ℕ) (send now : ℕ) → NoneEndsBefore wires now → IsNotBefore tick now → now ≤ send → now ≤ (next_of wires tick send).time_us
+pub not_back : (wires : Wires) (tick : Option ℕ) (send now : ℕ) → NoneEndsBefore wires now → IsNotBefore tick now → now ≤ send → now ≤ (coming_of wires tick send).time_us
 not_back wires tick send now ends ticks sends =
     end_not_back (next_end wires) (tick_or_send tick send) now (λ ending is. let own = (ends_first wires ending is).own in ends ending.line ending.flight own) (tick_not_back tick send now ticks sends)
 

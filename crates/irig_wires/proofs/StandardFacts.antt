@@ -9,7 +9,7 @@ use Rattle.irig_wires.specs.declared.wires.Coming.{Coming}
 use Rattle.irig_wires.specs.declared.wires.Happening.TheVariants.{End, Tick, Send}
 use Rattle.irig_wires.specs.Oscillator.{counter_at, edges_by, rate_of, time_of}
 use Rattle.irig_wires.specs.Wires.{added, made_late, plugged, pulled, sent, wire_at, wires_of, with_wire}
-use Rattle.irig_wires.specs.Happenings.{next_end, next_of}
+use Rattle.irig_wires.specs.Happenings.{next_end, coming_of}
 use Rattle.irig_wires.specs.Order.{ComesFirst, EndsFirst, behind_end}
 use Rattle.irig_wires.specs.Calls.{Call, LineCall, AreBy, AreApart, AreElements, AreOnLines, IsLeftAlone, brought, calls_on, carried, sendings, wire_after, wires_after}
 use Rattle.irig_wires.specs.Calls.Call.{Take, Add, Pull}
@@ -90,12 +90,12 @@ two_ended = behind_end one_ended (ending 1 350 8350)
 abbrev three_ended : Wires
 three_ended = behind_end two_ended (ending 2 700 8700)
 
-pub known_order : (next_of marked (Some 8350) 10000 ≡ ends 0 0 8000) × (next_of one_ended (Some 8350) 10000 ≡ ends 1 350 8350)
-    × (next_of two_ended (Some 8350) 10000 ≡ ticks 8350) × (next_of two_ended None 10000 ≡ ends 2 700 8700) × (next_of three_ended None 10000 ≡ sends 10000) × (next_end three_ended ≡ None)
+pub known_order : (coming_of marked (Some 8350) 10000 ≡ ends 0 0 8000) × (coming_of one_ended (Some 8350) 10000 ≡ ends 1 350 8350)
+    × (coming_of two_ended (Some 8350) 10000 ≡ ticks 8350) × (coming_of two_ended None 10000 ≡ ends 2 700 8700) × (coming_of three_ended None 10000 ≡ sends 10000) × (next_end three_ended ≡ None)
 known_order = (refl, refl, refl, refl, refl, refl)
 
 -- a tick that falls on a sending comes before it, and an end before a tick
-pub known_together : (next_of three_ended (Some 10000) 10000 ≡ ticks 10000) × (next_of three_ended (Some 10001) 10000 ≡ sends 10000) × (next_of marked (Some 8000) 8000 ≡ ends 0 0 8000)
+pub known_together : (coming_of three_ended (Some 10000) 10000 ≡ ticks 10000) × (coming_of three_ended (Some 10001) 10000 ≡ sends 10000) × (coming_of marked (Some 8000) 8000 ≡ ends 0 0 8000)
 known_together = (refl, refl, refl)
 
 pub known_not_first : ¬ ComesFirst marked (Some 8000) 10000 (ticks 8000) × ¬ ComesFirst marked None 10000 (ends 1 350 8350)

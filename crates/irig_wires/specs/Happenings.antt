@@ -44,5 +44,5 @@ end_or (Some ending) other =
     else other
 
 -- what happens next
-abbrev pub next_of : Wires → (tick : Option ℕ) → (send : ℕ) → Coming
-next_of wires tick send = end_or (next_end wires) (tick_or_send tick send)
+abbrev pub coming_of : Wires → (tick : Option ℕ) → (send : ℕ) → Coming
+coming_of wires tick send = end_or (next_end wires) (tick_or_send tick send)

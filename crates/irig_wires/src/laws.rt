@@ -3,7 +3,7 @@
 ghost use Rattle.std.specs.Prelude.{◌≡◌, ◌↔◌, ◌⊎◌, ◌<◌, ◌≤◌, ◌+◌, ◌*◌, ◌/◌, ℕ, ℤ, unsigned_abs, List, Option, None, Some};
 ghost use Rattle.irig_wires.specs.Oscillator.{counter_at, edges_by, rate_of, time_of};
 ghost use Rattle.irig_wires.specs.Wires.{ended, late_at, most_late_us, wire_at, with_wire};
-ghost use Rattle.irig_wires.specs.Happenings.{next_end, next_of};
+ghost use Rattle.irig_wires.specs.Happenings.{next_end, coming_of};
 ghost use Rattle.irig_wires.specs.Order.{ComesFirst, EndsFirst, IsNotBefore, IsOnItsWay, NoneEndsBefore, behind_end};
 ghost use Rattle.irig_wires.specs.Calls.{AreApart, AreBy, AreElements, AreOnLines, Call, IsLeftAlone, IsNotBack, LineCall, as_sent, brought, called, called_on, calls_on, carried, sendings, wire_after, wires_after};
 ghost use Rattle.irig_wires.specs.Calls.Call.{Take};
@@ -74,9 +74,9 @@ pub fn a_line_left_alone_loses_none()
 /// and was not taken.
 pub fn what_comes_next_comes_first()
     ensures next { (wires : Wires) (tick : Option ℕ) (send : ℕ) (coming : Coming)
-        → ComesFirst wires tick send coming ↔ (coming ≡ next_of wires tick send) }
+        → ComesFirst wires tick send coming ↔ (coming ≡ coming_of wires tick send) }
     ensures sends { (wires : Wires) (tick : Option ℕ) (send line : ℕ) → line < 5
-        → (next_of wires tick send).what ≡ Happening.Send
+        → (coming_of wires tick send).what ≡ Happening.Send
         → ended send (wire_at wires line).flight ≡ None }
     ensures end { (wires : Wires) (ending : Ending)
         → EndsFirst wires ending ↔ (next_end wires ≡ Some ending) }
@@ -90,7 +90,7 @@ pub fn what_comes_next_comes_first()
 /// time by the number of their line.
 pub fn time_does_not_go_back()
     ensures next { (wires : Wires) (tick : Option ℕ) (send now : ℕ) → NoneEndsBefore wires now
-        → IsNotBefore tick now → now ≤ send → now ≤ (next_of wires tick send).time_us }
+        → IsNotBefore tick now → now ≤ send → now ≤ (coming_of wires tick send).time_us }
     ensures kept { (wires : Wires) (on : LineCall) (time : ℕ) → on.line < 5
         → IsNotBack time on.call → NoneEndsBefore wires time
         → NoneEndsBefore (called_on on wires) time }

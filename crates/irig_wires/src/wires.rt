@@ -2,7 +2,7 @@
 
 ghost use Rattle.std.specs.Prelude.{◌≡◌, ◌≤◌, ◌<◌, ◌^◌, All};
 ghost use Rattle.irig_wires.specs.Wires.{added, ended, late_at, made_late, most_late_us, plugged, pulled, sent, taken, wire_at, wires_of, with_wire};
-ghost use Rattle.irig_wires.specs.Happenings.{earlier_end, end_or, ending_on, next_end, next_of, tick_or_send};
+ghost use Rattle.irig_wires.specs.Happenings.{earlier_end, end_or, ending_on, next_end, coming_of, tick_or_send};
 
 use crate::wire::{Flight, Wire};
 
@@ -185,7 +185,7 @@ impl Wires {
     /// generators send the next element then. At one time pulses that end come first, by the number
     /// of their line, then the tick, then what generators send.
     pub fn next(&self, tick_us: Option<u64>, send_us: u64) -> Coming
-        ensures { result ≡ next_of self.now tick_us send_us }
+        ensures { result ≡ coming_of self.now tick_us send_us }
     {
         end_or(self.next_end(), tick_or_send(tick_us, send_us))
     }
