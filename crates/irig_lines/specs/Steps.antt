@@ -1,7 +1,7 @@
 -- What becomes of a device's lines by a pulse and at a tick, and on which edge they agree.
 -- Source: this project's profile.
 use Rattle.std.specs.Prelude.{◌≡◌, ℕ, ◌+◌, ◌-◌, ◌*◌, ◌/◌, ◌%◌, ◌^◌, ◌==◌, min, Bool, true, false, not, ◌&&◌, nat_lt, nat_le, if◌then◌else◌, List, [], ◌∷◌, count_by, Option, Some, None, IfSome}
-use Rattle.irig_sync.specs.Sync.{clock_gap, place_of, pulse_of, idle_of, is_idle}
+use Rattle.irig_sync.specs.Sync.{clock_gap, no_sync, place_of, pulse_of, idle_of, is_idle}
 use Rattle.irig_sync.specs.Edges.{element_drift}
 use Rattle.irig_sync.specs.Lines.{IsSyncOf}
 use Rattle.irig_time.specs.Claims.{same_claim}
@@ -359,6 +359,20 @@ pub record AreNewLines (lines : Lines) : Type 0 where
   pub c : IsNewLine lines.c
   pub d : IsNewLine lines.d
   pub e : IsNewLine lines.e
+
+-- such a line, with no number in it
+abbrev pub no_line : Line
+no_line = record {
+  sync = no_sync;
+  begin_us = 0;
+  frame = None;
+  seen = None;
+  is_heard = false;
+}
+
+-- such lines
+abbrev pub no_lines : Lines
+no_lines = record { a = no_line; b = no_line; c = no_line; d = no_line; e = no_line }
 
 -- ---- how long to wait
 

@@ -5,7 +5,7 @@ ghost use Rattle.irig_vote.specs.Vote.{f_of};
 ghost use Rattle.irig_sync.specs.Sync.{clock_gap, is_idle};
 ghost use Rattle.irig_lines.specs.Exactness.{most_drift_us, most_vote_us};
 ghost use Rattle.irig_lines.specs.Widths.{reach_us};
-ghost use Rattle.irig_lines.specs.Steps.{is_pulse, line_at, with_line, still_kept, line_settled, settled, taken, still_seen, is_even, is_uneven, are_uneven, quality_told, whole_frame, frame_tells, tells_of, claim_kept, all_kept, agrees, is_candidate, earlier, first_candidate, place_behind, ends_by, ends_from, ends_near, begins_near, last_behind, first_before, less_behind, least_behind, less_before, least_before, vote_between, vote_with, agreed, if_come, IsNewLine, AreNewLines, until, wait_by};
+ghost use Rattle.irig_lines.specs.Steps.{is_pulse, line_at, with_line, still_kept, line_settled, settled, taken, still_seen, is_even, is_uneven, are_uneven, quality_told, whole_frame, frame_tells, tells_of, claim_kept, all_kept, agrees, is_candidate, earlier, first_candidate, place_behind, ends_by, ends_from, ends_near, begins_near, last_behind, first_before, less_behind, least_behind, less_before, least_before, vote_between, vote_with, agreed, if_come, IsNewLine, AreNewLines, no_line, no_lines, until, wait_by};
 
 use crate::counting::{has_come, is_gone, is_late};
 use crate::setup::ClockRules;
@@ -103,7 +103,8 @@ pub struct Lines {
 
 /// A line on which nothing came.
 fn line_of_nothing() -> Line
-    ensures { IsNewLine result }
+    ensures value { result ≡ no_line }
+    ensures new { IsNewLine result }
 {
     Line {
         sync: Sync::none(),
@@ -116,7 +117,8 @@ fn line_of_nothing() -> Line
 
 /// Lines on which nothing came.
 pub fn lines_of_nothing() -> Lines
-    ensures { AreNewLines result }
+    ensures value { result ≡ no_lines }
+    ensures new { AreNewLines result }
 {
     Lines {
         a: line_of_nothing(),

@@ -48,6 +48,10 @@ place_of s rise width =
     place_at (is_on_time (clock_gap s.rise_us rise)) (is_marker width) (not (s.was_marker == 0))
     s.place
 
+-- the numbers of a line on which nothing came
+abbrev pub no_sync : Sync
+no_sync = record { rise_us = 0; place = 0; was_marker = 1 }
+
 -- the numbers behind the next pulse
 abbrev pub pulse_of : Sync → ℕ → ℕ → Sync
 pulse_of s rise width =

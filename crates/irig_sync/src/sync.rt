@@ -1,7 +1,7 @@
 //! Where a line stands in its frame.
 
 ghost use Rattle.std.specs.Prelude.{◌≡◌, ◌≤◌, []};
-ghost use Rattle.irig_sync.specs.Sync.{is_on_time, clock_gap, place_behind, place_of, pulse_of, idle_of};
+ghost use Rattle.irig_sync.specs.Sync.{is_on_time, clock_gap, no_sync, place_behind, place_of, pulse_of, idle_of};
 ghost use Rattle.irig_sync.specs.Lines.{IsSyncOf};
 
 use irig_frame::{Symbol, classify};
@@ -28,7 +28,8 @@ pub struct Sync {
 impl Sync {
     /// Of a line on which nothing came. Its first marker begins a frame.
     pub fn none() -> Sync
-        ensures { IsSyncOf result [] }
+        ensures value { result ≡ no_sync }
+        ensures of_nothing { IsSyncOf result [] }
     {
         Sync {
             rise_us: 0,

@@ -5,7 +5,7 @@ ghost use Rattle.irig_time.specs.Seconds.{IsValid};
 ghost use Rattle.irig_reader.specs.Rule.{count_of};
 ghost use Rattle.irig_lines.specs.Counting.{edges_to_vote, edges_own};
 ghost use Rattle.irig_timekeeper.specs.Rule.{against_table, missed, step_behind};
-ghost use Rattle.irig_lines.specs.Steps.{AreKeptOfUtc, AreNewLines};
+ghost use Rattle.irig_lines.specs.Steps.{AreKeptOfUtc, AreNewLines, no_lines};
 ghost use Rattle.irig_timekeeper.specs.Keeping.{new_state};
 ghost use Rattle.irig_lines.specs.Intervals.{IsShort};
 ghost use Rattle.irig_lines.specs.Paces.{IsSound, grown_us};
@@ -92,7 +92,7 @@ pub struct Ticked {
 
 /// A clock that nobody has set, on lines on which nothing came.
 pub fn clock_of_nothing() -> ClockState
-    ensures new { result ≡ new_state result.lines }
+    ensures value { result ≡ new_state no_lines }
     ensures lines { AreNewLines result.lines }
 {
     ClockState {

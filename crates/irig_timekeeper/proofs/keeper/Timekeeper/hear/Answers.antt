@@ -27,5 +27,6 @@ returns-then-is_pulse-clause-lived g c made calls rise h at =
     record {
       lines = h.lines;
       fresh = h.fresh;
+      none = h.none;
       is = subst (λ (r : ℕ). IsKeeping c.hear_pulse.new.self (after_pulse k c.args.line r c.args.width_us)) there (returns-then-is_pulse-clause-heard g c k h.is);
     }
