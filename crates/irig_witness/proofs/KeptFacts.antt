@@ -2,10 +2,12 @@
 -- three seconds. They come 0, 350 and 700 us late, so that the third one is untrue. The counter gains 20 us
 -- a second and wraps. The device's setting says that lines are less than 450 us off, and its counter 40 us a
 -- second. If a second line comes 600 us late, the audit is broken.
-use Rattle.std.proofs.Common.{◌≡◌, ◌∙◌, ℕ, zero, suc, ◌+◌, ◌/◌, ◌%◌, ◌^◌, ◌<◌, true, false, cond, ◌&&◌, List, [], ◌∷◌, Option, Some, None, refl, ap, arith, inl}
-use Rattle.std.specs.Prelude.{◌==◌, nat_le}
+use Rattle.std.proofs.Common.{◌≡◌, ◌∙◌, ℕ, zero, suc, ◌+◌, ◌/◌, ◌%◌, ◌^◌, ◌<◌, true, false, cond, ◌&&◌, List, [], ◌∷◌, Option, Some, None, refl, sym, ap, arith, inl, inr}
+use Rattle.std.specs.Prelude.{◌==◌, nat_le, nat_lt}
 use Rattle.std.proofs.Math.Path.{fun_ext}
+use Rattle.std.proofs.lemmas.Bool.{cases_Bool, lt-ltb}
 use Rattle.irig_frame.specs.declared.symbol.Symbol.{Symbol}
+use Rattle.irig_frame.specs.declared.symbol.Symbol.TheVariants.{Zero, One, Bad}
 use Rattle.irig_sync.specs.Lines.{Pulse, pulse_at}
 use Rattle.irig_lines.specs.Lines.{ArePulsesLately}
 use Rattle.irig_frame.specs.Faults.{values_of, field_at}
@@ -33,8 +35,9 @@ use Rattle.irig_lives.proofs.LifeFacts.{are_new, at, claim_of, clock, frame, lin
 use Rattle.irig_witness.specs.Elements.{IsLateLine, begins_at}
 use Rattle.irig_wires.specs.Oscillator.{counter_at, edges_by}
 use Rattle.irig_witness.specs.TrueFrames.{claims_only, is_harmless, true_symbol}
-use Rattle.irig_witness.specs.Witness.{is_kept, lines_by}
+use Rattle.irig_witness.specs.Witness.{AreSameBefore, IsSaidOf, is_kept, lines_by}
 use Rattle.irig_witness.specs.Promise.{IsStampedInTime, IsTrueSetup, lines_of}
+use Rattle.irig_witness.proofs.BegunLaws.{kept_same}
 use Rattle.irig_witness.proofs.LateLaws.{late_true}
 use Rattle.irig_witness.proofs.VouchLaws.{device, in_time, stamps, tells}
 
@@ -181,3 +184,54 @@ late = record {
 late_are_true : (then : ℕ) → ArePulsesLately 52 line (edges_by first rate) then 2 late_pulses
 unfolding late
 late_are_true then = late_true 40 first rate setup.steady 52 line then late_pulses late
+
+-- ---- an audit at the end of a second, of which lines are known until then: zeros. Of the next second they
+-- may have ones. A pulse of 400 us ends with the first second, and is near the first element of the next
+
+abbrev zeros : ℕ → ℕ → Symbol
+zeros l k = Zero
+
+abbrev then_ones : ℕ → ℕ → Symbol
+then_ones l k = cond (nat_lt k 100) Zero One
+
+abbrev next_edge : ℕ
+next_edge = 4294500020
+
+never_bad_then : (l k : ℕ) → ¬ (then_ones l k ≡ Bad)
+never_bad_then l k e = elim (cases_Bool (nat_lt k 100)) [
+  | inl low ↦ (let wrong : Zero ≡ Bad = (let same : then_ones l k ≡ Zero = rw low refl in sym same ∙ e) in absurd cc)
+  | inr high ↦ (let wrong : One ≡ Bad = (let same : then_ones l k ≡ One = rw high refl in sym same ∙ e) in absurd cc)
+]
+
+same_first : AreSameBefore (edges_by first rate) next_edge zeros then_ones
+same_first = record {
+  same = λ l k begun. (let low : nat_lt k 100 ≡ true = lt-ltb k 100 (omega (arith, begun)) in rw low refl);
+  good = λ l k e. absurd cc;
+  other_good = never_bad_then;
+}
+
+narrow_call : Call
+narrow_call = Hear 2 4294499620 400
+
+first_calls : List Call
+first_calls = Tick 4294502020 ∷ narrow_call ∷ Hear 1 4294490019 2000 ∷ Hear 0 4294490019 2000 ∷ []
+
+asks_of_the_first : is_kept made.clock (lines_by zeros first rate) start first_calls ≡ is_kept made.clock (lines_by then_ones first rate) start first_calls
+unfolding first_calls narrow_call
+asks_of_the_first = kept_same first rate next_edge zeros then_ones same_first made.clock start first_calls (omega arith, (omega arith, (omega arith, tt)))
+
+kept_of_the_first : (is_kept made.clock (lines_by zeros first rate) start first_calls ≡ true) × (is_kept made.clock (lines_by then_ones first rate) start first_calls ≡ true)
+unfolding first_calls narrow_call in_order have_risen is_after is_pulse_of is_same
+kept_of_the_first = (refl, refl)
+
+-- of pulses that end behind the second it asks what comes next
+later_calls : List Call
+later_calls = Tick 4294502020 ∷ Hear 1 4294500020 2000 ∷ Hear 0 4294500020 2000 ∷ []
+
+asks_of_the_next : (is_kept made.clock (lines_by zeros first rate) start later_calls ≡ true) × (is_kept made.clock (lines_by then_ones first rate) start later_calls ≡ false)
+unfolding later_calls in_order have_risen is_after is_pulse_of is_same
+asks_of_the_next = (refl, refl)
+
+-- of the narrow pulse either may be said
+either_is_said : (said : Symbol) → ¬ (said ≡ Bad) → IsSaidOf (zeros 2) 100 400 said
+either_is_said said good = inr (refl, good, λ e. absurd cc)

@@ -1,3 +1,4 @@
+pub mod SaidLaws
 pub mod LineLaws
 pub mod CallLaws
 pub mod FrameLaws
@@ -6,4 +7,6 @@ pub mod VouchLaws
 pub mod ExactLaws
 pub mod LateLaws
 pub mod WatchLaws
+pub mod BegunLaws
+pub mod BeforeLaws
 pub mod KeptFacts

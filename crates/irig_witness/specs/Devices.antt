@@ -16,7 +16,7 @@ use Rattle.irig_witness.specs.declared.device.Device.{Device}
 use Rattle.irig_witness.specs.Elements.{element_near}
 use Rattle.irig_wires.specs.Oscillator.{rate_of, counter_at, edges_by}
 use Rattle.irig_witness.specs.TrueFrames.{true_symbol}
-use Rattle.irig_witness.specs.Witness.{TrueLines, lines_by}
+use Rattle.irig_witness.specs.Witness.{IsSaidOf, TrueLines, lines_by}
 use Rattle.irig_witness.specs.Watches.{IsWatchOf, may_tick}
 use Rattle.irig_witness.specs.Promise.{IsStampedInTime, IsTrueSetup}
 
@@ -57,12 +57,13 @@ pub record IsSetAs {P : Type 0} {g : Ghosts P} (new old : Device P g) : Type 0 w
   pub clock : new.clock ≡ old.clock
   pub oscillator : new.oscillator ≡ old.oscillator
 
--- one pulse more, if it is said what a true line has there
+-- one pulse more, if what is said of it is what a true line has there, or does not matter
 abbrev pub HearsOn : {P : Type 0} {g : Ghosts P} → (old new : Device P g) → (line rise width : ℕ)
     → Symbol → Type 0
 HearsOn old new line rise width said =
     (made : MadeOf) (symbol : (line element : ℕ) → Symbol) (start : ℕ) (calls : List Call)
-    → IsDeviceOf old made symbol start calls → said ≡ symbol line (element_on old line rise)
+    → IsDeviceOf old made symbol start calls
+    → IsSaidOf (symbol line) (element_on old line rise) width said
     → IsDeviceOf new made symbol start (Hear line (risen_on old line rise) width ∷ calls)
 
 -- one tick more

@@ -1,9 +1,11 @@
 -- The audit of a device: a fold over its calls, beside what true lines would have sent. It says if
 -- the premises were kept under which a timekeeper tells the truth.
 -- Source: docs/WIRES.md, what a timekeeper asks.
-use Rattle.std.specs.Prelude.{◌≡◌, ℕ, ◌+◌, ◌==◌, ◌<◌, ◌≤◌, Bool, true, false, ◌&&◌, nat_lt, nat_le, max, if◌then◌else◌, List, [], ◌∷◌, count_by, ⊤}
+use Rattle.std.specs.Prelude.{◌≡◌, ℕ, ◌+◌, ◌/◌, ◌==◌, ◌<◌, ◌≤◌, ◌⊎◌, Bool, true, false, ◌&&◌, nat_lt, nat_le, max, if◌then◌else◌, List, [], ◌∷◌, count_by, ⊤}
 use Rattle.std.specs.List.{range_with_len}
 use Rattle.irig_frame.specs.declared.symbol.Symbol.{Symbol}
+use Rattle.irig_frame.specs.declared.symbol.Symbol.TheVariants.{Bad}
+use Rattle.irig_frame.specs.Symbols.{symbol_of}
 use Rattle.irig_sync.specs.Lines.{pulse_at}
 use Rattle.irig_vote.specs.Vote.{f_of}
 use Rattle.irig_lines.specs.declared.setup.ClockRules.{ClockRules}
@@ -68,6 +70,12 @@ after_rise within line edges a j rise width =
     if is_pulse_of within line edges j (pulse_at rise width) then after_true a j rise
     else after_false a rise
 
+-- what an audit may be told of a pulse that may be of such an element: the symbol that the line has
+-- there. Of a pulse that is as wide as no symbol, any other will do, if neither is bad
+abbrev pub IsSaidOf : (line : ℕ → Symbol) → (element width : ℕ) → (said : Symbol) → Type 0
+IsSaidOf line element width said =
+    (said ≡ line element) ⊎ ((symbol_of width ≡ Bad) × ¬ (said ≡ Bad) × ¬ (line element ≡ Bad))
+
 -- ---- a device's calls, the newest first
 
 -- what is known of a line behind them
@@ -118,3 +126,19 @@ pub record KeepsPremises (c : ClockRules) (x : TrueLines) (start : ℕ) (calls :
     : Type 0 where
   pub order : AreInOrder start c.redundancy calls
   pub truth : WereTrueBeside c.within.us (f_of c.redundancy) x calls
+
+-- ---- of what it asks
+
+-- lines of the one kind of symbols and of the other are the same in each second that begins before
+-- a time, and none has a bad pulse
+pub record AreSameBefore (edges : ℕ → ℕ) (time : ℕ) (symbol other : (line element : ℕ) → Symbol)
+    : Type 0 where
+  pub same : (line k : ℕ) → edges (k / 100) < time → symbol line k ≡ other line k
+  pub good : (line k : ℕ) → ¬ (symbol line k ≡ Bad)
+  pub other_good : (line k : ℕ) → ¬ (other line k ≡ Bad)
+
+-- each pulse of these calls has ended by then
+abbrev pub HaveEnded : (time : ℕ) → List Call → Type 0
+HaveEnded time [] = ⊤
+HaveEnded time (Hear port rise width ∷ calls) = (rise + width ≤ time) × HaveEnded time calls
+HaveEnded time (Tick now ∷ calls) = HaveEnded time calls

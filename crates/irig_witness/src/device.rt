@@ -85,7 +85,8 @@ impl<P: Port> Device<P> {
 
     /// A pulse on a line, once it has ended, to the timekeeper and to its audit: its place in its
     /// frame, 1 to 100, or 0 out of step. It rises at the device at `rise_us`, and is `width_us`
-    /// microseconds wide. A true line has `symbol` at its [`element`](Self::element).
+    /// microseconds wide. A true line has `symbol` at its [`element`](Self::element). Of a pulse that
+    /// is as wide as no symbol, any but [`Bad`](Symbol::Bad) will do.
     pub fn hear(&mut self, line: u8, rise_us: u64, width_us: u32, symbol: Symbol) -> u8
         requires line { line < ports_in self.old.clock.redundancy }
         requires late { 32768 ≤ rise_us }

@@ -12,13 +12,17 @@ ghost use Rattle.irig_timekeeper.specs.Keeping.{answer_at, stamp_at};
 ghost use Rattle.irig_timekeeper.specs.Truth.{IsStampedTruly, IsToldInHoldover};
 ghost use Rattle.irig_timekeeper.specs.Life.{Call, Made, AreInOrder, LivesTruly, life_of, pulses_on};
 ghost use Rattle.irig_timekeeper.specs.Life.Call.{Tick};
+ghost use Rattle.irig_timekeeper.specs.Lived.{MadeOf};
 ghost use Rattle.irig_lives.specs.Decided.{in_order};
 ghost use Rattle.irig_wires.specs.Oscillator.{counter_at, edges_by};
 ghost use Rattle.irig_witness.specs.Elements.{IsLateLine, KeepsRate};
-ghost use Rattle.irig_witness.specs.Witness.{KeepsPremises, TrueLines, is_doubted, is_kept, lines_by};
+ghost use Rattle.irig_witness.specs.Witness.{AreSameBefore, HaveEnded, KeepsPremises, TrueLines, is_doubted, is_kept, lines_by};
 ghost use Rattle.irig_witness.specs.Promise.{IsStampedInTime, IsTrueDevice, IsTrueSetup, lines_of};
+ghost use Rattle.irig_witness.specs.Devices.{IsDeviceOf, edges_of};
 
+use crate::device::Device;
 use irig_lines::ClockRules;
+use irig_port::Port;
 use irig_time::UtcSecond;
 use irig_timekeeper::{Beat, Stamp};
 use irig_vote::Redundancy;
@@ -119,4 +123,26 @@ pub fn a_late_line_is_true()
         → ((line : ℕ) → line < 5 → untrue line ≡ false
         → IsLateLine clock.within.us (symbol line) first rate (pulses_on line calls))
         → is_kept clock (lines_by symbol first rate) start calls ≡ true }
+{}
+
+/// An audit asks only of what has begun: beside lines that differ in no second which begins before a
+/// time, it is the same, if each pulse has ended by that time and no line has a bad one. For a pulse
+/// that is so near an element of a later second is less than 450 us wide, so as wide as no symbol.
+pub fn an_audit_asks_of_what_has_begun<P: Port>(device: &Device<P>)
+    ensures kept { (first rate time start : ℕ) (symbol other : ℕ → ℕ → Symbol)
+        (clock : ClockRules) (calls : List Call)
+        → AreSameBefore (edges_by first rate) time symbol other → HaveEnded time calls
+        → is_kept clock (lines_by symbol first rate) start calls
+        ≡ is_kept clock (lines_by other first rate) start calls }
+    // So a device of which only seconds are known that have begun is one beside all of them.
+    ensures same { (time start : ℕ) (symbol other : ℕ → ℕ → Symbol) (made : MadeOf)
+        (calls : List Call) → AreSameBefore (edges_of device.now) time symbol other
+        → HaveEnded time calls → IsDeviceOf device.now made symbol start calls
+        → IsDeviceOf device.now made other start calls }
+{}
+
+/// An audit that is kept was kept before each call.
+pub fn a_kept_audit_was_kept()
+    ensures { (clock : ClockRules) (x : TrueLines) (start : ℕ) (call : Call) (calls : List Call)
+        → is_kept clock x start (call ∷ calls) ≡ true → is_kept clock x start calls ≡ true }
 {}

@@ -13,8 +13,8 @@ mod watch;
 pub use device::Device;
 pub use irig_wires::Oscillator;
 pub use laws::{
-    a_device_vouches, a_late_line_is_true, an_audit_doubts_no_true_line, an_audit_is_exact,
-    an_audit_is_right,
+    a_device_vouches, a_kept_audit_was_kept, a_late_line_is_true, an_audit_asks_of_what_has_begun,
+    an_audit_doubts_no_true_line, an_audit_is_exact, an_audit_is_right,
 };
 pub use line::{LineWitness, Risen};
 pub use watch::Watch;

@@ -7,6 +7,7 @@ ghost use Rattle.irig_sync.specs.Edges.{element_at};
 ghost use Rattle.irig_lines.specs.Exactness.{most_within_us};
 ghost use Rattle.irig_lives.specs.Decided.{is_same};
 ghost use Rattle.irig_witness.specs.Witness as witness;
+ghost use Rattle.irig_witness.specs.Witness.{IsSaidOf};
 
 use irig_frame::{Symbol, classify};
 
@@ -36,7 +37,7 @@ pub struct Risen {
     pub element: u64,
     /// When that begins.
     pub begins: u64,
-    /// Its symbol.
+    /// Its symbol. Of a pulse that is as wide as no symbol, any but [`Bad`](Symbol::Bad) will do.
     pub symbol: Symbol,
 }
 
@@ -63,7 +64,7 @@ pub(crate) fn after_rise(line: LineWitness, within_us: u32, pulse: Risen) -> Lin
     requires element { pulse.element < 2 ^ 58 }
     requires begins { pulse.begins < 2 ^ 58 }
     ensures { (symbols : ℕ → Symbol) (edges : ℕ → ℕ) → pulse.begins ≡ element_at edges pulse.element
-        → pulse.symbol ≡ symbols pulse.element
+        → IsSaidOf symbols pulse.element pulse.width_us pulse.symbol
         → result ≡ witness.after_rise within_us symbols edges line pulse.element pulse.rise
         pulse.width_us }
 {

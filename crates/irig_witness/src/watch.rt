@@ -5,7 +5,7 @@ ghost use Rattle.irig_sync.specs.Edges.{element_at};
 ghost use Rattle.irig_vote.specs.Vote.{ports_in};
 ghost use Rattle.irig_timekeeper.specs.Life.{Call};
 ghost use Rattle.irig_timekeeper.specs.Life.Call.{Hear, Tick};
-ghost use Rattle.irig_witness.specs.Witness.{TrueLines};
+ghost use Rattle.irig_witness.specs.Witness.{IsSaidOf, TrueLines};
 
 use crate::line::{LineWitness, Risen, after_rise, new_witness};
 use irig_lines::{ClockRules, is_pulse};
@@ -61,7 +61,7 @@ impl Watch {
         ensures { (x : TrueLines) (start : ℕ) (calls : List Call)
             → IsWatchOf self clock.now x start calls → pulse.element ≡ x.near pulse.rise
             → pulse.begins ≡ element_at x.edges pulse.element
-            → pulse.symbol ≡ x.symbol line pulse.element
+            → IsSaidOf (x.symbol line) pulse.element pulse.width_us pulse.symbol
             → IsWatchOf result clock.now x start (Hear line pulse.rise pulse.width_us ∷ calls) }
     {
         if !is_pulse(pulse.width_us) {

@@ -5,6 +5,7 @@ use Rattle.irig_timekeeper.specs.Keeping.{place_told}
 use Rattle.irig_timekeeper.specs.Life.Call.{Hear}
 use Rattle.irig_wires.specs.Oscillator.{rate_of}
 use Rattle.irig_witness.specs.Elements.{element_near}
+use Rattle.irig_witness.specs.Witness.{IsSaidOf}
 use Rattle.irig_witness.specs.Watches.{IsWatchOf}
 use Rattle.irig_witness.specs.Devices.{lines_on, risen_on}
 use Rattle.irig_witness.proofs.device.Device.hear.Goals as goal
@@ -23,7 +24,7 @@ returns-clause-on g c made symbol start calls is said =
     low_is c.args.rise_us line c.low.result (risen_on d line c.args.rise_us) d.clock made.clock c.low.ensures (sym is.clock) (c.risen_on-rise.ensures.low ∙ ap (λ (n : ℕ). n % 2 ^ 32) rise) in
     let heard : IsWatchOf c.hear-self.result d.clock (lines_on d symbol) start (Hear line c.risen_on-rise.result c.args.width_us ∷ calls) =
     c.hear-self.ensures (lines_on d symbol) start calls (subst (λ (k : ClockRules). IsWatchOf d.watch k (lines_on d symbol) start calls) (sym is.clock) is.watch) c.element_near-element.ensures.value c.begins.ensures.value
-    (said ∙ ap (symbol line) (sym (c.element_near-element.ensures.value ∙ ap (element_near d.oscillator.first (rate_of d.oscillator.gain_us)) rise))) in
+    (subst (λ (k : ℕ). IsSaidOf (symbol line) k c.args.width_us c.args.symbol) (sym (c.element_near-element.ensures.value ∙ ap (element_near d.oscillator.first (rate_of d.oscillator.gain_us)) rise)) said) in
     record {
       lived = c.hear.ensures.lived made calls (risen_on d line c.args.rise_us) is.lived low;
       watch = subst (λ (k : ClockRules). IsWatchOf c.hear-self.result k (lines_on d symbol) start (Hear line (risen_on d line c.args.rise_us) c.args.width_us ∷ calls)) is.clock
