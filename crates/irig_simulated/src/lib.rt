@@ -1,0 +1,18 @@
+//! A simulated device: it hears what its cables bring, and is ticked by itself, while true time passes.
+#![tactic(auto)]
+
+mod events;
+mod happenings;
+mod laws;
+mod play;
+mod second;
+mod setup;
+mod simulated;
+mod ticking;
+mod told_second;
+
+pub use laws::{a_course_tells_the_truth, time_passes_to_its_end};
+pub use second::{LineSecond, Second};
+pub use setup::{DeviceSetup, Ticking};
+pub use simulated::Simulated;
+pub use told_second::ToldSecond;

@@ -1,0 +1,126 @@
+//! What becomes of a simulated device while true time passes.
+
+ghost use Rattle.std.specs.Prelude.{◌≡◌, ◌≤◌, ◌<◌, ◌+◌, ◌*◌, ◌^◌, ℕ, Option, Some, IfErr, IfOk, OnOk, vec_len};
+ghost use Rattle.irig_frame.specs.declared.symbol.Symbol.{Symbol};
+ghost use Rattle.irig_lines.specs.Refusals.{clock_fault};
+ghost use Rattle.irig_vote.specs.Vote.{ports_in};
+ghost use Rattle.irig_simulated.specs.Kinds.{IsDevicePlan, Kind, kind_of};
+ghost use Rattle.irig_simulated.specs.Courses.{Course, begun_with, coming_from, passed, stepped};
+ghost use Rattle.irig_simulated.specs.Seconds.{IsSecondOf};
+ghost use Rattle.irig_simulated.specs.Simulations.{IsSimulationOf};
+
+use crate::second::Second;
+use crate::setup::{DeviceSetup, clock_in};
+use crate::simulated::Simulated;
+use crate::ticking::next_tick;
+use irig_lines::ClockFault;
+use irig_port::Port;
+use irig_time::Rules;
+use irig_vote::Redundancy;
+use irig_wires::{Coming, Happening, Oscillator, Wires};
+use irig_witness::Device;
+use std::alloc::{AllocError, Global};
+
+/// What the counter has shown more at edge 0 than its 32 bits say: it has turned over once.
+const TURN: u64 = 1 << 32;
+
+impl<P: Port> Simulated<P> {
+    /// A device of this setup at edge 0, with as many lines as the redundancy says. Of a setup that
+    /// there may be, none is refused.
+    pub fn new(
+        alloc: Global,
+        rules: Rules,
+        redundancy: Redundancy,
+        setup: &DeviceSetup,
+    ) -> Result<Self, ClockFault>
+        requires { IsDevicePlan setup.now }
+        ensures refused { IfErr result (λ fault.
+            clock_fault setup.now.rules setup.now.drift_us 0 ≡ Some fault) }
+        ensures now { IfOk result (λ s. s.now_us ≡ 0) }
+        ensures ports { IfOk result (λ s. s.device.clock.redundancy ≡ redundancy) }
+        ensures stands { IfOk result (λ s. (symbol : ℕ → ℕ → Symbol)
+            → IsSimulationOf s (kind_of rules redundancy setup.now) symbol
+            (begun_with (kind_of rules redundancy setup.now) setup.now.late_us)) }
+    {
+        let first = u64::from(setup.counter) + TURN;
+        let Some(oscillator) = Oscillator::new(first, setup.gain_us) else {
+            return Err(ClockFault::Drift);
+        };
+        let clock = clock_in(redundancy, setup);
+        let device = Device::new(rules, clock, setup.table.copy(), oscillator, first)?;
+        let tick_us = next_tick(setup.ticking, oscillator, 0, device.wait(first));
+        Ok(Simulated {
+            device,
+            oscillator,
+            ticking: setup.ticking,
+            now_us: 0,
+            wires: Wires::new(setup.late_us.as_slice()),
+            tick_us,
+            send_us: 0,
+            told: Vec::new(alloc),
+        })
+    }
+
+    /// True time passes up to another within a second: pulses that have ended are heard, the device is
+    /// ticked, and generators send. What it tells is kept; `AllocError` if there is no memory for that.
+    pub fn play(&mut self, second: &Second, stop_us: u64) -> Result<(), AllocError>
+        requires begun { second.now.number * 1000000 ≤ self.old.now_us }
+        requires within { stop_us ≤ (second.now.number + 1) * 1000000 }
+        requires early { second.now.number < 2 ^ 32 }
+        requires forward { self.old.now_us ≤ stop_us }
+        requires lines { vec_len second.now.lines ≤ ports_in self.old.device.clock.redundancy }
+        ensures now { OnOk result (self.new.now_us ≡ stop_us) }
+        ensures same { self.new.device.clock ≡ self.old.device.clock }
+        ensures stands { OnOk result ((k : Kind) (signal : ℕ → ℕ → Option Symbol)
+            (symbol : ℕ → ℕ → Symbol) (x : Course) → IsSecondOf second.now signal symbol
+            → IsSimulationOf self.old k symbol x
+            → IsSimulationOf self.new k symbol (passed k signal stop_us x)) }
+    {
+        let most = 23 * (stop_us - self.now_us) + 23;
+        for _ in 0..most {
+            let coming = self.coming();
+            if coming.time_us >= stop_us {
+                break;
+            }
+            self.step(second, coming)?;
+        }
+        self.now_us = stop_us;
+        Ok(())
+    }
+
+    // What happens next, and when: no time comes back.
+    fn coming(&self) -> Coming
+        ensures { result
+            ≡ coming_from self.now.now_us self.now.wires self.now.tick_us self.now.send_us }
+    {
+        let Coming { time_us, what } = self.wires.next(self.tick_us, self.send_us);
+        Coming {
+            time_us: self.now_us.max(time_us),
+            what,
+        }
+    }
+
+    // It happens.
+    fn step(&mut self, second: &Second, coming: Coming) -> Result<(), AllocError>
+        requires coming { coming
+            ≡ coming_from self.old.now_us self.old.wires self.old.tick_us self.old.send_us }
+        requires begun { second.now.number * 1000000 ≤ self.old.now_us }
+        requires within { coming.time_us < (second.now.number + 1) * 1000000 }
+        requires early { second.now.number < 2 ^ 32 }
+        requires lines { vec_len second.now.lines ≤ ports_in self.old.device.clock.redundancy }
+        ensures stands { OnOk result ((k : Kind) (signal : ℕ → ℕ → Option Symbol)
+            (symbol : ℕ → ℕ → Symbol) (x : Course) → IsSecondOf second.now signal symbol
+            → IsSimulationOf self.old k symbol x
+            → IsSimulationOf self.new k symbol (stepped k signal x)) }
+        ensures now { self.new.now_us ≡ coming.time_us }
+        ensures same { self.new.device.clock ≡ self.old.device.clock }
+    {
+        self.now_us = coming.time_us;
+        match coming.what {
+            Happening::End(ending) => self.hear(second, ending),
+            Happening::Tick => self.tick()?,
+            Happening::Send => self.send(second),
+        }
+        Ok(())
+    }
+}
