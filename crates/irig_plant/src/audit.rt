@@ -42,8 +42,10 @@ pub(crate) fn first_audit(timeline: &Timeline, readers: &[ReaderSetup]) -> Audit
     Audit::Kept
 }
 
+/// Whether a leap table is true to a timeline: at the end of each day from the timeline's first one
+/// on it says nothing, or what the timeline has there.
 #[tactic(auto, unfolding(crate::specs::Audits::is_true_table))]
-fn is_true_table(timeline: &Timeline, table: &LeapTable) -> bool
+pub fn is_true_table(timeline: &Timeline, table: &LeapTable) -> bool
     ensures value { result ≡ audits.is_true_table timeline.now table.now }
     ensures sound { IsTimeline timeline.now }
 {

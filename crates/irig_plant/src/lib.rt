@@ -20,7 +20,7 @@ mod pulses;
 mod setup;
 mod truth;
 
-pub use audit::Audit;
+pub use audit::{Audit, is_true_table};
 pub use entry::Entry;
 pub use event::{Event, Widths};
 pub use fault::{PlantFault, Refused};

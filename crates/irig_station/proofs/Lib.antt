@@ -1,0 +1,9 @@
+pub mod SetupLaws
+pub mod CourseTruth
+pub mod PromiseLaws
+pub mod HarmlessLaws
+pub mod StationLaws
+pub mod BeginLaws
+pub mod PassLaws
+pub mod GrowthLaws
+pub mod StationFacts

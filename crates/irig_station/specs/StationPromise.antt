@@ -1,0 +1,43 @@
+-- What is promised of the log of a station.
+-- Source: docs/HEADLINE.md; this project's profile.
+use Rattle.std.specs.Prelude.{ℕ, ◌+◌, ◌*◌, ◌/◌, ◌%◌, ◌≤◌, Option, Some, None, ⊤, ◌≡◌, ◌++◌, List}
+use Rattle.irig_time.specs.Timelines.{TimelineValue, IsSecond}
+use Rattle.irig_timekeeper.specs.declared.stamp.Stamp.{Stamp}
+use Rattle.irig_witness.specs.Promise.{IsStampedInTime}
+use Rattle.irig_simulated.specs.Truth.{IsToldOfItsEdge}
+use Rattle.irig_station.specs.declared.entry.Entry.{Entry}
+use Rattle.irig_station.specs.declared.entry.Entry.TheVariants.{Told, Stamped}
+use Rattle.irig_station.specs.declared.audit.Audit.TheVariants.{Kept}
+use Rattle.irig_station.specs.StationSetups.{StationSetup, kind_of_device}
+use Rattle.irig_station.specs.StationStandings.{StationStanding}
+
+-- how many microseconds a second the counter of device r may be wrong, by its setting
+abbrev pub drift_of_device : StationSetup → (r : ℕ) → ℕ
+drift_of_device s r = (kind_of_device s r).made.clock.drift_us
+
+-- a stamp of a time, if it is given, names its instant but for its bound and twice the drift
+abbrev pub IsStampOfTime : TimelineValue → (drift time : ℕ) → Option Stamp → Type 0
+IsStampOfTime t drift time None = ⊤
+IsStampOfTime t drift time (Some stamp) =
+    IsStampedInTime t drift (time / 1000000) (time % 1000000) stamp
+
+-- an entry is true, by the start and the leaps of the setup alone: a second that is announced is T
+-- of its edge, and begins no further from that than its bound says; a stamp names its instant
+abbrev pub IsTrueEntry : StationSetup → Entry → Type 0
+IsTrueEntry s (Told r told) = IsToldOfItsEdge s.times told
+IsTrueEntry s (Stamped r time stamp) = IsStampOfTime s.times (drift_of_device s r) time stamp
+
+-- two stamps name instants, the first T(m) and so far behind it, that lie no further apart than so
+pub record AreStampedTogether (t : TimelineValue) (one two : Stamp) (apart : ℕ) : Type 0 where
+  pub m : ℕ
+  pub n : ℕ
+  pub is_one : IsSecond t m one.second
+  pub is_two : IsSecond t n two.second
+  pub least : m * 1000000 + one.offset_us ≤ n * 1000000 + two.offset_us + apart
+  pub most : n * 1000000 + two.offset_us ≤ m * 1000000 + one.offset_us + apart
+
+-- a station's log has so many entries more, at its end, and its audit was kept if it is kept now
+pub record LogHasGrown (before now : StationStanding) : Type 0 where
+  pub more : List Entry
+  pub log : now.log ≡ before.log ++ more
+  pub kept : now.audit ≡ Kept → before.audit ≡ Kept

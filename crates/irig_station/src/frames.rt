@@ -1,0 +1,134 @@
+//! What generators send in a second, and what true lines of them have.
+
+ghost use Rattle.std.specs.Prelude.{◌≡◌, ◌<◌, ℕ, All, IfOk, IfSome, None, length, map};
+ghost use Rattle.std.specs.List.{range_with_len};
+ghost use Rattle.irig_frame.specs.Faults.{first_wrong};
+ghost use Rattle.irig_time.specs.Timelines.{TimelineValue, truth_at};
+ghost use Rattle.irig_port.specs.Told.{told_of};
+ghost use Rattle.irig_gen.specs.Sent.{frame_of, sent_of};
+ghost use Rattle.irig_plant.specs.Schedule.{generator_at_next_edge};
+ghost use Rattle.irig_witness.specs.TrueFrames as frames;
+ghost use Rattle.irig_station.specs.SentSeconds.{harmless_of, line_of_generator, true_frame_of};
+
+use irig_frame::{Symbol, is_marker_place};
+use irig_gen::Generator;
+use irig_port::{Port, Told};
+use irig_simulated::LineSecond;
+use irig_time::{Claim, Rules, Timeline};
+use std::alloc::{AllocError, Global};
+
+// What generators send in the second at whose edge they stand.
+pub(crate) fn lines_of<P: Port>(
+    alloc: Global,
+    rules: Rules,
+    timeline: &Timeline,
+    generators: &[Generator],
+) -> Result<Vec<LineSecond>, AllocError>
+    ensures { IfOk result (λ lines. lines.items
+        ≡ map (line_of_generator rules timeline.now) generators.now) }
+{
+    let mut lines = Vec::new(alloc);
+    for generator in generators {
+        lines.push(LineSecond {
+            sent: generator.frame(timeline),
+            truth: true_frame::<P>(rules, timeline, generator),
+        })?;
+    }
+    Ok(lines)
+}
+
+// What true lines had in a second.
+pub(crate) fn truths_of(
+    alloc: Global,
+    lines: &[LineSecond],
+) -> Result<Vec<[Symbol; 100]>, AllocError>
+    ensures { IfOk result (λ frames. frames.items ≡ map (λ line. line.truth) lines.now) }
+{
+    let mut frames = Vec::new(alloc);
+    for line in lines {
+        frames.push(line.truth)?;
+    }
+    Ok(frames)
+}
+
+// Each generator goes to its next edge.
+pub(crate) fn step_all(generators: &mut Vec<Generator>)
+    requires { All (λ x. x.edge < u64.MAX) generators.old.items }
+    ensures { generators.new.items ≡ map generator_at_next_edge generators.old.items }
+{
+    for g in 0..generators.len() {
+        let generator = &mut generators[g];
+        generator.step();
+    }
+}
+
+// The frame of a true line from a generator: the one that it sends, if that does no harm, else the
+// one that it would send without a fault.
+fn true_frame<P: Port>(rules: Rules, timeline: &Timeline, generator: &Generator) -> [Symbol; 100]
+    ensures { result ≡ true_frame_of rules timeline.now generator.now }
+{
+    let edge = generator.edge();
+    let truth = timeline.truth(edge);
+    let sent = generator.frame(timeline);
+    if let Some(frame) = if_harmless::<P>(rules, truth, sent) {
+        return frame;
+    }
+    let plain = generator.frame_at(timeline, edge);
+    match if_harmless::<P>(rules, truth, plain) {
+        Some(frame) => frame,
+        None => blank(),
+    }
+}
+
+// A frame, if there is one and it does no harm.
+fn if_harmless<P: Port>(
+    rules: Rules,
+    truth: Option<Claim>,
+    frame: Option<[Symbol; 100]>,
+) -> Option<[Symbol; 100]>
+    requires { IfSome frame (λ s. first_wrong 0 s ≡ None) }
+    ensures { (t : TimelineValue) (n : ℕ) → truth ≡ truth_at t n
+        → result ≡ harmless_of rules t n frame }
+{
+    let frame = frame?;
+    if claims_only(truth, &told::<P>(rules, &frame)) {
+        Some(frame)
+    } else {
+        None
+    }
+}
+
+// What a port tells that hears this frame.
+fn told<P: Port>(rules: Rules, frame: &[Symbol; 100]) -> Told
+    ensures value { result ≡ told_of rules frame.now }
+    ensures long { length frame.now ≡ 100 }
+{
+    let mut port = P::fresh(rules);
+    for symbol in frame {
+        port.pulse(symbol.width_us());
+    }
+    port.edge()
+}
+
+fn claims_only(truth: Option<Claim>, told: &Told) -> bool
+    ensures { result ≡ frames.claims_only truth told.now }
+{
+    match (told, truth) {
+        (Told::Claim(claim), Some(truth)) => *claim == truth,
+        (Told::Claim(_), None) => false,
+        _ => true,
+    }
+}
+
+// A frame that claims nothing.
+fn blank() -> [Symbol; 100]
+    ensures { result ≡ frames.blank }
+{
+    let mut frame = [Symbol::Zero; 100];
+    for element in 0..frame.len() {
+        if is_marker_place(element) {
+            frame[element] = Symbol::Marker;
+        }
+    }
+    frame
+}

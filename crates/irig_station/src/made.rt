@@ -1,0 +1,109 @@
+//! How a station is made, and what it answers.
+
+ghost use Rattle.std.specs.Prelude.{◌≡◌, ℕ, drop, length, IfErr, IfOk};
+ghost use Rattle.irig_plant.specs.History.{AreGenerators};
+ghost use Rattle.irig_station.specs.StationSetups.{StationSetup, station_setup};
+ghost use Rattle.irig_station.specs.StationStandings.{StationStanding, station_at_start};
+ghost use Rattle.irig_station.specs.Stations.{AreDevices, AreNewDevices, IsStationAt};
+
+use crate::audit::{Audit, audit_at_start};
+use crate::entry::Entry;
+use crate::fault::StationFault;
+use crate::frames::lines_of;
+use crate::station::Station;
+use irig_gen::Generator;
+use irig_port::Port;
+use irig_simulated::{DeviceSetup, Second, Simulated};
+use irig_time::{Rules, Timeline};
+use irig_vote::Redundancy;
+use std::alloc::{AllocError, Global};
+
+impl<P: Port> Station<P> {
+    /// A station over this timeline, with these generators, whose frames are read by these rules,
+    /// and with devices of these setups, to which nothing has happened.
+    ///
+    /// There must be three or five generators, made with these rules, at edge 0 and without fault.
+    /// `Memory` if there is none.
+    pub fn new(
+        alloc: Global,
+        timeline: Timeline,
+        generators: Vec<Generator>,
+        rules: Rules,
+        setups: &[DeviceSetup],
+    ) -> Result<Self, StationFault>
+        requires generators { AreGenerators rules generators.items }
+        requires devices { AreDevices setups.now }
+        ensures stands { IfOk result (λ p. IsStationAt p
+            (station_setup timeline generators.items rules setups.now)
+            (station_at_start (station_setup timeline generators.items rules setups.now)) 0) }
+        ensures memory { IfErr result (λ fault. fault ≡ StationFault.Memory) }
+    {
+        let redundancy = Redundancy::of_ports(generators.len());
+        let audit = audit_at_start(&timeline, setups);
+        let lines = lines_of::<P>(alloc, rules, &timeline, &generators)?;
+        let devices = Self::new_devices(alloc, rules, redundancy, setups)?;
+        Ok(Station {
+            alloc,
+            timeline,
+            rules,
+            generators,
+            begun: 0,
+            second: Second {
+                number: 0,
+                lines,
+                before: Vec::new(alloc),
+            },
+            devices,
+            now_us: 0,
+            log: Vec::new(alloc),
+            audit,
+            is_spent: false,
+        })
+    }
+
+    fn new_devices(
+        alloc: Global,
+        rules: Rules,
+        redundancy: Redundancy,
+        setups: &[DeviceSetup],
+    ) -> Result<Vec<Simulated<P>>, AllocError>
+        requires { AreDevices setups.now }
+        ensures { IfOk result (λ devices. AreNewDevices rules redundancy setups.now devices.items) }
+    {
+        let mut devices = Vec::new(alloc);
+        for setup in setups {
+            let device = match Simulated::new(alloc, rules, redundancy, setup) {
+                Ok(device) => device,
+                Err(_) => unreachable!(),
+            };
+            devices.push(device)?;
+        }
+        Ok(devices)
+    }
+
+    /// What devices told, and stamps that they gave, in order, since the log was last cleared. If
+    /// the audit is kept, each entry is true: the law
+    /// [`a_log_of_devices_is_true`](crate::a_log_of_devices_is_true).
+    pub fn log(&self) -> &[Entry]
+        ensures { (s : StationSetup) (x : StationStanding) (shown : ℕ)
+            → IsStationAt self.now s x shown → result.now ≡ drop shown x.log }
+    {
+        self.log.as_slice()
+    }
+
+    /// Empties the log, and changes nothing else.
+    pub fn clear_log(&mut self)
+        ensures { (s : StationSetup) (x : StationStanding) (shown : ℕ)
+            → IsStationAt self.old s x shown → IsStationAt self.new s x (length x.log) }
+    {
+        self.log.clear();
+    }
+
+    /// Whether the premises hold so far, and if not the first place at which they broke.
+    pub fn audit(&self) -> Audit
+        ensures { (s : StationSetup) (x : StationStanding) (shown : ℕ)
+            → IsStationAt self.now s x shown → result ≡ x.audit }
+    {
+        self.audit
+    }
+}
