@@ -73,7 +73,7 @@ typedef struct irig_refusal {
     irig_span key;     /* the key in that object, in quotes */
     irig_span value;   /* what stands there */
     irig_span allowed; /* what may stand there */
-    uint8_t number;    /* of the refusal: 11 to 16, 19 to 34; docs/FAULTS.md has them */
+    uint8_t number;    /* of the refusal: 11 to 16, 19 to 35, 37; docs/FAULTS.md has them */
 } irig_refusal;
 IRIG_ASSERT((sizeof(irig_refusal) == 88u) && (offsetof(irig_refusal, whole) == 8u) &&
             (offsetof(irig_refusal, place) == 16u) && (offsetof(irig_refusal, key) == 32u) &&

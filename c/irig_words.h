@@ -51,6 +51,7 @@ static const words faults[] = {
      "a holdover longer than a timekeeper's counter can count: (holdover + 2) * drift_us is "
      "above 490,000, and wander_ppb is 0"},
     {"Early", "a second before the first day that the reader takes, not_before"},
+    {"BeforeStart", "a stamp of an instant before edge 0"},
 };
 static const words locks[] = {
     {"unlocked", "the reader knows nothing of the time, and announces nothing"},

@@ -5,7 +5,7 @@ from dataclasses import dataclass
 NAMES = """Short Long Pulse Marker Digit Range NoSuchDay OutOfYears Second60 DeletedSecond
     BadStart LeapNotMonthEnd LeapTwice OutOfYears Offset Changes Parity Sbs NoSuchReader
     NoSuchGenerator FutureReplay EndOfYears TooLong Json Shape Value Version Names NoPlant
-    TooManyLines TableEnd TableLong TableDay TableTwice""".split()  # 1 to 34
+    TooManyLines TableEnd TableLong TableDay TableTwice Drift Early BeforeStart""".split()  # 1 to 37
 
 
 @dataclass(frozen=True)

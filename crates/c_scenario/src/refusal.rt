@@ -31,7 +31,7 @@ pub struct IrigRefusal {
     pub value: IrigSpan,
     /// What may stand there.
     pub allowed: IrigSpan,
-    /// The number of the refusal, 11 to 16 or 19 to 34.
+    /// The number of the refusal, 11 to 16, 19 to 35 or 37.
     pub number: u8,
 }
 

@@ -374,7 +374,7 @@ fn explain_command<'a>(alloc: Global) -> Result<Command<'a>, AllocError> {
 fn word_argument<'a>(alloc: Global) -> Arg<'a> {
     Arg::new(alloc, "WORD")
         .help(
-            "The number, 1 to 36, or the name of a fault or of a refusal, or a word that a log shows",
+            "The number, 1 to 37, or the name of a fault or of a refusal, or a word that a log shows",
         )
         .required(true)
 }

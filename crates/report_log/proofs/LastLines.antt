@@ -51,6 +51,8 @@ refusal_name_line refusal.TableEnd = literal_line (codes "TableEnd") refl
 refusal_name_line refusal.TableLong = literal_line (codes "TableLong") refl
 refusal_name_line refusal.TableDay = literal_line (codes "TableDay") refl
 refusal_name_line refusal.TableTwice = literal_line (codes "TableTwice") refl
+refusal_name_line refusal.Drift = literal_line (codes "Drift") refl
+refusal_name_line refusal.BeforeStart = literal_line (codes "BeforeStart") refl
 
 pub decimal_line : (n : ℕ) → NoNewline (decimal n)
 decimal_line n = word_line (decimal n) (decimal_word n)

@@ -17,7 +17,7 @@ pub record BuildsAt {A B : Type 0} (refusal : A → Option Refusal) (make : A �
   pub refused : first_of (map refusal rest) ≡ first_of (map refusal all)
   pub made : front ++ map make rest ≡ map make all
 
-first_of_both : (os ps : List (Option Refusal)) → first_of (os ++ ps) ≡ option_or (first_of os) (first_of ps)
+pub first_of_both : (os ps : List (Option Refusal)) → first_of (os ++ ps) ≡ option_or (first_of os) (first_of ps)
 first_of_both [] ps = refl
 first_of_both (None ∷ os) ps = first_of_both os ps
 first_of_both (Some k ∷ os) ps = refl

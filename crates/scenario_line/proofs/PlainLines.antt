@@ -47,7 +47,7 @@ seconds_line = codes "{\"do\":\"seconds\",\"n\":2}"
 abbrev seconds_data : Data
 seconds_data = value.object (value.member (codes "do") (value.string (codes "seconds")) (value.member (codes "n") (value.number (value.unsigned 2)) value.no_members))
 
-seconds_json : json_of seconds_line ≡ Some seconds_data
+pub seconds_json : json_of seconds_line ≡ Some seconds_data
 unfolding json_of is_utf8 chars lex punctuate content short_escape word after_number json.value json.items json.members number_of scan_numeral lib.Utf8.encode
 seconds_json = refl
 
@@ -57,10 +57,10 @@ asks_two = ap (λ o. or_else refusal.Json o >>= command_in_object (codes "r1" �
 
 -- ---- the plant
 
-abbrev start : UtcSecond
+abbrev pub start : UtcSecond
 start = record { day = 6209; sod = 43200 }
 
-abbrev start_text : List ℕ
+abbrev pub start_text : List ℕ
 start_text = codes "2016-12-31T12:00:00Z"
 
 start_valid : IsValid start
@@ -84,7 +84,7 @@ one_start u valid h =
     time_read u start_text 12 0 0 valid h (λ n few tens units. omega (arith, few, tens, units)) (λ n few tens units. omega (arith, few, tens, units)) (λ n few tens units. omega (arith, few, tens, units)) in
     same_start u (omega (arith, same_number (u.day + 10957) (6209 + 10957) (sym date.1 ∙ known_dates.1))) (omega (arith, time))
 
-start_read : second_read start_text ≡ Some start
+pub start_read : second_read start_text ≡ Some start
 start_read = sym (second_read_is start_text (Some start) (λ u. (
   λ e. let same : start ≡ u = cc in (subst IsValid same start_valid, subst (λ u. IsText u start_text) same start_spelled),
   λ h. one_start u h.0 h.1,
@@ -93,10 +93,10 @@ start_read = sym (second_read_is start_text (Some start) (λ u. (
 abbrev pub plant_line : List ℕ
 plant_line = codes "{\"version\":1,\"start\":\"2016-12-31T12:00:00Z\",\"leaps\":[],\"parity\":\"even\",\"sense\":\"add\",\"sbs\":\"check\",\"generators\":[{\"local\":0},{\"local\":0},{\"local\":0}],\"readers\":[{\"name\":\"r1\",\"lock_after\":2,\"holdover\":60}]}"
 
-abbrev number : ℕ → Data
+abbrev pub number : ℕ → Data
 number n = value.number (value.unsigned n)
 
-abbrev generator_data : Data
+abbrev pub generator_data : Data
 generator_data = value.object (value.member (codes "local") (number 0) value.no_members)
 
 abbrev reader_data : Data
@@ -117,10 +117,10 @@ plant_json : json_of plant_line ≡ Some plant_data
 unfolding json_of is_utf8 chars lex punctuate content short_escape word after_number json.value json.items json.members number_of scan_numeral lib.Utf8.encode
 plant_json = refl
 
-abbrev rules : Rules
+abbrev pub rules : Rules
 rules = record { parity = Even; sense = Add; sbs = Check }
 
-abbrev generator : GeneratorValues
+abbrev pub generator : GeneratorValues
 generator = record { zone = record { half_hours = pos 0; dst = false }; changes = [] }
 
 abbrev reader : ReaderValues

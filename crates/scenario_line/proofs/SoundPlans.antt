@@ -44,11 +44,11 @@ pub record IsSound (plan : Plan) : Type 0 where
 
 -- ---- what a timeline is refused for is never a lack of memory
 
-neither_first : {A : Type 0} (o p : Option A) → option_or o p ≡ None → o ≡ None
+pub neither_first : {A : Type 0} (o p : Option A) → option_or o p ≡ None → o ≡ None
 neither_first None p h = refl
 neither_first (Some a) p h = h
 
-neither_next : {A : Type 0} (o p : Option A) → option_or o p ≡ None → p ≡ None
+pub neither_next : {A : Type 0} (o p : Option A) → option_or o p ≡ None → p ≡ None
 neither_next None p h = h
 neither_next (Some a) p h = absurd cc
 

@@ -30,27 +30,32 @@ pub enum Command {
     Seconds(u32),
 }
 
-fn number_at(key: Key, value: &Value) -> Result<u64, Refusal>
+/// The number at a key of kind `Natural`; `Value` if there is none in its range.
+pub fn number_at(key: Key, value: &Value) -> Result<u64, Refusal>
     ensures value { result ≡ natural_or_refusal (key_value key) (view value.now) }
     ensures most { IfOk result (λ n. n ≤ natural_most key.kind) }
 {
     natural_at(key, value).ok_or(Refusal::Value)
 }
 
-fn generator_at(value: &Value) -> Result<u8, Refusal>
+/// The number of the generator at `g`; `Value` if it is not from 0 to 255.
+pub fn generator_at(value: &Value) -> Result<u8, Refusal>
     ensures { result ≡ natural_or_refusal g (view value.now) }
 {
     Ok(number_at(G, value)? as u8)
 }
 
-fn reader_in(names: &IndexSet<String>, value: &Value) -> Result<u8, Refusal>
+/// The place of the reader whose name stands at `r`, from 0 on among at most 16 `names`;
+/// `NoSuchReader` if none has it.
+pub fn reader_in(names: &IndexSet<String>, value: &Value) -> Result<u8, Refusal>
     requires { length names.now.keys ≤ 16 }
     ensures { result ≡ reader_in (texts_of names.now.keys) (view value.now) }
 {
     reader_at(names, R, value).ok_or(Refusal::NoSuchReader)
 }
 
-fn fault_of_form(kind: FaultKind, value: &Value) -> Result<GenFault, Refusal>
+/// The fault of this kind that a line sets; `Value` if what stands in the line is out of its range.
+pub fn fault_of_form(kind: FaultKind, value: &Value) -> Result<GenFault, Refusal>
     ensures { result ≡ fault_of_form kind (view value.now) }
 {
     let fault = match kind {

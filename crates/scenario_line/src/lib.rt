@@ -10,7 +10,7 @@ mod plant_line;
 mod whole_second;
 mod widths;
 
-pub use event_line::{Command, event_of_line};
+pub use event_line::{Command, event_of_line, fault_of_form, generator_at, number_at, reader_in};
 pub use event_reader::EventReader;
-pub use plant_line::{BuiltPlant, plant_of_line};
+pub use plant_line::{BuiltPlant, make_generators, make_reader, make_timeline, plant_of_line};
 pub use whole_second::second_of;

@@ -98,14 +98,20 @@ fn plant_with(
     })
 }
 
-fn make_timeline(alloc: Global, values: &PlantValues) -> Result<Timeline, LineFault>
+/// The timeline of a plant line's values.
+///
+/// `Refused` with the first reason of docs/FAULTS.md from 11 to 14, `Memory` if there was none.
+pub fn make_timeline(alloc: Global, values: &PlantValues) -> Result<Timeline, LineFault>
     ensures { IsMadeUnlessMemory (λ t. t)
         (timeline_refusal values.now) (times values.now.start values.now.leaps) result }
 {
     Ok(Timeline::new(alloc, values.start, &values.leaps)?)
 }
 
-fn make_generators(
+/// The generators of a plant line's values, at edge 0 and without fault.
+///
+/// `Refused` with the first reason, 15 or 16, `Memory` if there was none.
+pub fn make_generators(
     alloc: Global,
     rules: Rules,
     values: &[GeneratorValues],
@@ -143,7 +149,10 @@ fn make_readers(alloc: Global, values: &[ReaderValues]) -> Result<Vec<ReaderSetu
     Ok(readers)
 }
 
-fn make_reader(value: &ReaderValues) -> Result<ReaderSetup, LineFault>
+/// What a reader of these values is made of.
+///
+/// `Refused` with the first reason of docs/FAULTS.md from 31 to 34.
+pub fn make_reader(value: &ReaderValues) -> Result<ReaderSetup, LineFault>
     ensures { IsMadeUnlessMemory (λ r. r)
         (reader_refusal value.now) (reader_with value.now) result }
 {

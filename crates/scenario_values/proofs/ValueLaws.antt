@@ -80,7 +80,7 @@ rules_in_range d x e =
     let holds = option_and_then_some (natural_within 0 1000000) (whole_at _ d) seconds is_held (λ z at inside. within 0 1000000 z seconds inside) in
     subst IsReaderRules (same_Some _ x made) (record { lock_after = locks; holdover = holds.1 })))
 
-reader_in_range : (d : Data) (x : ReaderValues) → reader_of d ≡ Some x → IsReaderRules x.rules
+pub reader_in_range : (d : Data) (x : ReaderValues) → reader_of d ≡ Some x → IsReaderRules x.rules
 unfolding reader_of
 reader_in_range d x e =
     option_and_then_some _ (reader_rules_of d) x e (λ own is rest.
@@ -106,7 +106,7 @@ values_in_range version d v e =
     let are = all_are_of reader_of (λ x. IsReaderRules x.rules) reader_in_range (readers_in d) readers read in
     subst (AreInRange d) (same_Some _ v made) (record { generators = generators_count version d generators generated; readers = are.count; range = are.facts }))))))
 
-found_is : {A : Type 0} (o : Option A) (x : A) → or_else Value o ≡ Ok x → o ≡ Some x
+pub found_is : {A : Type 0} (o : Option A) (x : A) → or_else Value o ≡ Ok x → o ≡ Some x
 found_is None x e = absurd cc
 found_is (Some y) x e = cc
 

@@ -121,11 +121,13 @@ keys_of action.Restart = action_key ∷ r ∷ []
 
 -- ---- what a line asks for
 
--- a fault, by what stands at `kind`
+-- which fault, by what stands at `kind`
+abbrev pub fault_in : Data → Option FaultKind
+fault_in d = option_and_then fault_named (text_at kind_key.name d)
+
+-- a fault as what happens
 abbrev pub fault_action : Data → Option Action
-fault_action d =
-    option_map (λ kind. action.Fault kind)
-    (option_and_then fault_named (text_at kind_key.name d))
+fault_action d = option_map (λ kind. action.Fault kind) (fault_in d)
 
 -- the action of this word
 abbrev pub action_by : List ℕ → Data → Option Action

@@ -47,9 +47,9 @@ holdover = key (codes "holdover") (kind.Natural 0 1000000)
 
 -- ---- the objects, by their keys
 
--- of a plant line
-abbrev pub plant_keys : List KeyValue
-plant_keys =
+-- of a plant line whose last key is this
+abbrev pub keys_with : KeyValue → List KeyValue
+keys_with last =
     key (codes "version") kind.Whole
     ∷ key (codes "start") (kind.Text text.Second)
     ∷ leaps
@@ -57,8 +57,12 @@ plant_keys =
     ∷ key (codes "sense") (kind.Text text.Sense)
     ∷ key (codes "sbs") (kind.Text text.SbsUse)
     ∷ key (codes "generators") kind.List
-    ∷ key (codes "readers") kind.List
+    ∷ last
     ∷ []
+
+-- of a plant line
+abbrev pub plant_keys : List KeyValue
+plant_keys = keys_with (key (codes "readers") kind.List)
 
 -- of a leap, in a plant line or in a table
 abbrev pub leap_keys : List KeyValue

@@ -4,7 +4,7 @@
 ghost use Rattle.std.specs.Prelude.{◌≡◌, map, option_map};
 ghost use Rattle.serde_json.specs.View.{view};
 ghost use Rattle.scenario_json.specs.Keys.{key_value};
-ghost use Rattle.scenario_values.specs.Forms.{action_named, fault_named, keys_of, fault_keys_of, action_of, fault_action};
+ghost use Rattle.scenario_values.specs.Forms.{action_named, fault_named, keys_of, fault_keys_of, action_of, fault_in, fault_action};
 
 use scenario_json::{Key, Kind, Text, key, text_at};
 use serde_json::Value;
@@ -101,7 +101,8 @@ fn fault_named(word: &str) -> Option<FaultKind>
     }
 }
 
-const DO: Key = key!("do": Kind::Text(Text::Any));
+/// `do`: what happens, by its word.
+pub const DO: Key = key!("do": Kind::Text(Text::Any));
 
 const KIND: Key = key!("kind": Kind::Text(Text::Any));
 
@@ -156,7 +157,8 @@ pub fn keys_of(action: Action) -> &'static [Key]
     }
 }
 
-fn fault_keys_of(kind: FaultKind) -> &'static [Key]
+/// The keys of a line that sets this fault, each of which has to be there, and no other.
+pub fn fault_keys_of(kind: FaultKind) -> &'static [Key]
     ensures { map key_value result.now ≡ fault_keys_of kind }
 {
     match kind {
@@ -193,6 +195,12 @@ pub fn action_of(value: &Value) -> Option<Action>
 fn fault_action(value: &Value) -> Option<Action>
     ensures { result ≡ fault_action (view value.now) }
 {
-    let kind = fault_named(text_at(value, KIND.name)?)?;
-    Some(Action::Fault(kind))
+    Some(Action::Fault(fault_in(value)?))
+}
+
+/// Which fault a line sets, by its `kind`; none of another word.
+pub fn fault_in(value: &Value) -> Option<FaultKind>
+    ensures { result ≡ fault_in (view value.now) }
+{
+    fault_named(text_at(value, KIND.name)?)
 }

@@ -12,15 +12,16 @@ mod plant_values;
 mod reader_values;
 
 pub use form::{
-    ACTION_WORDS, AT, Action, EDGE, EDGES_BY, FAULT_WORDS, FaultKind, G, HALF_HOURS_BY, LEAP, N, Q,
-    R, WIDTH, WIDTHS, action_of, event_keys, keys_of,
+    ACTION_WORDS, AT, Action, DO, EDGE, EDGES_BY, FAULT_WORDS, FaultKind, G, HALF_HOURS_BY, LEAP,
+    N, Q, R, WIDTH, WIDTHS, action_of, event_keys, fault_in, fault_keys_of, keys_of,
 };
 pub use generator_values::{GeneratorValues, is_count};
 pub use line::{naturals_at, value_of};
-pub use names::{is_name, name_in, names_of};
+pub use names::{is_name, name_in, names_among, names_of};
 pub use plant_shape::{
-    LOCAL, NAME, VERSION, Version, change_keys, generator_keys, is_plant, leap_keys, plant_keys,
-    reader_keys, table_keys, version_in, version_of,
+    GENERATORS, HOLDOVER, LEAPS, LOCAL, LOCK_AFTER, NAME, PARITY, SBS, SENSE, START, TABLE,
+    VERSION, Version, are_generators, are_leaps, change_keys, generator_keys, is_plant, is_table,
+    leap_keys, plant_keys, reader_keys, table_keys, version_in, version_of,
 };
 pub use plant_values::{PlantValues, readers_in, values_of};
-pub use reader_values::ReaderValues;
+pub use reader_values::{ReaderValues, reader_of};

@@ -84,6 +84,19 @@ fn reader_names(readers: &[Value], alloc: Global) -> Result<IndexSet<String>, Li
     Ok(names)
 }
 
+/// The names that the objects of readers give, in order: 1 to 16, none twice.
+///
+/// `Refused` with `Names` if they are others, `Memory` if there was none.
+pub fn names_among(alloc: Global, readers: &[Value]) -> Result<IndexSet<String>, LineFault>
+    ensures names { IsUnlessMemory (λ names. texts_of names.keys)
+        (names_in (map view readers.now)) result }
+    ensures count { IfOk result (λ names. length names.keys ≡ length readers.now) }
+    ensures least { IfOk result (λ names. 1 ≤ length names.keys) }
+    ensures most { IfOk result (λ names. length names.keys ≤ 16) }
+{
+    reader_names(readers, alloc)
+}
+
 /// The names of a plant line's readers, in order: 1 to 16, none twice.
 ///
 /// `Refused` with `Names` if they are others, `Memory` if there was none.
@@ -95,5 +108,5 @@ pub fn names_of(alloc: Global, value: &Value) -> Result<IndexSet<String>, LineFa
     ensures least { IfOk result (λ names. 1 ≤ length names.keys) }
     ensures most { IfOk result (λ names. length names.keys ≤ 16) }
 {
-    reader_names(readers_in(value), alloc)
+    names_among(alloc, readers_in(value))
 }

@@ -6,7 +6,7 @@ ghost use Rattle.serde_json.specs.View.{view};
 ghost use Rattle.scenario_json.specs.Keys.{key_value};
 ghost use Rattle.scenario_json.specs.Fields.{each_item, has_form};
 ghost use Rattle.scenario_json.specs.Json.{whole_at};
-ghost use Rattle.scenario_values.specs.PlantShape.{version_of, plant_keys, leap_keys, generator_keys, change_keys, reader_keys, table_keys, is_generator, is_table, is_reader, is_plant};
+ghost use Rattle.scenario_values.specs.PlantShape.{version_of, plant_keys, leap_keys, generator_keys, change_keys, reader_keys, table_keys, is_leap, is_generator, is_table, is_reader, is_plant};
 
 use scenario_json::{Key, Kind, Text, has_form, items_at, key, optional_key, whole_at};
 use serde_json::Value;
@@ -45,17 +45,23 @@ pub fn version_in(value: &Value) -> Option<Version>
 /// `version`: of the plant line.
 pub const VERSION: Key = key!("version": Kind::Whole);
 
-pub(crate) const START: Key = key!("start": Kind::Text(Text::Second));
+/// `start`: the second of edge 0.
+pub const START: Key = key!("start": Kind::Text(Text::Second));
 
-pub(crate) const LEAPS: Key = key!("leaps": Kind::Few(1200));
+/// `leaps`: those that come, at most 1,200.
+pub const LEAPS: Key = key!("leaps": Kind::Few(1200));
 
-pub(crate) const PARITY: Key = key!("parity": Kind::Text(Text::Parity));
+/// `parity`: that of all frames.
+pub const PARITY: Key = key!("parity": Kind::Text(Text::Parity));
 
-pub(crate) const SENSE: Key = key!("sense": Kind::Text(Text::Sense));
+/// `sense`: of the sign of an offset in all frames.
+pub const SENSE: Key = key!("sense": Kind::Text(Text::Sense));
 
-pub(crate) const SBS: Key = key!("sbs": Kind::Text(Text::SbsUse));
+/// `sbs`: what is done with the straight binary seconds of all frames.
+pub const SBS: Key = key!("sbs": Kind::Text(Text::SbsUse));
 
-pub(crate) const GENERATORS: Key = key!("generators": Kind::List);
+/// `generators`: a list of them.
+pub const GENERATORS: Key = key!("generators": Kind::List);
 
 pub(crate) const READERS: Key = key!("readers": Kind::List);
 
@@ -77,11 +83,14 @@ pub(crate) const AT: Key = key!("at": Kind::Text(Text::Second));
 /// `name`: of a reader.
 pub const NAME: Key = key!("name": Kind::Text(Text::Name));
 
-pub(crate) const LOCK_AFTER: Key = key!("lock_after": Kind::Natural(1, 60));
+/// `lock_after`: the votes in a row after which a reader locks, 1 to 60.
+pub const LOCK_AFTER: Key = key!("lock_after": Kind::Natural(1, 60));
 
-pub(crate) const HOLDOVER: Key = key!("holdover": Kind::Natural(0, 1_000_000));
+/// `holdover`: for how many seconds a reader counts on alone, 0 to 1,000,000.
+pub const HOLDOVER: Key = key!("holdover": Kind::Natural(0, 1_000_000));
 
-pub(crate) const TABLE: Key = optional_key!("table": Kind::Object);
+/// `table`: the leaps that a reader knows beforehand.
+pub const TABLE: Key = optional_key!("table": Kind::Object);
 
 pub(crate) const UNTIL: Key = key!("until": Kind::Text(Text::Day));
 
@@ -154,8 +163,16 @@ fn is_generator(value: &Value) -> bool
     has_form(generator_keys(), value) && items_have_form(CHANGES.name, change_keys(), value)
 }
 
+/// Whether the items of `leaps` have the form of leaps.
+pub fn are_leaps(value: &Value) -> bool
+    ensures { result ≡ each_item (codes "leaps") is_leap (view value.now) }
+{
+    items_have_form(LEAPS.name, leap_keys(), value)
+}
+
+/// Whether the items of `generators` have the form of generators.
 #[tactic(auto, unfolding(scenario_json::specs::Fields::each_item), using(crate::proofs::ListLaws::all_generators))]
-fn are_generators(value: &Value) -> bool
+pub fn are_generators(value: &Value) -> bool
     ensures { result ≡ each_item (codes "generators") is_generator (view value.now) }
 {
     all_generators(items_at(value, GENERATORS.name).unwrap_or(&[]))
@@ -167,8 +184,9 @@ fn all_generators(values: &[Value]) -> bool
     values.iter().all(is_generator)
 }
 
+/// Whether a value has the form of a table of leaps.
 #[tactic(auto, unfolding(crate::specs::PlantShape::is_table))]
-fn is_table(value: &Value) -> bool
+pub fn is_table(value: &Value) -> bool
     ensures { result ≡ is_table (view value.now) }
 {
     has_form(table_keys(), value) && items_have_form(TABLE_LEAPS.name, leap_keys(), value)
@@ -200,7 +218,7 @@ pub fn is_plant(version: Version, value: &Value) -> bool
     ensures { result ≡ is_plant version (view value.now) }
 {
     has_form(plant_keys(), value)
-        && items_have_form(LEAPS.name, leap_keys(), value)
+        && are_leaps(value)
         && are_generators(value)
         && are_readers(version, value)
 }

@@ -45,8 +45,11 @@ pub(crate) fn all_readers(alloc: Global, values: &[Value]) -> Result<Vec<ReaderV
     Ok(readers)
 }
 
+/// The values of a reader's object, whatever other keys it has.
+///
+/// `Refused` with `Value` if one is out of its range, `Memory` if there was none.
 #[tactic(auto, unfolding(crate::specs::PlantValues::reader_of))]
-fn reader_of(alloc: Global, value: &Value) -> Result<ReaderValues, LineFault>
+pub fn reader_of(alloc: Global, value: &Value) -> Result<ReaderValues, LineFault>
     ensures { FoundUnlessMemory (λ r. r) (reader_of (view value.now)) result }
 {
     let rules = reader_rules_of(value).ok_or(Refusal::Value)?;

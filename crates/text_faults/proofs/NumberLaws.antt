@@ -2,7 +2,7 @@
 use Rattle.std.proofs.Common.{◌≡◌, ℕ, ◌==◌, if◌then◌else◌, Option, Some, None, ap, sym, ◌∙◌, rules}
 use Rattle.std.proofs.lemmas.Option.{same_Some}
 use Rattle.text_faults.specs.declared.refusal.Refusal.{Refusal}
-use Rattle.text_faults.specs.declared.refusal.Refusal.TheVariants.{BadStart, LeapNotMonthEnd, LeapTwice, OutOfYears, Offset, Changes, NoSuchReader, NoSuchGenerator, FutureReplay, EndOfYears, TooLong, Json, Shape, Value, Version, Names, NoPlant, TooManyLines, TableEnd, TableLong, TableDay, TableTwice}
+use Rattle.text_faults.specs.declared.refusal.Refusal.TheVariants.{BadStart, LeapNotMonthEnd, LeapTwice, OutOfYears, Offset, Changes, NoSuchReader, NoSuchGenerator, FutureReplay, EndOfYears, TooLong, Json, Shape, Value, Version, Names, NoPlant, TooManyLines, TableEnd, TableLong, TableDay, TableTwice, Drift, BeforeStart}
 use Rattle.text_faults.specs.Refusals.{number_of}
 
 -- the refusal of a number
@@ -30,7 +30,9 @@ numbered n =
     else (if n == 32 then Some TableLong
     else (if n == 33 then Some TableDay
     else (if n == 34 then Some TableTwice
-    else None)))))))))))))))))))))
+    else (if n == 35 then Some Drift
+    else (if n == 37 then Some BeforeStart
+    else None)))))))))))))))))))))))
 
 back : (k : Refusal) → numbered (number_of k) ≡ Some k
 back k = search rules

@@ -8,7 +8,7 @@ use Rattle.irig_time.specs.declared.timeline.TimelineFault.TheVariants as timeli
 use Rattle.irig_gen.specs.declared.generator.GenRefusal.{GenRefusal}
 use Rattle.irig_gen.specs.declared.generator.GenRefusal.TheVariants as generator
 use Rattle.text_faults.specs.declared.refusal.Refusal.{Refusal}
-use Rattle.text_faults.specs.declared.refusal.Refusal.TheVariants.{BadStart, LeapNotMonthEnd, LeapTwice, OutOfYears, Offset, Changes, NoSuchReader, NoSuchGenerator, FutureReplay, EndOfYears, TooLong, Json, Shape, Value, Version, Names, NoPlant, TooManyLines, TableEnd, TableLong, TableDay, TableTwice}
+use Rattle.text_faults.specs.declared.refusal.Refusal.TheVariants.{BadStart, LeapNotMonthEnd, LeapTwice, OutOfYears, Offset, Changes, NoSuchReader, NoSuchGenerator, FutureReplay, EndOfYears, TooLong, Json, Shape, Value, Version, Names, NoPlant, TooManyLines, TableEnd, TableLong, TableDay, TableTwice, Drift, BeforeStart}
 use Rattle.text_faults.specs.declared.refusal.LineFault.{LineFault}
 use Rattle.text_faults.specs.declared.refusal.LineFault.TheVariants.{Refused, Memory}
 
@@ -38,6 +38,8 @@ number_of TableEnd = 31
 number_of TableLong = 32
 number_of TableDay = 33
 number_of TableTwice = 34
+number_of Drift = 35
+number_of BeforeStart = 37
 
 -- its name
 abbrev pub name_of : Refusal → List ℕ
@@ -63,6 +65,8 @@ name_of TableEnd = codes "TableEnd"
 name_of TableLong = codes "TableLong"
 name_of TableDay = codes "TableDay"
 name_of TableTwice = codes "TableTwice"
+name_of Drift = codes "Drift"
+name_of BeforeStart = codes "BeforeStart"
 
 -- ---- the faults of the parts of a plant
 

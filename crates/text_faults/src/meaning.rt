@@ -18,7 +18,7 @@ pub struct Meaning {
     pub cure: &'static str,
 }
 
-static MEANINGS: [Meaning; 36] = [
+static MEANINGS: [Meaning; 37] = [
     // 1
     Meaning {
         name: "Short n",
@@ -271,11 +271,17 @@ static MEANINGS: [Meaning; 36] = [
         example: "day 366 of 2000 from a clock that sends no year",
         cure: "set the clock to B004; if it has the wrong year, see if its count of GPS weeks began anew",
     },
+    // 37
+    Meaning {
+        name: "BeforeStart",
+        cause: "a stamp of an instant before edge 0",
+        example: "{\"do\":\"stamp\",\"r\":\"relay\",\"ago\":500000} where 400,000 us have passed",
+        cure: "ask for a later instant, or let more time pass before",
+    },
 ];
 
-/// What the number of a fault of a frame (1 to 10, 17, 18, 36), of a refusal
-/// (11 to 16, 19 to 34) or of a setup (35)
-/// means; none of another number.
+/// What the number of a fault of a frame (1 to 10, 17, 18, 36), or of a refusal of a line or a
+/// setup (11 to 16, 19 to 35, 37), means; none of another number.
 pub fn meaning_of(number: u8) -> Option<&'static Meaning>
     ensures known { is_some result ≡ is_number number }
     ensures name { (refusal : Refusal) → number_of refusal ≡ number

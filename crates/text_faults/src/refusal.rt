@@ -55,6 +55,10 @@ pub enum Refusal {
     TableDay,
     /// A leap's day stands earlier in the table.
     TableTwice,
+    /// A device's holdover is longer than its counter can count by its drift.
+    Drift,
+    /// The instant of a stamp lies before edge 0.
+    BeforeStart,
 }
 
 impl Refusal {
@@ -87,6 +91,8 @@ impl Refusal {
             Refusal::TableLong => 32,
             Refusal::TableDay => 33,
             Refusal::TableTwice => 34,
+            Refusal::Drift => 35,
+            Refusal::BeforeStart => 37,
         }
     }
 
@@ -117,6 +123,8 @@ impl Refusal {
             Refusal::TableLong => "TableLong",
             Refusal::TableDay => "TableDay",
             Refusal::TableTwice => "TableTwice",
+            Refusal::Drift => "Drift",
+            Refusal::BeforeStart => "BeforeStart",
         }
     }
 }

@@ -19,7 +19,7 @@ pub record IsOfNumber (n : ℕ) (text : List ℕ) : Type 0 where
   pub name : (refusal : Refusal) → number_of refusal ≡ n → meaning.name.now ≡ name_of refusal
   pub told : text ≡ decimal n ++ (codes " " ++ meaning_text meaning)
 
--- a number from 1 to 36 is explained so, and no other is
+-- a number from 1 to 37 is explained so, and no other is
 abbrev pub IsExplained : ℕ → Option (List ℕ) → Type 0
 IsExplained n None = is_number n ≡ false
 IsExplained n (Some text) = IsOfNumber n text

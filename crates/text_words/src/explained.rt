@@ -8,7 +8,7 @@ ghost use Rattle.text_words.specs.Numbers.{meaning_text, IsOfNumber, IsExplained
 use std::alloc::{AllocError, Global};
 use text_faults::{Meaning, meaning_of};
 
-const LAST_NUMBER: u8 = 34;
+const LAST_NUMBER: u8 = 37;
 
 // The words of docs/OUTPUT.md: causes and locks, what ports told, and the last line.
 static WORDS: [Meaning; 21] = [
@@ -323,8 +323,8 @@ For more information, try '--help'.";
 
 fn what_may_stand(word: &str) -> &'static str {
     match word.parse::<i64>() {
-        Ok(_) => "a number from 1 to 36",
-        Err(_) => "a number from 1 to 36, a name or a word of a log",
+        Ok(_) => "a number from 1 to 37",
+        Err(_) => "a number from 1 to 37, a name or a word of a log",
     }
 }
 
