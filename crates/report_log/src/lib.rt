@@ -13,6 +13,7 @@ pub use offset::{Offset, offset_between, same_offset};
 pub use port_text::{push_ticks, push_word};
 pub use shown::Shown;
 pub use text::{
-    ReportText, cause_word, name_at, push_audit, push_entries, push_number, push_refusal,
+    ReportText, cause_word, name_at, push_audit, push_entries, push_lock, push_number,
+    push_refusal, push_time,
 };
 pub use when_text::{push_offsets, push_when};

@@ -181,8 +181,8 @@ pub fn name_at(names: &IndexSet<String>, reader: u8) -> &str
         .map_or("", String::as_str)
 }
 
-/// Adds the second that is announced, or a dash.
-fn push_time(text: &mut String, announce: Option<UtcSecond>) -> Result<(), AllocError>
+/// Adds the second that is announced, or a dash. It fails only if there is no memory.
+pub fn push_time(text: &mut String, announce: Option<UtcSecond>) -> Result<(), AllocError>
     requires { IfSome announce IsValid }
     ensures { OnOk result (string_bytes text.new
         ≡ string_bytes text.old ++ time_shown_text announce) }
@@ -193,8 +193,8 @@ fn push_time(text: &mut String, announce: Option<UtcSecond>) -> Result<(), Alloc
     }
 }
 
-/// Adds whether a reader is locked.
-fn push_lock(text: &mut String, lock: Lock) -> Result<(), AllocError>
+/// Adds whether a reader is locked. It fails only if there is no memory.
+pub fn push_lock(text: &mut String, lock: Lock) -> Result<(), AllocError>
     ensures { OnOk result (string_bytes text.new ≡ string_bytes text.old ++ lock_text lock) }
 {
     match lock {

@@ -14,7 +14,7 @@ use Rattle.irig_port.proofs.ToldLaws.{long_told}
 use Rattle.text_frame.specs.Reading.{with_zeros, reading_text, told_line}
 
 -- what a format with zeros in front writes
-zeros_in_front : (digits n : ℕ) → padded_integral (format_spec 32 0 4 digits (2 ^ 64 - 1)) false [] (decimal n) ≡ with_zeros digits n
+pub zeros_in_front : (digits n : ℕ) → padded_integral (format_spec 32 0 4 digits (2 ^ 64 - 1)) false [] (decimal n) ≡ with_zeros digits n
 unfolding padded_integral char_count
 zeros_in_front digits n =
     let short : digits - length (decimal n) - 0 - 0 ≡ digits - length (decimal n) = omega arith in

@@ -1,0 +1,2 @@
+pub mod StationText
+pub mod ValidEntries

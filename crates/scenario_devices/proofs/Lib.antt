@@ -1,0 +1,6 @@
+pub mod ListLaws
+pub mod RangeLaws
+pub mod BuildLaws
+pub mod ValueLaws
+pub mod VersionLaws
+pub mod StandardFacts
