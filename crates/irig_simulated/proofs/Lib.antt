@@ -5,3 +5,4 @@ pub mod StandsLaws
 pub mod CourseLaws
 pub mod StretchLaws
 pub mod CourseFacts
+pub mod UtcSeconds

@@ -80,7 +80,7 @@ module _ {P : Type 0} {g : Ghosts P} (s : Simulated P g) (k : Kind) (symbol : �
   slow = (let near = (rate_near s.oscillator.gain_us 1000 s.oscillator.few).0 in omega (arith, near, is.rate))
 
   pub risen_is : (line rise : ℕ) → risen_on s.device line rise ≡ rise
-  risen_is line rise = (let none : delay_at s.device.clock.delays line ≡ pos 0 = ap (λ (d : Delays). delay_at d line) s.prompt ∙ none_late line in let e : rise - 0 ≡ rise = omega arith in rw none e)
+  risen_is line rise = (let none : delay_at s.device.clock.delays line ≡ pos 0 = ap (λ (d : Delays). delay_at d line) s.undelayed ∙ none_late line in let e : rise - 0 ≡ rise = omega arith in rw none e)
 
   pub element_is : (line rise : ℕ) → element_on s.device line rise ≡ element_near k.first k.rate rise
   element_is line rise =

@@ -5,3 +5,4 @@ pub mod Seconds
 pub mod Flights
 pub mod Simulations
 pub mod Truth
+pub mod ToldSeconds

@@ -4,10 +4,8 @@ ghost use Rattle.std.specs.Prelude.{◌≡◌, ◌≤◌, ◌<◌, ◌+◌, ◌*
 ghost use Rattle.irig_frame.specs.declared.symbol.Symbol.{Symbol};
 ghost use Rattle.irig_vote.specs.Vote.{ports_in};
 ghost use Rattle.irig_wires.specs.Wires.{wire_at, with_wire};
-ghost use Rattle.irig_simulated.specs.Kinds.{Kind};
-ghost use Rattle.irig_simulated.specs.Courses.{Course, has_sent, heard, sent_if, ticked};
-ghost use Rattle.irig_simulated.specs.Seconds.{IsSecondOf};
-ghost use Rattle.irig_simulated.specs.Simulations.{IsSimulationOf};
+ghost use Rattle.irig_simulated.specs.Courses.{has_sent, heard, sent_if, ticked};
+ghost use Rattle.irig_simulated.specs.Simulations.{GoesOn, GoesOnIn};
 
 use crate::second::Second;
 use crate::simulated::Simulated;
@@ -25,9 +23,7 @@ impl<P: Port> Simulated<P> {
         requires rise { ending.flight.rise_us ≤ self.old.now_us }
         requires begun { second.now.number * 1000000 ≤ self.old.now_us }
         requires within { self.old.now_us < (second.now.number + 1) * 1000000 }
-        ensures stands { (k : Kind) (signal : ℕ → ℕ → Option Symbol) (symbol : ℕ → ℕ → Symbol) (x : Course)
-            → IsSecondOf second.now signal symbol → IsSimulationOf self.old k symbol x
-            → IsSimulationOf self.new k symbol (heard k x ending) }
+        ensures stands { GoesOnIn second.now self.old self.new (λ k signal x. heard k x ending) }
         ensures now { self.new.now_us ≡ self.old.now_us }
         ensures same { self.new.device.clock ≡ self.old.device.clock }
     {
@@ -51,15 +47,16 @@ impl<P: Port> Simulated<P> {
         }
     }
 
-    /// The device is ticked now, by hand or by itself. What it tells is kept; `AllocError` if there is
-    /// no memory for that.
+    /// The device is ticked now, by hand or by itself. What it tells is kept; `AllocError` if there
+    /// is no memory for that.
     pub fn tick(&mut self) -> Result<(), AllocError>
-        ensures stands { OnOk result ((k : Kind) (symbol : ℕ → ℕ → Symbol) (x : Course)
-            → IsSimulationOf self.old k symbol x → IsSimulationOf self.new k symbol (ticked k x)) }
+        ensures stands { OnOk result (GoesOn self.old self.new (λ k x. ticked k x)) }
         ensures now { self.new.now_us ≡ self.old.now_us }
         ensures same { self.new.device.clock ≡ self.old.device.clock }
     {
-        self.told.reserve(1)?;
+        if self.told.reserve(1).is_err() {
+            return Err(AllocError);
+        }
         let now = self.oscillator.count_at(self.now_us);
         let beat = self.device.tick(now);
         let wait_us = self.device.wait(now).max(1);
@@ -76,9 +73,7 @@ impl<P: Port> Simulated<P> {
         requires begun { second.now.number * 1000000 ≤ self.old.now_us }
         requires within { self.old.now_us < (second.now.number + 1) * 1000000 }
         requires lines { vec_len second.now.lines ≤ ports_in self.old.device.clock.redundancy }
-        ensures stands { (k : Kind) (signal : ℕ → ℕ → Option Symbol) (symbol : ℕ → ℕ → Symbol) (x : Course)
-            → IsSecondOf second.now signal symbol → IsSimulationOf self.old k symbol x
-            → IsSimulationOf self.new k symbol (has_sent signal x) }
+        ensures stands { GoesOnIn second.now self.old self.new (λ k signal x. has_sent signal x) }
         ensures now { self.new.now_us ≡ self.old.now_us }
         ensures same { self.new.device.clock ≡ self.old.device.clock }
     {

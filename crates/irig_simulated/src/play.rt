@@ -1,13 +1,13 @@
 //! What becomes of a simulated device while true time passes.
 
-ghost use Rattle.std.specs.Prelude.{◌≡◌, ◌≤◌, ◌<◌, ◌+◌, ◌*◌, ◌^◌, ℕ, Option, Some, IfErr, IfOk, OnOk, vec_len};
+ghost use Rattle.std.specs.Prelude.{◌≡◌, ◌≤◌, ◌<◌, ◌+◌, ◌*◌, ◌^◌, ℕ, Some};
+ghost use Rattle.std.specs.Prelude.{IfErr, IfOk, OnOk, vec_len};
 ghost use Rattle.irig_frame.specs.declared.symbol.Symbol.{Symbol};
 ghost use Rattle.irig_lines.specs.Refusals.{clock_fault};
 ghost use Rattle.irig_vote.specs.Vote.{ports_in};
-ghost use Rattle.irig_simulated.specs.Kinds.{IsDevicePlan, Kind, kind_of};
-ghost use Rattle.irig_simulated.specs.Courses.{Course, begun_with, coming_from, passed, stepped};
-ghost use Rattle.irig_simulated.specs.Seconds.{IsSecondOf};
-ghost use Rattle.irig_simulated.specs.Simulations.{IsSimulationOf};
+ghost use Rattle.irig_simulated.specs.Kinds.{IsDevicePlan, kind_of};
+ghost use Rattle.irig_simulated.specs.Courses.{begun_with, coming_from, passed, stepped};
+ghost use Rattle.irig_simulated.specs.Simulations.{GoesOnIn, IsSimulationOf};
 
 use crate::second::Second;
 use crate::setup::{DeviceSetup, clock_in};
@@ -61,8 +61,9 @@ impl<P: Port> Simulated<P> {
         })
     }
 
-    /// True time passes up to another within a second: pulses that have ended are heard, the device is
-    /// ticked, and generators send. What it tells is kept; `AllocError` if there is no memory for that.
+    /// True time passes up to another within a second: pulses that have ended are heard, the device
+    /// is ticked, and generators send. What it tells is kept; `AllocError` if there is no memory for
+    /// that.
     pub fn play(&mut self, second: &Second, stop_us: u64) -> Result<(), AllocError>
         requires begun { second.now.number * 1000000 ≤ self.old.now_us }
         requires within { stop_us ≤ (second.now.number + 1) * 1000000 }
@@ -71,10 +72,8 @@ impl<P: Port> Simulated<P> {
         requires lines { vec_len second.now.lines ≤ ports_in self.old.device.clock.redundancy }
         ensures now { OnOk result (self.new.now_us ≡ stop_us) }
         ensures same { self.new.device.clock ≡ self.old.device.clock }
-        ensures stands { OnOk result ((k : Kind) (signal : ℕ → ℕ → Option Symbol)
-            (symbol : ℕ → ℕ → Symbol) (x : Course) → IsSecondOf second.now signal symbol
-            → IsSimulationOf self.old k symbol x
-            → IsSimulationOf self.new k symbol (passed k signal stop_us x)) }
+        ensures stands { OnOk result (GoesOnIn second.now self.old self.new
+            (λ k signal x. passed k signal stop_us x)) }
     {
         let most = 23 * (stop_us - self.now_us) + 23;
         for _ in 0..most {
@@ -108,10 +107,8 @@ impl<P: Port> Simulated<P> {
         requires within { coming.time_us < (second.now.number + 1) * 1000000 }
         requires early { second.now.number < 2 ^ 32 }
         requires lines { vec_len second.now.lines ≤ ports_in self.old.device.clock.redundancy }
-        ensures stands { OnOk result ((k : Kind) (signal : ℕ → ℕ → Option Symbol)
-            (symbol : ℕ → ℕ → Symbol) (x : Course) → IsSecondOf second.now signal symbol
-            → IsSimulationOf self.old k symbol x
-            → IsSimulationOf self.new k symbol (stepped k signal x)) }
+        ensures stands { OnOk result (GoesOnIn second.now self.old self.new
+            (λ k signal x. stepped k signal x)) }
         ensures now { self.new.now_us ≡ coming.time_us }
         ensures same { self.new.device.clock ≡ self.old.device.clock }
     {

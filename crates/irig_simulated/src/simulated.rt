@@ -1,9 +1,10 @@
 //! A simulated device.
 
-ghost use Rattle.std.specs.Prelude.{◌≡◌, ◌≤◌, ◌<◌, ◌^◌, true};
+ghost use Rattle.std.specs.Prelude.{◌≡◌, ◌≤◌, ◌<◌, ◌^◌, All, true};
 ghost use Rattle.irig_vote.specs.Vote.{ports_in};
 ghost use Rattle.irig_simulated.specs.Kinds.{no_delay};
 ghost use Rattle.irig_simulated.specs.Flights.{are_flights};
+ghost use Rattle.irig_simulated.specs.ToldSeconds.{IsToldOfUtc};
 
 use crate::setup::Ticking;
 use crate::told_second::ToldSecond;
@@ -11,7 +12,8 @@ use irig_port::Port;
 use irig_wires::{Oscillator, Wires};
 use irig_witness::Device;
 
-/// A device that is played: its timekeeper, with the audit of its calls, its counter and its cables.
+/// A device that is played: its timekeeper, with the audit of its calls, its counter and its
+/// cables.
 #[derive(Drop)]
 pub struct Simulated<P: Port> {
     pub(crate) device: Device<P>,
@@ -25,7 +27,8 @@ pub struct Simulated<P: Port> {
     ghost own: { device.oscillator ≡ oscillator },
     ghost turned: { 2 ^ 32 ≤ oscillator.first },
     ghost once: { oscillator.first < 2 ^ 33 },
-    ghost prompt: { device.clock.delays ≡ no_delay },
+    ghost undelayed: { device.clock.delays ≡ no_delay },
     ghost flying: { are_flights (ports_in device.clock.redundancy) wires ≡ true },
     ghost early: { now_us < 2 ^ 53 },
+    ghost valid: { ∥ All IsToldOfUtc told.items ∥₁ },
 }

@@ -7,3 +7,4 @@ pub mod BeginLaws
 pub mod PassLaws
 pub mod GrowthLaws
 pub mod StationFacts
+pub mod UtcEntries

@@ -1,10 +1,14 @@
 -- What one event does to what each part of a station stands for.
 use Rattle.std.proofs.Common.{◌≡◌, ◌≢◌, ◌∙◌, ℕ, zero, suc, ◌<◌, ◌≤◌, List, [], ◌∷◌, ◌++◌, length, drop, set, refl, sym, arith, subst}
+use Rattle.std.proofs.lemmas.List.{length-set}
+use Rattle.std.proofs.lemmas.List.Elements.{All-set}
 use Rattle.std.proofs.lemmas.Bool.{eq-eqb, le-ltb, lt-ltb}
 use Rattle.irig_frame.specs.declared.symbol.Symbol.{Symbol}
+use Rattle.irig_gen.specs.Frames.{GeneratorValue}
 use Rattle.irig_port.specs.declared.port.Port.{Ghosts}
 use Rattle.irig_wires.specs.declared.wire.Wire.{Wire}
 use Rattle.irig_plant.proofs.ListLaws.{apart, each_set}
+use Rattle.irig_simulated.specs.declared.second.Second.{Second}
 use Rattle.irig_simulated.specs.declared.simulated.Simulated.{Simulated}
 use Rattle.irig_simulated.specs.Courses.{Course}
 use Rattle.irig_simulated.specs.Simulations.{IsSimulationOf}
@@ -13,6 +17,7 @@ use Rattle.irig_station.specs.StationSetups.{StationSetup, kind_of_device}
 use Rattle.irig_station.specs.StationStandings.{StationStanding, StationStep, goes_to, refused_at, with_course}
 use Rattle.irig_station.specs.StationPlay.{unless_device, unless_source, with_cable, with_cable_if}
 use Rattle.irig_station.specs.Stations.{AreOnCourse}
+use Rattle.irig_station.specs.Together.{IsDeviceAt, StandTogether}
 
 -- ---- refusals
 
@@ -55,3 +60,19 @@ drop_more (suc k) (x ∷ xs) ys h = drop_more k xs ys (omega arith)
 
 pub line_step : (s : StationSetup) (g r : ℕ) (change : Wire → Wire) (x : StationStanding) → r < length s.devices → g < length s.generators → with_cable_if s g r change x ≡ goes_to (with_cable g r change x)
 line_step s g r change x there source = a_device s r x (unless_source s g x (goes_to (with_cable g r change x))) there ∙ a_source s g x (goes_to (with_cable g r change x)) source
+
+-- ---- devices at one time
+
+-- so are they if one of them is another at that time
+pub together_set : {P : Type 0} {g : Ghosts P} (generators : List GeneratorValue) (second : Second) (begun now : ℕ) (xs : List (Simulated P g)) (i : ℕ) (y : Simulated P g) → i < length xs
+    → StandTogether generators second begun now xs → IsDeviceAt (length generators) now y → StandTogether generators second begun now (set xs i y)
+together_set {P} {g} generators second begun now xs i y less t here = record {
+  lines = t.lines;
+  number = t.number;
+  edges = t.edges;
+  least = t.least;
+  most = t.most;
+  early = t.early;
+  few = (let same = length-set xs i y in let f = t.few in omega (arith, same, f));
+  each = All-set (IsDeviceAt (length generators) now) xs i y here t.each;
+}

@@ -6,3 +6,4 @@ pub mod StationPlay
 pub mod StationPromise
 pub mod Together
 pub mod Stations
+pub mod ValidEntries

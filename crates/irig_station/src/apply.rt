@@ -141,7 +141,9 @@ impl<P: Port> Station<P> {
         let Some(time_us) = self.now_us.checked_sub(u64::from(ago_us)) else {
             return Err(StationFault::BeforeStart);
         };
-        self.log.reserve(1)?;
+        if self.log.reserve(1).is_err() {
+            return Err(StationFault::Memory);
+        }
         let device = &self.devices[r as usize];
         let may = device.may_stamp(time_us);
         let stamp = device.stamp(time_us);

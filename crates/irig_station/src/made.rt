@@ -1,10 +1,11 @@
 //! How a station is made, and what it answers.
 
-ghost use Rattle.std.specs.Prelude.{◌≡◌, ℕ, drop, length, IfErr, IfOk};
+ghost use Rattle.std.specs.Prelude.{◌≡◌, ℕ, All, drop, length, IfErr, IfOk};
 ghost use Rattle.irig_plant.specs.History.{AreGenerators};
 ghost use Rattle.irig_station.specs.StationSetups.{StationSetup, station_setup};
 ghost use Rattle.irig_station.specs.StationStandings.{StationStanding, station_at_start};
 ghost use Rattle.irig_station.specs.Stations.{AreDevices, AreNewDevices, IsStationAt};
+ghost use Rattle.irig_station.specs.ValidEntries.{IsValidEntry};
 
 use crate::audit::{Audit, audit_at_start};
 use crate::entry::Entry;
@@ -85,7 +86,8 @@ impl<P: Port> Station<P> {
     /// the audit is kept, each entry is true: the law
     /// [`a_log_of_devices_is_true`](crate::a_log_of_devices_is_true).
     pub fn log(&self) -> &[Entry]
-        ensures { (s : StationSetup) (x : StationStanding) (shown : ℕ)
+        ensures valid { All IsValidEntry result.now }
+        ensures value { (s : StationSetup) (x : StationStanding) (shown : ℕ)
             → IsStationAt self.now s x shown → result.now ≡ drop shown x.log }
     {
         self.log.as_slice()

@@ -1,11 +1,11 @@
 //! What a device told, in the log, and its audit.
 
-ghost use Rattle.std.specs.Prelude.{◌≡◌, ◌++◌, ℕ, OnOk, map};
-ghost use Rattle.irig_frame.specs.declared.symbol.Symbol.{Symbol};
-ghost use Rattle.irig_simulated.specs.Kinds.{Kind};
-ghost use Rattle.irig_simulated.specs.Courses.{Course, keeps_so_far, told_taken};
-ghost use Rattle.irig_simulated.specs.Simulations.{IsSimulationOf};
+ghost use Rattle.std.specs.Prelude.{◌≡◌, ◌++◌, All, OnOk, map};
+ghost use Rattle.irig_simulated.specs.Courses.{keeps_so_far, told_taken};
+ghost use Rattle.irig_simulated.specs.Simulations.{ForSimulation, GoesOn};
+ghost use Rattle.irig_simulated.specs.ToldSeconds.{IsToldOfUtc};
 ghost use Rattle.irig_station.specs.StationAudits as audits;
+ghost use Rattle.irig_station.specs.ValidEntries.{IsValidEntry};
 
 use crate::audit::{Audit, audit_seen};
 use crate::entry::Entry;
@@ -23,15 +23,12 @@ pub(crate) fn see<P: Port>(
 ) -> Result<(), AllocError>
     ensures now { device.new.now_us ≡ device.old.now_us }
     ensures same { device.new.device.clock ≡ device.old.device.clock }
-    ensures stands { OnOk result ((k : Kind) (symbol : ℕ → ℕ → Symbol) (x : Course)
-        → IsSimulationOf device.old k symbol x
-        → IsSimulationOf device.new k symbol (told_taken x)) }
-    ensures logged { OnOk result ((k : Kind) (symbol : ℕ → ℕ → Symbol) (x : Course)
-        → IsSimulationOf device.old k symbol x
-        → log.new.items ≡ log.old.items ++ map (λ told. Entry.Told r told) x.told) }
-    ensures audit { OnOk result ((k : Kind) (symbol : ℕ → ℕ → Symbol) (x : Course)
-        → IsSimulationOf device.old k symbol x
-        → audit.new ≡ audits.audit_seen audit.old r edge (keeps_so_far k symbol x)) }
+    ensures valid { All IsValidEntry log.old.items → All IsValidEntry log.new.items }
+    ensures stands { OnOk result (GoesOn device.old device.new (λ k x. told_taken x)) }
+    ensures logged { OnOk result (ForSimulation device.old (λ k symbol x.
+        log.new.items ≡ log.old.items ++ map (λ told. Entry.Told r told) x.told)) }
+    ensures audit { OnOk result (ForSimulation device.old (λ k symbol x.
+        audit.new ≡ audits.audit_seen audit.old r edge (keeps_so_far k symbol x))) }
 {
     log_told(log, r, device.told())?;
     *audit = audit_seen(*audit, r, edge, device.is_kept());
@@ -40,7 +37,9 @@ pub(crate) fn see<P: Port>(
 }
 
 fn log_told(log: &mut Vec<Entry>, r: u8, seconds: &[ToldSecond]) -> Result<(), AllocError>
-    ensures { OnOk result (log.new.items
+    requires { All IsToldOfUtc seconds.now }
+    ensures valid { All IsValidEntry log.old.items → All IsValidEntry log.new.items }
+    ensures logged { OnOk result (log.new.items
         ≡ log.old.items ++ map (λ told. Entry.Told r told) seconds.now) }
 {
     for told in seconds {

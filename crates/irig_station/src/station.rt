@@ -1,7 +1,8 @@
 //! A station, and what it answers.
 
-ghost use Rattle.std.specs.Prelude.{◌≡◌, ℕ, false};
+ghost use Rattle.std.specs.Prelude.{◌≡◌, ℕ, All, false};
 ghost use Rattle.irig_station.specs.Together.{StandTogether};
+ghost use Rattle.irig_station.specs.ValidEntries.{IsValidEntry};
 
 use crate::audit::Audit;
 use crate::entry::Entry;
@@ -28,6 +29,7 @@ pub struct Station<P: Port> {
     pub(crate) audit: Audit,
     /// There was no memory in the midst of an event: devices stand at different times.
     pub(crate) is_spent: bool,
+    ghost valid: { ∥ All IsValidEntry log.items ∥₁ },
     ghost together: { is_spent ≡ false
         → StandTogether generators.items second begun now_us devices.items },
 }

@@ -1,6 +1,7 @@
 -- Stamps of events by the seconds that were announced last.
 -- Source: this project's profile.
-use Rattle.std.specs.Prelude.{ℕ, ◌+◌, nat_le, nat_lt, Bool, ◌&&◌, ◌||◌, if◌then◌else◌, Option, Some, None}
+use Rattle.std.specs.Prelude.{ℕ, ◌+◌, nat_le, nat_lt, Bool, ◌&&◌, ◌||◌, if◌then◌else◌, IfSome, Option, Some, None}
+use Rattle.irig_time.specs.Seconds.{IsValid}
 use Rattle.irig_sync.specs.Sync.{clock_gap}
 use Rattle.irig_timekeeper.specs.declared.stamp.Announced.{Announced}
 use Rattle.irig_timekeeper.specs.declared.stamp.Stamp.{Stamp}
@@ -39,3 +40,7 @@ next_us (Some last) (Some before) = clock_gap before.edge_us last.edge_us
 abbrev pub stamp_of : Option Announced → Option Announced → ℕ → Option Stamp
 stamp_of last before time =
     first_stamp (stamp_by last 0 time) (stamp_by before (next_us last before) time)
+
+-- the second of a stamp, if one is given, is one of UTC
+abbrev pub StampsOfUtc : Option Stamp → Type 0
+StampsOfUtc stamp = IfSome stamp (λ s. IsValid s.second)

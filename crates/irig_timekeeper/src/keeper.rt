@@ -12,7 +12,8 @@ ghost use Rattle.irig_vote.specs.Vote.{ports_in};
 ghost use Rattle.irig_reader.specs.Rule.{count_of};
 ghost use Rattle.irig_reader.specs.Rules.{IsReaderRules};
 ghost use Rattle.irig_lines.specs.Steps.{line_at, line_heard, whole_frame, AreKeptOfUtc, IsKeptOfUtc, AreNewLines};
-ghost use Rattle.irig_timekeeper.specs.Clock.{AreSmall};
+ghost use Rattle.irig_timekeeper.specs.Clock.{AnnouncedOfUtc, AreSmall, SaysOfUtc};
+ghost use Rattle.irig_timekeeper.specs.Stamps.{StampsOfUtc};
 ghost use Rattle.irig_lines.specs.Intervals.{IsShort};
 ghost use Rattle.irig_lines.specs.Paces.{IsSound};
 ghost use Rattle.irig_lines.specs.Exactness.{most_drift_us, most_vote_us, most_held_us};
@@ -48,6 +49,7 @@ pub struct Timekeeper<P: Port> {
     ghost paced: { IsSound state.pace },
     ghost valid: { ∥ AreKeptOfUtc state.lines ∥₁ },
     ghost ended: { AreSmall state },
+    ghost announced: { ∥ AnnouncedOfUtc state ∥₁ },
 }
 
 impl<P: Port> Timekeeper<P> {
@@ -205,6 +207,7 @@ impl<P: Port> Timekeeper<P> {
     /// what is said of a second, if an edge has come since the last one.
     pub fn tick(&mut self, now_us: u32) -> Option<Beat>
         ensures answer { ForKeeping self.old (λ k. result ≡ answer_at k now_us) }
+        ensures valid { SaysOfUtc result }
         ensures after { Goes self.old self.new (λ k. after_tick k now_us) }
         ensures lived { (made : MadeOf) (calls : List Call) (now : ℕ) → HasLived self.old made calls
             → now_us ≡ now % 2 ^ 32 → HasLived self.new made (Tick now ∷ calls) }
@@ -300,6 +303,7 @@ impl<P: Port> Timekeeper<P> {
     /// no second between.
     pub fn stamp(&self, time_us: u32) -> Option<Stamp>
         ensures value { ForKeeping self.now (λ k. result ≡ stamp_at k time_us) }
+        ensures valid { StampsOfUtc result }
         // the law `stamps_are_true`
         ensures truth { (t : TimelineValue) (edges : ℕ → ℕ) (made : MadeOf) (start time now : ℕ)
             (calls : List Call) (stamp : Stamp) → HasLived self.now made calls

@@ -5,11 +5,13 @@ ghost use Rattle.irig_frame.specs.declared.symbol.Symbol.{Symbol};
 ghost use Rattle.irig_lines.specs.Delays.{corrected, delay_at};
 ghost use Rattle.irig_lines.specs.Refusals.{clock_fault};
 ghost use Rattle.irig_reader.specs.Rules.{IsReaderRules};
+ghost use Rattle.irig_timekeeper.specs.Clock.{SaysOfUtc};
 ghost use Rattle.irig_timekeeper.specs.Keepers.{ForKeeping};
 ghost use Rattle.irig_timekeeper.specs.Keeping.{answer_at, place_told, stamp_at, wait_at};
 ghost use Rattle.irig_timekeeper.specs.Life.{Call};
 ghost use Rattle.irig_timekeeper.specs.Life.Call.{Tick};
 ghost use Rattle.irig_timekeeper.specs.Lived.{MadeOf};
+ghost use Rattle.irig_timekeeper.specs.Stamps.{StampsOfUtc};
 ghost use Rattle.irig_vote.specs.Vote.{ports_in};
 ghost use Rattle.irig_lives.specs.Decided.{in_order};
 
@@ -133,6 +135,7 @@ impl<P: Port> Device<P> {
         requires { now < 2 ^ 56 }
         ensures on { TicksOn self.old self.new now }
         ensures answer { ForKeeping self.old.keeper (λ k. result ≡ answer_at k (now % 2 ^ 32)) }
+        ensures valid { SaysOfUtc result }
         ensures set { IsSetAs self.new self.old }
         // the law `a_device_vouches`
         ensures truth { TellsTruly self.old self.new now result }
@@ -144,6 +147,7 @@ impl<P: Port> Device<P> {
     /// The stamp of an event at a time, by the seconds that were announced last.
     pub fn stamp(&self, time: u64) -> Option<Stamp>
         ensures value { ForKeeping self.now.keeper (λ k. result ≡ stamp_at k (time % 2 ^ 32)) }
+        ensures valid { StampsOfUtc result }
         // the law `a_device_vouches`
         ensures truth { StampsTruly self.now time result }
     {

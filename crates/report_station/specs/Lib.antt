@@ -1,2 +1,1 @@
 pub mod StationText
-pub mod ValidEntries

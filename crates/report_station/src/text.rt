@@ -5,7 +5,7 @@ ghost use Rattle.std.specs.Fmt.{decimal};
 ghost use Rattle.irig_time.specs.Seconds.{IsValid};
 ghost use Rattle.report_log.specs.Text.{name_at, texts_of, time_shown_text};
 ghost use Rattle.report_station.specs.StationText.{bound_text, broken_text, distance_text, drift_text, false_table_text, instant_text, name_between, off_text, said_text, six_digits, stamp_text, stamped_text, station_audit_text, station_entry_text, station_text, told_if_shown, told_text};
-ghost use Rattle.report_station.specs.ValidEntries.{IsValidEntry};
+ghost use Rattle.irig_station.specs.ValidEntries.{IsValidEntry};
 
 use indexmap::IndexSet;
 use irig_reader::Report;

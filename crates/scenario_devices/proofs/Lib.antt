@@ -4,3 +4,4 @@ pub mod BuildLaws
 pub mod ValueLaws
 pub mod VersionLaws
 pub mod StandardFacts
+pub mod SoundStations

@@ -32,7 +32,7 @@ use Rattle.scenario_devices.specs.StationEvents.{event_in_station_object, event_
 
 -- ---- a plant line of two devices, of which the second leaves out what may be left out
 
-abbrev station_line : List ℕ
+abbrev pub station_line : List ℕ
 station_line = codes "{\"version\":4,\"start\":\"2016-12-31T12:00:00Z\",\"leaps\":[],\"parity\":\"even\",\"sense\":\"add\",\"sbs\":\"check\",\"generators\":[{\"local\":0},{\"local\":0},{\"local\":0}],\"devices\":[{\"name\":\"r1\",\"lock_after\":2,\"holdover\":60,\"drift\":40,\"gain\":-20,\"counter\":4290000000,\"late\":[0,350,700],\"poll\":0},{\"name\":\"r2\",\"lock_after\":3,\"holdover\":0,\"drift\":100}]}"
 
 abbrev first_data : Data
@@ -70,7 +70,7 @@ station_json = refl
 
 -- ---- its values
 
-abbrev first : DeviceValues
+abbrev pub first : DeviceValues
 first = record {
   reader = record { rules = record { lock_after = 2; holdover = 60 }; until = 0; leaps = [] };
   drift = 40;
@@ -80,7 +80,7 @@ first = record {
   ticking = ByHand;
 }
 
-abbrev second : DeviceValues
+abbrev pub second : DeviceValues
 second = record {
   reader = record { rules = record { lock_after = 3; holdover = 0 }; until = 0; leaps = [] };
   drift = 100;
@@ -142,7 +142,7 @@ has_names = refl
 
 -- ---- what it says
 
-abbrev plan : StationPlan
+abbrev pub plan : StationPlan
 plan = record {
   setup = record {
     times = times start [];
@@ -197,7 +197,7 @@ late_json : json_of late_line ≡ Some late_data
 unfolding json_of is_utf8 chars lex punctuate content short_escape word after_number json.value json.items json.members number_of scan_numeral lib.Utf8.encode
 late_json = refl
 
-abbrev names : List (List ℕ)
+abbrev pub names : List (List ℕ)
 names = codes "r1" ∷ codes "r2" ∷ []
 
 pub asks_late : event_in_station_line names late_line ≡ Ok (Late 1 1 1999)
@@ -209,7 +209,7 @@ pub asks_two : event_in_station_line names seconds_line ≡ Ok (Pass 2000000)
 unfolding event_in_station_line event_in_station_object station_action_of text_at whole_at has_form has_only
 asks_two = ap (λ o. or_else refusal.Json o >>= event_in_station_object names) seconds_json
 
-abbrev stamp_line : List ℕ
+abbrev pub stamp_line : List ℕ
 stamp_line = codes "{\"do\":\"stamp\",\"r\":\"r1\",\"ago\":4000000}"
 
 abbrev stamp_data : ℕ → Data

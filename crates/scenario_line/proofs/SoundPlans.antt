@@ -79,7 +79,7 @@ leaps_named before (x ∷ xs) =
     or_named (leap_fault before x.0) (first_leap_fault (before ++ x ∷ []) xs)
     (leap_named (nat_lt x.0 1) (nat_lt 36523 x.0) (is_month_end x.0) (is_some (leap_of before x.0))) (leaps_named (before ++ x ∷ []) xs)
 
-timeline_named : (start : UtcSecond) (leaps : List (ℕ × Leap)) → NamesFault (timeline_fault start leaps)
+pub timeline_named : (start : UtcSecond) (leaps : List (ℕ × Leap)) → NamesFault (timeline_fault start leaps)
 timeline_named start leaps =
     or_named (first_leap_fault [] leaps) (start_fault leaps start) (leaps_named [] leaps)
     (start_named (nat_lt start.day 1) (nat_lt 36523 start.day) (nat_lt start.sod (day_length leaps start.day)))
@@ -145,7 +145,7 @@ named_if : (b : Bool) (given names : List (List ℕ)) → are_names given ≡ b 
 named_if true given names e h = let same : given ≡ names = cc in (subst (λ names. are_names names ≡ true) same e, same)
 named_if false given names e h = absurd cc
 
-named : (readers : List Data) (names : List (List ℕ)) → names_in readers ≡ Ok names → (are_names names ≡ true) × (length names ≡ length readers)
+pub named : (readers : List Data) (names : List (List ℕ)) → names_in readers ≡ Ok names → (are_names names ≡ true) × (length names ≡ length readers)
 unfolding names_in
 named readers names h =
     let is = named_if (are_names (map name_in readers)) (map name_in readers) names refl h in

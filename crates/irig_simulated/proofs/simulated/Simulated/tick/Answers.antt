@@ -1,11 +1,15 @@
-use Rattle.std.proofs.Common.{◌∙◌, ℕ, List, ◌∷◌, ◌++◌, [], ap, arith, subst, sym}
+use Rattle.std.proofs.Common.{◌≡◌, ◌∙◌, ℕ, All, List, ◌∷◌, ◌++◌, [], Option, ap, arith, subst, sym}
 use Rattle.std.specs.Prelude.{max}
+use Rattle.irig_timekeeper.specs.Clock.{SaysOfUtc}
 use Rattle.irig_timekeeper.specs.Life.Call.{Tick}
 use Rattle.irig_witness.specs.Devices.{IsDeviceOf}
 use Rattle.irig_simulated.specs.declared.told_second.ToldSecond.{ToldSecond}
 use Rattle.irig_simulated.specs.Kinds.{count}
 use Rattle.irig_simulated.specs.Courses.{next_tick}
 use Rattle.irig_simulated.proofs.StandsLaws.{answered, counted_now, next_same, told_none, told_some, waited}
+use Rattle.std.proofs.Math.Logic.{∥∥₁_map}
+use Rattle.irig_simulated.specs.ToldSeconds.{IsToldOfUtc}
+use Rattle.irig_simulated.proofs.UtcSeconds.{told_more}
 use Rattle.irig_simulated.proofs.simulated.Simulated.tick.Goals as goal
 
 pub returns-in-Some-clause-stands : goal.returns-in-Some-clause-stands
@@ -49,3 +53,20 @@ returns-in_default-clause-stands g c k symbol x is =
       send = is.send;
       told = told_none self k symbol x is now at c.tick-beat.result answer c.reserve.new.self.items c.in_default.is c.reserve.ensures.items;
     }
+
+pub invariant_of-self-in-Some-clause-valid : goal.invariant_of-self-in-Some-clause-valid
+invariant_of-self-in-Some-clause-valid g c =
+    let self = c.args.self.now in
+    let items : c.push_reserved.new.self.items ≡ self.told.items ++ (c.told_second.result ∷ []) =
+    c.push_reserved.ensures.items ∙ ap (λ (xs : List ToldSecond). xs ++ (c.told_second.result ∷ [])) c.reserve.ensures.items in
+    let says = subst SaysOfUtc c.in-Some.is c.tick-beat.ensures.valid in
+    let utc : IsToldOfUtc c.told_second.result = subst IsToldOfUtc (sym c.told_second.ensures) says in
+    ∥∥₁_map self.valid (told_more self.told.items c.push_reserved.new.self.items c.told_second.result items utc)
+
+pub invariant_of-self-in_default-clause-valid : goal.invariant_of-self-in_default-clause-valid
+invariant_of-self-in_default-clause-valid g c =
+    subst (λ (xs : List ToldSecond). ∥ All IsToldOfUtc xs ∥₁) (sym c.reserve.ensures.items) c.args.self.now.valid
+
+pub invariant_of-self-clause-valid : goal.invariant_of-self-clause-valid
+invariant_of-self-clause-valid g c =
+    subst (λ (xs : List ToldSecond). ∥ All IsToldOfUtc xs ∥₁) (sym c.reserve.ensures.items) c.args.self.now.valid

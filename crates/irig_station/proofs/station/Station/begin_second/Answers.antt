@@ -23,6 +23,7 @@ next_edges begun xs ys is all =
 
 pub invariant_of-self-2 : goal.invariant_of-self-2
 invariant_of-self-2 g c = record {
+  valid = c.args.self.now.valid;
   together = λ whole.
       let self = c.args.self.now in
       let t = self.together whole in

@@ -1,3 +1,6 @@
+use Rattle.std.proofs.lemmas.Grind.{merely}
+use Rattle.std.proofs.lemmas.List.Elements.{All-nil}
+use Rattle.irig_station.specs.ValidEntries.{IsValidEntry}
 use Rattle.std.proofs.Common.{◌≡◌, ◌∙◌, ℕ, ◌<◌, All, List, Option, Some, None, get_or, length, refl, sym, ap, subst, arith, inl, inr}
 use Rattle.std.specs.Prelude.{slice_get}
 use Rattle.std.proofs.lemmas.List.{length-map}
@@ -31,6 +34,7 @@ began rules redundancy setups devices are r d x symbol at less (Some setup) is =
 
 pub invariant_of-result : goal.invariant_of-result
 invariant_of-result g c = record {
+  valid = merely (subst (All IsValidEntry) (sym c.new-2.ensures.items) (All-nil IsValidEntry));
   together = λ whole.
       let xs = c.args.generators in
       let ports : ports_in c.of_ports-redundancy.result ≡ length xs.items = sym c.of_ports-redundancy.ensures.ports ∙ c.len.ensures ∙ xs.ok.0 in

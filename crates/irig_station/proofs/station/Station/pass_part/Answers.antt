@@ -1,5 +1,6 @@
 use Rattle.std.proofs.Common.{◌≡◌, ◌∙◌, ℕ, suc, false, ◌+◌, ◌/◌, ◌<◌, ◌≤◌, ◌++◌, List, length, map, true, sym, ap, subst, arith}
 use Rattle.std.proofs.lemmas.List.{length-append, length-set}
+use Rattle.std.proofs.Math.Logic.{∥∥₁_map}
 use Rattle.irig_vote.specs.Vote.{ports_in}
 use Rattle.irig_lines.specs.declared.setup.ClockRules.{ClockRules}
 use Rattle.irig_simulated.specs.Courses.{keeps_so_far, passed, told_taken}
@@ -18,10 +19,10 @@ use Rattle.irig_station.proofs.StationLaws.{course_set, drop_more}
 use Rattle.irig_station.proofs.station.Station.pass_part.Goals as goal
 
 pub invariant_of-self-in-Break-1 : goal.invariant_of-self-in-Break-1
-invariant_of-self-in-Break-1 g c = record { together = λ whole. absurd (let spent : true ≡ false = sym c.loop-r.invariant.spent ∙ whole in cc) }
+invariant_of-self-in-Break-1 g c = record { valid = c.loop-r.invariant.valid; together = λ whole. absurd (let spent : true ≡ false = sym c.loop-r.invariant.spent ∙ whole in cc) }
 
 pub invariant_of-self-in-loop-r : goal.invariant_of-self-in-loop-r
-invariant_of-self-in-loop-r g c = record { together = λ whole. absurd (let spent : true ≡ false = sym c.loop-r.invariant.spent ∙ whole in cc) }
+invariant_of-self-in-loop-r g c = record { valid = ∥∥₁_map c.loop-r.invariant.valid c.see.ensures.valid; together = λ whole. absurd (let spent : true ≡ false = sym c.loop-r.invariant.spent ∙ whole in cc) }
 
 pub loop-r-preserved : goal.loop-r-preserved
 loop-r-preserved g c =
@@ -42,6 +43,7 @@ loop-r-preserved g c =
     } in
     record {
       spent = inv.spent;
+      valid = ∥∥₁_map inv.valid c.in_ok-see.ensures.valid;
       rest = assumption inv;
       count = length-set xs l.r y ∙ inv.count;
       gone = gone_set ports xs l.r y less stop inv.gone here;

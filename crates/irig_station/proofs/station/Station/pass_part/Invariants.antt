@@ -1,4 +1,5 @@
-use Rattle.std.proofs.Common.{◌≡◌, ◌<◌, ◌≤◌, ℕ, length, get_or, true}
+use Rattle.std.proofs.Common.{◌≡◌, ◌<◌, ◌≤◌, ℕ, All, length, get_or, true}
+use Rattle.irig_station.specs.ValidEntries.{IsValidEntry}
 use Rattle.irig_simulated.specs.declared.simulated.Simulated.{Simulated}
 use Rattle.irig_station.specs.StationSetups.{StationSetup}
 use Rattle.irig_station.specs.StationStandings.{StationStanding, devices_gone}
@@ -11,6 +12,7 @@ use Rattle.irig_station.proofs.station.Station.pass_part.Given as goal
 abbrev pub invariant-loop-r : goal.invariant-loop-r
 invariant-loop-r g l = record {
   spent : l.self.is_spent ≡ true;
+  valid : ∥ All IsValidEntry l.self.log.items ∥₁;
   rest : KeepsRest l.self l.fn.self;
   count : length l.self.devices.items ≡ length l.fn.self.devices.items;
   gone : (q : ℕ) (d : Simulated _ _) → q < l.r → IsDeviceAt (length l.fn.self.generators.items) l.stop_us (get_or l.self.devices.items q d);

@@ -1,4 +1,5 @@
 use Rattle.std.proofs.Common.{◌≡◌, ◌∙◌, ℕ, ◌/◌, ◌<◌, ◌≤◌, ◌++◌, List, length, map, refl, sym, ap, subst, arith}
+use Rattle.std.proofs.Math.Logic.{∥∥₁_map}
 use Rattle.std.proofs.lemmas.List.{length-append}
 use Rattle.irig_simulated.specs.Courses.{keeps_so_far, ticked, told_taken}
 use Rattle.irig_simulated.specs.Simulations.{IsSimulationOf}
@@ -8,8 +9,25 @@ use Rattle.irig_station.specs.declared.entry.Entry.TheVariants.{Told}
 use Rattle.irig_station.specs.StationSetups.{kind_of_device}
 use Rattle.irig_station.specs.StationAudits.{audit_seen}
 use Rattle.irig_station.specs.StationStandings.{goes_to, has_gone, symbols_so_far}
-use Rattle.irig_station.proofs.StationLaws.{a_device, course_set, drop_more}
+use Rattle.irig_vote.specs.Vote.{ports_in}
+use Rattle.irig_lines.specs.declared.setup.ClockRules.{ClockRules}
+use Rattle.irig_station.specs.Together.{IsDeviceAt}
+use Rattle.irig_station.proofs.StationLaws.{a_device, course_set, drop_more, together_set}
 use Rattle.irig_station.proofs.station.Station.tick.Goals as goal
+
+pub invariant_of-self-2-clause-valid : goal.invariant_of-self-2-clause-valid
+invariant_of-self-2-clause-valid g c = ∥∥₁_map c.args.self.now.valid c.see.ensures.valid
+
+pub invariant_of-self-2-clause-together : goal.invariant_of-self-2-clause-together
+invariant_of-self-2-clause-together g c = λ whole.
+    let self = c.args.self.now in
+    let t = self.together whole in
+    let less : c.args.r < length self.devices.items = omega (arith, c.in_ok-has_device.ensures.ok, self.devices.ok.0) in
+    let was = subst (λ z. IsDeviceAt (length self.generators.items) self.now_us z) (sym c.index_mut-device.ensures.value) (t.each c.args.r c.index_mut-device.result.now less) in
+    together_set self.generators.items self.second self.begun self.now_us self.devices.items c.args.r c.see.new.device less t (record {
+      ports = ap (λ (k : ClockRules). ports_in k.redundancy) (c.see.ensures.same ∙ c.tick.ensures.same) ∙ was.ports;
+      stands = c.see.ensures.now ∙ c.tick.ensures.now ∙ was.stands;
+    })
 
 pub returns : goal.returns
 returns g c s x shown q =

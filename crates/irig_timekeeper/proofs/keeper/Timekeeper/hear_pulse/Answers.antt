@@ -1,4 +1,4 @@
-use Rattle.std.proofs.Common.{◌≡◌, ◌∙◌, ℕ, sym, ap, subst, Some}
+use Rattle.std.proofs.Common.{◌≡◌, ◌∙◌, ℕ, refl, sym, ap, subst, Some}
 use Rattle.std.proofs.Math.Logic.{∥∥₁_map}
 use Rattle.irig_sync.specs.Sync.{place_of}
 use Rattle.irig_timekeeper.specs.declared.clock.ClockState.{ClockState}
@@ -9,6 +9,7 @@ use Rattle.irig_port.specs.Hearing.{heard_at}
 use Rattle.irig_lines.specs.Steps.{IsKeptOfUtc, AreKeptOfUtc, line_at, with_line, line_heard}
 use Rattle.irig_timekeeper.specs.Keeping.{Keeping, heard_by, with_lines}
 use Rattle.irig_timekeeper.proofs.TickLaws.{pulse_by}
+use Rattle.irig_timekeeper.proofs.UtcLaws.{same_announced}
 use Rattle.irig_lines.proofs.ValidLines.{all_valid, line_valid, with_valid}
 use Rattle.irig_timekeeper.proofs.keeper.Timekeeper.hear_pulse.Goals as goal
 
@@ -22,6 +23,10 @@ invariant_of-self-clause-valid g c =
     let self = c.hear_port-place.new.self in
     subst (λ (lines : Lines). ∥ AreKeptOfUtc lines ∥₁) (sym c.with_line-self.ensures)
     (∥∥₁_map self.valid (λ v. with_valid self.state.lines c.args.port c.hear_port-place.new.line v c.hear_port-place.ensures.valid))
+
+pub invariant_of-self-clause-announced : goal.invariant_of-self-clause-announced
+invariant_of-self-clause-announced g c =
+    ∥∥₁_map c.hear_port-place.new.self.announced (same_announced _ _ refl refl)
 
 pub returns-clause-heard : goal.returns-clause-heard
 returns-clause-heard g c k s =

@@ -9,7 +9,14 @@ use Rattle.irig_lines.proofs.LineLaws.{true_by_any}
 use Rattle.irig_timekeeper.proofs.RowLaws.{in_a_row, none_lost}
 use Rattle.irig_timekeeper.proofs.LearnLaws.{steps_truly}
 use Rattle.irig_timekeeper.proofs.StampLaws.{stamped}
+use Rattle.irig_timekeeper.proofs.UtcLaws.{announced_valid}
 use Rattle.irig_timekeeper.proofs.keeper.Timekeeper.stamp.Goals as goal
+
+pub returns-clause-valid : goal.returns-clause-valid
+returns-clause-valid g c =
+    let self = c.args.self.now in
+    let valid = announced_valid self.state self.announced in
+    c.stamp_of.ensures.valid valid.last valid.before
 
 pub returns-clause-truth : goal.returns-clause-truth
 returns-clause-truth g c t edges made start time now calls stamp h clock well order past young told =

@@ -15,6 +15,7 @@ use Rattle.irig_timekeeper.proofs.StrayLaws.{never_doubts, never_unsteady}
 use Rattle.irig_timekeeper.proofs.DoubtLaws.{says_rule}
 use Rattle.irig_timekeeper.proofs.GuardedTicks.{tick_guards_vote}
 use Rattle.irig_lines.proofs.ValidLines.{all_valid}
+use Rattle.std.proofs.Math.Logic.{∥∥₁_map}
 use Rattle.irig_timekeeper.proofs.keeper.Timekeeper.tick.Goals as goal
 
 pub tick-requires-clause-valid : goal.tick-requires-clause-valid
@@ -59,3 +60,6 @@ returns-clause-guarded g c t n vote beat u sound guards told says k is voted at 
     ∙ (ap (λ (table : TableValue). clock_answer k.clock table self.state c.args.now_us) is.table
     ∙ ap (λ (s : ClockState). clock_answer k.clock k.table s c.args.now_us) is.state)) in
     tick_guards_vote k c.args.now_us beat (sym value ∙ told) t sound (ap (λ (rules : ClockRules). rules.prefers_frames) (sym is.clock) ∙ guards) n u says vote voted at knows
+
+pub invariant_of-self-clause-announced : goal.invariant_of-self-clause-announced
+invariant_of-self-clause-announced g c = ∥∥₁_map c.args.self.now.announced c.tick.ensures.announced
