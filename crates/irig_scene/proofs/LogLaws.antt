@@ -95,15 +95,15 @@ module _ (shown : Shown) where
     wrote = subst (λ t. Appends old new (t ++ h.more)) (text_is (first_of h.whole) (meaning_of (unlines h.whole)).scene) h.wrote;
   }
 
-  run_is : (r : Result Outcome SceneFault) (x : List ℕ) (was left old new : Option (List ℕ)) → RunFor (log_texts shown) r x was left old new → RanOn r x shown was left old new
-  run_is (Ok o) x was left old new h = (subst (Appends old new) (all_is x) h.0, h.1, h.2)
-  run_is (Err (Refused line refusal)) x was left old new h = (subst (Appends old new) (all_is x) h.0, h.1, h.2)
-  run_is (Err Read) x was left old new h = (subst (AppendsPart old new) (all_is x) h.0, reading_is x was left old new h.1)
-  run_is (Err Write) x was left old new h = (subst (AppendsPart old new) (all_is x) h.0, in_line_is x was left old new h.1)
-  run_is (Err Memory) x was left old new h = (subst (AppendsPart old new) (all_is x) h.0, in_line_is x was left old new h.1)
+  pub log_ran_on : (r : Result Outcome SceneFault) (x : List ℕ) (was left old new : Option (List ℕ)) → RunFor (log_texts shown) r x was left old new → RanOn r x shown was left old new
+  log_ran_on (Ok o) x was left old new h = (subst (Appends old new) (all_is x) h.0, h.1, h.2)
+  log_ran_on (Err (Refused line refusal)) x was left old new h = (subst (Appends old new) (all_is x) h.0, h.1, h.2)
+  log_ran_on (Err Read) x was left old new h = (subst (AppendsPart old new) (all_is x) h.0, reading_is x was left old new h.1)
+  log_ran_on (Err Write) x was left old new h = (subst (AppendsPart old new) (all_is x) h.0, in_line_is x was left old new h.1)
+  log_ran_on (Err Memory) x was left old new h = (subst (AppendsPart old new) (all_is x) h.0, in_line_is x was left old new h.1)
 
   pub log_ran : (r : Result Outcome SceneFault) (was left old new : Option (List ℕ)) → RanFor (log_texts shown) r was left old new → RanShown r shown was left old new
-  log_ran r was left old new h = record { bytes = h.bytes; of_input = h.of_input; ran = run_is r h.bytes was left old new h.ran }
+  log_ran r was left old new h = record { bytes = h.bytes; of_input = h.of_input; ran = log_ran_on r h.bytes was left old new h.ran }
 
 -- ---- what is pushed of an event
 

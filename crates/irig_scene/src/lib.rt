@@ -16,8 +16,9 @@ pub use laws::{
     logs_are_true, plant_lines_read_one_way, port_lines_stand_apart,
 };
 pub use listener::Listener;
-pub use log::{run_scene, run_scene_over, run_scene_shown};
+pub use log::{Log, run_scene, run_scene_over, run_scene_shown};
 pub use outcome::Outcome;
+pub use player::Player;
 pub use refused_line::RefusedLine;
 pub use report_log::Shown;
 pub use report_run::{

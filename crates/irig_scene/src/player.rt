@@ -97,7 +97,7 @@ fn play_all<L: Listener, P: Port>(
 
 /// A stage, and the events of its plant's whole second.
 #[derive(Drop)]
-pub(crate) struct Player<L, P: Port> {
+pub struct Player<L, P: Port> {
     stage: Stage<L, P>,
     second: Vec<Event>,
 }
@@ -214,7 +214,7 @@ impl<L: Listener, P: Port> Player<L, P> {
     }
 
     /// The listener, and what explains the refusal of this line, if it was refused.
-    pub(crate) fn end(
+    pub fn end(
         self,
         alloc: Global,
         refusal: Option<Refusal>,

@@ -23,7 +23,7 @@ pub struct RefusedLine {
 
 impl RefusedLine {
     /// A line before there is a plant.
-    pub(crate) fn before_plant(alloc: Global, refusal: Refusal, line: Vec<u8>) -> RefusedLine
+    pub fn before_plant(alloc: Global, refusal: Refusal, line: Vec<u8>) -> RefusedLine
         ensures { result.refusal ≡ refusal }
     {
         RefusedLine {

@@ -1,0 +1,4 @@
+pub mod MeaningLaws
+pub mod DeviceLines
+pub mod DeviceLogLaws
+pub mod ScenarioLaws

@@ -1,0 +1,27 @@
+use Rattle.scenario_devices.specs.StationLine.{is_station_line}
+use Rattle.report_either.proofs.ChoiceLaws.{either_runs_alone}
+use Rattle.irig_scene.specs.LogTexts.{log_texts}
+use Rattle.irig_scene.specs.Run.{Ends}
+use Rattle.irig_scene.specs.Scene.{scenario}
+use Rattle.irig_scene.specs.Texts.{of_scenes}
+use Rattle.irig_station_scene.specs.StationRuns.{StationEnds}
+use Rattle.irig_station_scene.specs.StationScenes.{station_scenario}
+use Rattle.irig_station_scene.specs.StationTexts.{station_texts}
+use Rattle.irig_scenario.proofs.ScenarioLaws.{ran_scenario, runs_scenario_truly}
+use Rattle.irig_scenario.proofs.run.run_scenario.Goals as goal
+
+pub returns-in-Err-Refused-clause-runs : goal.returns-in-Err-Refused-clause-runs
+returns-in-Err-Refused-clause-runs g c =
+    let shown = c.args.shown in
+    let run = c.run_lines-answer.ensures in
+    runs_scenario_truly _ _ shown _ _ _ _ _ run.read run.write
+    (ran_scenario shown _ _ _ _ _
+    (either_runs_alone is_station_line scenario station_scenario (of_scenes (log_texts shown)) (station_texts shown.all) Ends StationEnds _ _ _ _ _ _ _ _ _ _ run.ran))
+
+pub returns-in_default-clause-runs : goal.returns-in_default-clause-runs
+returns-in_default-clause-runs g c =
+    let shown = c.args.shown in
+    let run = c.run_lines-answer.ensures in
+    runs_scenario_truly _ _ shown _ _ _ _ _ run.read run.write
+    (ran_scenario shown _ _ _ _ _
+    (either_runs_alone is_station_line scenario station_scenario (of_scenes (log_texts shown)) (station_texts shown.all) Ends StationEnds _ _ _ _ _ _ _ _ _ _ run.ran))

@@ -1,0 +1,3 @@
+pub mod DeviceLogs
+pub mod Scenarios
+pub mod WhyRefused

@@ -1,0 +1,4 @@
+pub mod StationScenes
+pub mod StationTexts
+pub mod StationStays
+pub mod StationRuns

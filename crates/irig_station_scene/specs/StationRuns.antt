@@ -1,0 +1,48 @@
+-- A run of a scenario with devices: what plays it, and how it ends.
+-- Source: docs/OUTPUT.md; this project's profile.
+use Rattle.std.specs.Prelude.{◌≡◌, ⊤, ℕ, Bool, List, length, Option, Result, Ok, Err}
+use Rattle.irig_port.specs.declared.port.Port.{Ghosts}
+use Rattle.irig_station.specs.declared.event.Event.{Event}
+use Rattle.irig_station.specs.Stations.{IsStationAt}
+use Rattle.text_faults.specs.declared.refusal.Refusal.{Refusal}
+use Rattle.report_log.specs.Text.{texts_of}
+use Rattle.report_run.specs.declared.stop.Failure.{Failure}
+use Rattle.irig_station_scene.specs.declared.outcome.StationOutcome.{StationOutcome}
+use Rattle.irig_station_scene.specs.declared.player.StationPlayer.{StationPlayer}
+use Rattle.irig_station_scene.specs.StationScenes.{StationScene, event_in_scene, standing_in, station_audit, station_log}
+
+-- ---- a player
+
+-- it stands as a scene leaves it, and has let go so many entries of its log
+pub record IsStationPlayerPast {P : Type 0} {g : Ghosts P} (shown : ℕ) (p : StationPlayer P g)
+    (x : StationScene) : Type 0 where
+  pub station : IsStationAt p.station x.plan.setup (standing_in x) shown
+  pub named : texts_of p.names.keys ≡ x.plan.names
+
+-- it stands as a scene leaves it; entries that were written may stand until the next event
+pub record IsStationPlayerAt {P : Type 0} {g : Ghosts P} (p : StationPlayer P g)
+    (x : StationScene) : Type 0 where
+  pub shown : ℕ
+  pub stands : IsStationPlayerPast shown p x
+
+-- it has played an event, with this refusal, if it was refused, and only the entries of that event
+-- stand; or something failed
+abbrev pub HasPlayedEvent : {P : Type 0} {g : Ghosts P} → Result (Option Refusal) Failure
+    → StationScene → Event → StationPlayer P g → Type 0
+HasPlayedEvent (Ok refusal) x e p =
+    ((event_in_scene x e).refusal ≡ refusal)
+    × IsStationPlayerPast (length (station_log x)) p (event_in_scene x e).scene
+HasPlayedEvent (Err failure) x e p = ⊤
+
+-- so whatever scene it is of
+abbrev pub PlaysEventOf : {P : Type 0} {g : Ghosts P} → StationPlayer P g → Event
+    → Result (Option Refusal) Failure → StationPlayer P g → Type 0
+PlaysEventOf old e result new =
+    (x : StationScene) → IsStationPlayerAt old x → HasPlayedEvent result x e new
+
+-- ---- the whole run
+
+-- by so many lines, and with the audit of this scene's events
+pub record StationEnds (x : StationScene) (count : ℕ) (o : StationOutcome) : Type 0 where
+  pub lines : o.lines ≡ count
+  pub audit : o.audit ≡ station_audit x

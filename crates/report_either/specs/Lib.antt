@@ -1,0 +1,4 @@
+pub mod Sides
+pub mod Choice
+pub mod EitherStays
+pub mod Alone
