@@ -2,13 +2,15 @@
 
 A case is a folder of cases/: `args` (one word a line, SCENARIO standing for its `scenario.jsonl`),
 `stdin` where it reads any, `stdout` (each byte), `stderr` where anything is written there, and
-`status`. Of a text that `clap`, a library or the system wrote `stderr` has the first words, and then
+`status`. A `note`, which nothing reads, may say what to look at. Of a text that `clap`, a library or the system wrote `stderr` has the first words, and then
 `..`; of a refusal it may be missing: then the line of the log that says so stands for it, with any
 reason behind it. An example is NAME.jsonl of examples/ with its log NAME.log, and NAME.args has the
 further words for `run` where there are any."""
 from __future__ import annotations
 
+import re
 import subprocess
+from collections.abc import Iterable
 from dataclasses import dataclass
 from pathlib import Path
 
@@ -94,21 +96,34 @@ def all_cases() -> list[Case]:
     return [*cases(), *examples()]
 
 
+def has_devices(scenario: bytes) -> bool:
+    """Whether a scenario's plant has devices in place of readers: its version is 4."""
+    return re.search(rb'\A\s*{[^\n]*"version"\s*:\s*4\b', scenario) is not None
+
+
+def of_readers(cases: Iterable[Case]) -> list[Case]:
+    """Those that have a scenario, and no devices in it."""
+    return [case for case in cases if case.scenario and not has_devices((ROOT / case.scenario).read_bytes())]
+
+
 def scenarios(statuses: tuple[int, ...] = (0, 3)) -> dict[str, bytes]:
-    """The scenarios of cases and examples that end with these, by their names."""
+    """The scenarios of cases and examples that have no devices and end with these, by their names."""
     found = {}
     for case in all_cases():
         path = case.scenario or (case.input if case.words[:1] != [b"read"] else NOTHING)
-        if path != NOTHING and case.status in statuses:
-            found[case.name] = (ROOT / path).read_bytes()
+        text = (ROOT / path).read_bytes() if path != NOTHING else b""
+        if path != NOTHING and case.status in statuses and not has_devices(text):
+            found[case.name] = text
     return found
 
 
 def over_whole_ports(case: Case) -> Case | None:
     """The same for test_whole_port, which runs what it is given and takes no more words than --all;
-    none where a case is of something else."""
+    none where a case is of something else, or of devices."""
     words, input = case.words, case.input
     if words[:1] in ([b"flatten"], [b"blame"]):
+        return None
+    if case.scenario and has_devices((ROOT / case.scenario).read_bytes()):
         return None
     if case.scenario:
         words, input = words[2:], case.scenario

@@ -10,7 +10,7 @@ from dataclasses import replace
 from pathlib import Path
 
 from as_module import loaded
-from case_files import NOTHING, ROOT, Case, all_cases, over_whole_ports, standard_error
+from case_files import NOTHING, ROOT, Case, all_cases, of_readers, over_whole_ports, standard_error
 
 # Of /bin/echo, which prints its words.
 ECHO = Case("cases/echo", [b"a", b"\xff"], NOTHING, 0, b"a \xff\n")
@@ -48,9 +48,9 @@ class Cases(unittest.TestCase):
         self.assertEqual((ran.returncode, ran.stdout.splitlines()[-1:]), (1, ["0 passed, 0 failed"]))
 
     def test_each_scenario_is_run_over_whole_ports(self) -> None:
-        """But for those of cases with other options, or of other commands, which test_whole_port does
-        not know."""
-        for case in all_cases():
+        """But for those of cases with other options, or of other commands or devices, which
+        test_whole_port does not know."""
+        for case in of_readers(all_cases()):
             is_run = case.scenario and case.words[:1] == [b"run"]
             is_known = is_run and case.words[2:] in ([], [b"--all"])
             if is_known or case.name.startswith("examples/"):

@@ -5,15 +5,18 @@ the program that was built says if they are refused."""
 import json
 import re
 import unittest
-from collections.abc import Iterator
+from collections.abc import Callable, Iterator
 from pathlib import Path
 
 from case_files import NOTHING, ROOT, all_cases, answer
+from model.scenario import play
 
 try:
     from jsonschema import Draft202012Validator
 except ImportError:
     Draft202012Validator = None
+
+Judge = Callable[[list[object]], "int | None"]
 
 SCHEMA = json.loads((ROOT / "docs/scenario.schema.json").read_text())
 
@@ -28,20 +31,34 @@ UNSAID = {
     },
     "that two items of a list have the same name or day": {
         "plant_leap_twice", "reader_name_twice", "table_with_a_leap_twice",
+        "devices_name_twice", "devices_table_twice", "devices_table_before_drift",
     },
     "what other lines say, and how far the plant has come": {
         "tick_of_an_unknown_reader", "event_reader_before_replay", "step_of_generator_3",
         "ports_before_a_refusal", "skipped_lines_count", "replay_of_a_future_edge", "end_of_the_years",
         "flatten_up_to_a_refusal", "blame_up_to_a_refusal", "blame_to_the_end_of_years",
         "events_at_their_limits", "seconds_at_their_limit",
+        *(f"devices_{event}_of_generator_3" for event in ("fault", "repair", "pull", "plug", "late_event", "pulse")),
+        *(f"devices_{event}_of_an_unknown_device" for event in ("pull", "plug", "late_event", "tick", "restart", "stamp")),
+        "devices_pulse_on_an_unknown_device", "devices_pull_device_before_generator",
+        "devices_stamp_before_start", "devices_stamp_before_anything", "devices_stamp_device_before_start",
+        "devices_refused_behind_what_was_told", "devices_end_of_the_years",
+        "devices_up_to_the_end_of_the_years", "devices_parts_of_the_last_second",
     },
-    "the first line alone is of a plant": {"plant_that_is_an_event", "event_that_is_a_plant"},
+    "which events a version has": {
+        *(f"devices_have_no_{event}" for event in ("step", "carry", "damage", "replay", "raw")),
+        *(f"readers_have_no_{event}" for event in ("pass", "pull", "plug", "late", "pulse", "stamp")),
+    },
+    "how much a counter goes wrong in a holdover": {"devices_holdover_too_long"},
+    "the first line alone is of a plant": {
+        "plant_that_is_an_event", "event_that_is_a_plant", "devices_plant_line_twice",
+    },
 }
 UNSAID_CASES = set().union(*UNSAID.values())
 
 # Refusals for which a schema may accept a line: those of the reasons above. Of a changed line no number
 # is written with a point.
-UNSAID_NUMBERS = {11, 13, 16, 19, 20, 21, 22, 28, 33, 34}
+UNSAID_NUMBERS = {11, 13, 16, 19, 20, 21, 22, 28, 33, 34, 35, 37}
 
 # Refusals of a line that has no JSON value of its own.
 NO_VALUE = {23, 24, 29, 30}
@@ -124,6 +141,27 @@ EVENTS: list[dict] = [
     {"do": "seconds", "n": 1},
 ]
 
+DEVICE = {
+    "name": "relay", "lock_after": 2, "holdover": 3600, "table": TABLE, "drift": 20, "gain": -20,
+    "counter": 7, "late": [0, 350, 700], "poll": 95000,
+}
+
+
+def station(**keys: object) -> dict:
+    """A plant line with one device, which has these values in place of those."""
+    line = {key: value for key, value in plant(4, leaps=LEAPS).items() if key != "readers"}
+    return {**line, "devices": [{**DEVICE, **keys}]}
+
+
+STATION_EVENTS: list[dict] = [
+    {"do": "pass", "us": 5},
+    {"do": "pull", "g": 0, "r": "relay"},
+    {"do": "plug", "g": 0, "r": "relay"},
+    {"do": "late", "g": 0, "r": "relay", "us": 350},
+    {"do": "pulse", "g": 0, "r": "relay", "width": 2000},
+    {"do": "stamp", "r": "relay", "ago": 0},
+    *(event for event in EVENTS if event["do"] in ("tick", "fault", "repair", "restart", "seconds")),
+]
 STRANGE = [
     None, True, 0, 1, -1, 4, 5, 16, 32, 62, 100, 256, 2**32, 2**64, "", "x", "skew", "quality", "Relay",
     "2016-12-31", "2016-12-30", "2017-02-29", "2016-02-29", "2099-12-31", "2000-01-01", "2016-06-31",
@@ -155,6 +193,13 @@ def refused(values: list[object]) -> int | None:
     return found[1] if found else None
 
 
+def refused_by_model(values: list[object]) -> int | None:
+    """The same of tests/model."""
+    text = "".join(f"{json.dumps(value)}\n" for value in values)
+    found = refusal_in(play(text.encode()).stdout.decode())
+    return found[1] if found else None
+
+
 class Schema(unittest.TestCase):
     def test_cases_and_examples(self) -> None:
         judged = 0
@@ -180,13 +225,17 @@ class Schema(unittest.TestCase):
         return judged
 
     def test_limits_of_the_page(self) -> None:
-        reader, event = RICH["readers"][0], {event["do"]: event for event in EVENTS}
+        reader, event = RICH["readers"][0], {event["do"]: event for event in EVENTS + STATION_EVENTS}
         for line, key, least, most in (
             (reader, "lock_after", 1, 60), (reader, "holdover", 0, 1_000_000), (ZONES, "local", -31, 31),
             (event["step"], "g", 0, 4), (event["seconds"], "n", 0, 100_000),
             (event["damage"], "at", 0, 99), (event["damage"], "width", 0, 2**32 - 1),
             (event["replay"], "edge", 0, 2**64 - 1),
             (EVENTS[9], "by", -2**31, 2**31 - 1), (EVENTS[11], "q", 0, 15), (EVENTS[12], "by", -62, 62),
+            (DEVICE, "drift", 0, 100), (DEVICE, "gain", -1000, 1000), (DEVICE, "counter", 0, 2**32 - 1),
+            (DEVICE, "poll", 0, 1_740_000_000), (event["pass"], "us", 1, 1_000_000_000),
+            (event["late"], "us", 0, 1999), (event["pulse"], "width", 0, 2**32 - 1),
+            (event["stamp"], "ago", 0, 4_000_000),
         ):
             for number in (least - 1, least, most, most + 1):
                 value = {**line, key: number}
@@ -194,6 +243,8 @@ class Schema(unittest.TestCase):
                     value = plant(readers=[value])
                 elif line is ZONES:
                     value = plant(generators=[value] * 3)
+                elif line is DEVICE:
+                    value = station(**value)
                 with self.subTest(key, number=number):
                     self.assertEqual(accepts(value), least <= number <= most)
 
@@ -214,12 +265,22 @@ class Schema(unittest.TestCase):
             self.assertTrue(accepts(line(most)), most)
             self.assertFalse(accepts(line(most + 1)), most + 1)
 
+    def test_as_many_lines_as_generators(self) -> None:
+        for count in (3, 5):
+            generators = {"generators": [{"local": 0}] * count}
+            for lines in range(7):
+                self.assertEqual(accepts({**station(late=[1999] * lines), **generators}), lines == count)
+        self.assertFalse(accepts(station(late=[2000, 0, 0])))
+
     def test_versions(self) -> None:
         table = {"readers": [{**plant()["readers"][0], "table": TABLE}]}
         five = {"generators": [{"local": 0}] * 5}
         for keys, versions in (({}, {1, 2, 3}), (table, {2, 3}), (five, {3})):
-            for version in range(5):
+            for version in range(6):
                 self.assertEqual(accepts(plant(version, **keys)), version in versions)
+        for version in range(6):
+            self.assertEqual(accepts({**station(), "version": version}), version == 4)
+            self.assertFalse(accepts({**plant(version), **station(), "version": version}))
 
     def test_each_key_has_a_description(self) -> None:
         for part in parts_of(SCHEMA):
@@ -237,8 +298,15 @@ class Schema(unittest.TestCase):
             self.assertLessEqual(part.keys(), known)
 
     def test_changed_lines(self) -> None:
+        self.compare_changed([RICH, plant(1), plant(2)], EVENTS, refused)
+
+    def test_changed_lines_of_devices(self) -> None:
+        """What tests/model refuses."""
+        self.compare_changed([station()], STATION_EVENTS, refused_by_model)
+
+    def compare_changed(self, plants: list[dict], events: list[dict], refused: Judge) -> None:
         counts = {True: 0, False: 0}
-        for first, lines in (([], [RICH, plant(1), plant(2)]), ([RICH], EVENTS)):
+        for first, lines in (([], plants), (plants[:1], events)):
             for value in (other for line in lines for other in [line, *changed(line)]):
                 number, is_accepted = refused([*first, value]), accepts(value)
                 if is_accepted:

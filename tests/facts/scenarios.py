@@ -5,7 +5,7 @@ from collections import Counter
 from collections.abc import Iterator
 from random import Random
 
-from case_files import cases
+from case_files import cases, of_readers
 from model import scenario
 from model.meaning import plant_of
 from random_scenarios import random_event, random_plant
@@ -28,8 +28,8 @@ def outcomes(random: Random) -> list[Fact]:
     """Cases that are refused before a tick whenever they start, by their `stdout`, which is worked out by
     hand: from an early start on, as it is soon found."""
     found = []
-    for case in cases():
-        data = (ROOT / case.scenario).read_bytes() if case.scenario else b""
+    for case in of_readers(cases()):
+        data = (ROOT / case.scenario).read_bytes()
         is_soon_refused = case.words[:1] == [b"run"] and case.stdout.startswith(b"refused")
         if is_soon_refused and USUAL in data and data.count(b'"20') == 1 and len(data) < 1000:
             words, wrong = str(case.words[2:]), b"-" + case.stdout

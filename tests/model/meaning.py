@@ -1,9 +1,9 @@
-"""What each line of a scenario means: docs/SCENARIOS.md, from its start to "Events"."""
+"""What a plant line of versions 1 to 3 and an event mean: docs/SCENARIOS.md, from its start to "Events"."""
 
 import json
 import math
 import re
-from collections.abc import Callable, Collection, Iterator
+from collections.abc import Callable, Collection
 from dataclasses import dataclass
 
 from .faults import Refused, refuse_if
@@ -171,55 +171,55 @@ def reader_of(value: dict) -> ReaderSetup:
     return ReaderSetup(ReaderRules(value["lock_after"], value["holdover"]), table)
 
 
-def plant_of(value: object) -> Plant:
-    """What a plant line says (docs/FAULTS.md, Refusals of a scenario, 2 to 4)."""
-    refuse_if(25, not isinstance(value, dict) or type(value.get("version")) is not int)
-    refuse_if(27, value["version"] not in PLANTS)
-    check(PLANTS[value["version"]], value)
-    names = [reader["name"] for reader in value["readers"]]
+def names_of(values: list[dict]) -> list[str]:
+    """The names of readers or devices, else refuses by 28 (docs/SCENARIOS.md, The plant line)."""
+    names = [value["name"] for value in values]
     refuse_if(28, not 1 <= len(names) <= 16 or len(set(names)) < len(names))
     refuse_if(28, not all(re.fullmatch("[a-z0-9_-]{1,16}", name) for name in names))
+    return names
+
+
+def clocks_of(value: dict) -> tuple[Timeline, Rules, tuple[Generator, ...]]:
+    """What the line says of true time and of generators (docs/FAULTS.md, Refusals of a scenario, 4)."""
     timeline = Timeline(second_of_text(value["start"]), leaps_of(value["leaps"]))
     generators = tuple(generator_of(generator) for generator in value["generators"])
-    readers = {reader["name"]: reader_of(reader) for reader in value["readers"]}
     check_timeline(timeline)
     for generator in generators:
         check_generator(generator)
+    rules = Rules(Parity(value["parity"]), Sense(value["sense"]), value["sbs"] == "check")
+    return timeline, rules, generators
+
+
+def version_of(value: object) -> int:
+    """The version of a plant line, else refuses by 25 (docs/FAULTS.md, Refusals of a scenario, 2)."""
+    refuse_if(25, not isinstance(value, dict) or type(value.get("version")) is not int)
+    return value["version"]
+
+
+def plant_of(value: object) -> Plant:
+    """What a plant line says (docs/FAULTS.md, Refusals of a scenario, 2 to 4)."""
+    refuse_if(27, version_of(value) not in PLANTS)
+    check(PLANTS[value["version"]], value)
+    names = names_of(value["readers"])
+    timeline, rules, generators = clocks_of(value)
+    readers = dict(zip(names, map(reader_of, value["readers"])))
     for reader in readers.values():
         if reader.table:
             check_table(reader.table)
-    rules = Rules(Parity(value["parity"]), Sense(value["sense"]), value["sbs"] == "check")
     return Plant(timeline, rules, generators, readers)
 
 
-def event_of(value: object, readers: Collection[str]) -> Event:
-    """What the line of an event says (docs/FAULTS.md, Refusals of a scenario, 3)."""
+def event_by(events: dict[str, dict[str, Form]], value: object, names: Collection[str]) -> Event:
+    """What the line of one of these events says, or of a fault (docs/FAULTS.md, Refusals of a scenario, 3)."""
     refuse_if(25, not isinstance(value, dict))
     do, kind = str(value.get("do")), str(value.get("kind"))
-    refuse_if(25, do not in EVENTS and (do != "fault" or kind not in FAULTS))
-    further = EVENTS[do] if do in EVENTS else {"g": G, "kind": NAME, **FAULTS[kind]}
+    refuse_if(25, do not in events and (do != "fault" or kind not in FAULTS))
+    further = events[do] if do in events else {"g": G, "kind": NAME, **FAULTS[kind]}
     check(keys({"do": NAME, **further}), value)
-    refuse_if(19, "r" in value and value["r"] not in readers)
+    refuse_if(19, "r" in value and value["r"] not in names)
     return value
 
 
-def lines(data: bytes) -> Iterator[tuple[int, Plant | Event | Refused]]:
-    """Each line that is not skipped, with its number, up to the first refusal (docs/SCENARIOS.md,
-    Scenarios; docs/FAULTS.md, Refusals of a scenario, 1)."""
-    whole = data.removesuffix(b"\n").split(b"\n") if data else []
-    plant = None
-    for number, line in enumerate(whole, 1):
-        try:
-            refuse_if(30, number > 1_000_000)
-            refuse_if(23, len(line) > 65_536)
-            if not line.strip(b" \t\r"):
-                continue
-            value = value_of_line(line)
-            meaning = event_of(value, plant.readers) if plant else plant_of(value)
-            plant = plant or meaning
-        except Refused as refused:
-            yield number, refused
-            return
-        yield number, meaning
-    if plant is None:
-        yield len(whole) + 1, Refused(29)
+def event_of(value: object, readers: Collection[str]) -> Event:
+    """What the line of an event says (docs/SCENARIOS.md, Events)."""
+    return event_by(EVENTS, value, readers)

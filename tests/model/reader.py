@@ -3,7 +3,7 @@
 from dataclasses import dataclass, replace
 from enum import Enum
 
-from .times import LAST_DAY, Claim, Mark, Second, Table, second_after, table_mark
+from .times import LAST_DAY, Claim, Mark, Second, Table, second_after, table_mark, text_of_second
 
 # docs/OUTPUT.md, LOCK and CAUSE.
 LOCKS = ["unlocked", "acquiring", "locked", "holdover"]
@@ -45,6 +45,13 @@ class Report:
     lock: Lock
     cause: Cause
     count: int | None = None  # N of acquiring and holdover
+
+
+def said_of(report: Report) -> str:
+    """TIME, LOCK and CAUSE (docs/OUTPUT.md, The log of a scenario)."""
+    time = "-" if report.second is None else text_of_second(report.second)
+    lock = report.lock.value if report.count is None else f"{report.lock.value}:{report.count}"
+    return f"{time} {lock} {report.cause.value}"
 
 
 IDLE = State()

@@ -6,12 +6,15 @@ from dataclasses import dataclass
 from .faults import Refused, refuse_if
 from .frames import Told, symbol_of, told, word_of_port
 from .generator import GeneratorFault, Kind, sent
-from .meaning import Event, Plant, lines
-from .reader import IDLE, Report, State, after_tick
+from .lines import lines
+from .meaning import Event, Plant
+from .reader import IDLE, Report, State, after_tick, said_of
+from .station import Station
+from .station_lines import StationPlan
 from .times import Claim, Mark, is_true_table, second_at, text_of_second, truth_at
 from .voting import majority, vote
 
-__all__ = ["Result", "lines", "play"]
+__all__ = ["Result", "default_lines", "lines", "play"]
 
 
 @dataclass(frozen=True)
@@ -135,9 +138,7 @@ def entry_lines(entry: Entry, entries: str) -> Iterator[str]:
     """The lines of a tick (docs/OUTPUT.md, The log of a scenario, and What each port told)."""
     said = entry.report
     if said.second is not None or "all" in entries:
-        time = "-" if said.second is None else text_of_second(said.second)
-        lock = said.lock.value if said.count is None else f"{said.lock.value}:{said.count}"
-        yield f"{entry.n} {entry.name} {time} {lock} {said.cause.value}"
+        yield f"{entry.n} {entry.name} {said_of(said)}"
     if "ports" in entries:
         words = [port_word(word, entry.truth) for word in entry.told]
         yield " ".join(["", str(entry.n), entry.name, *words])
@@ -159,21 +160,49 @@ def verdict(plant: Plant, broken: list[Entry]) -> str:
     return "premises kept"
 
 
+class Readers:
+    """A plant of readers, and the first tick that broke a premise, if there was one."""
+
+    def __init__(self, plant: Plant, entries: str):
+        self.world, self.entries = world_of(plant), entries
+        self.broken: list[Entry] = []
+
+    def lines_of(self, event: Event) -> Iterator[str]:
+        """The lines of an event, or its refusal."""
+        for entry in happen(self.world, event):
+            yield from entry_lines(entry, self.entries)
+            self.broken += [entry] if is_broken(entry) and not self.broken else []
+
+    def last_line(self) -> str:
+        return verdict(self.world.plant, self.broken)
+
+
+def begun(plant: Plant | StationPlan, entries: str) -> Readers | Station:
+    """A plant of either kind before its first event."""
+    return Station(plant, entries) if isinstance(plant, StationPlan) else Readers(plant, entries)
+
+
+def default_lines(log: bytes) -> bytes:
+    """A log without what --all and --ports add: ticks that announce nothing, and what ports told
+    (docs/OUTPUT.md). A stamp that was not given stands in any log."""
+    lines = log.splitlines(keepends=True)
+    return b"".join(line for line in lines if line[:1] == b"@" or line[:1] != b" " and b" - " not in line)
+
+
 def play(data: bytes, entries: str = "default") -> Result:
     """The log of a scenario, `entries` being "default", "all", "ports" or "all ports"
     (docs/SCENARIOS.md; docs/OUTPUT.md; docs/FAULTS.md, Refusals of a scenario)."""
-    world, log, broken, number = None, [], [], 0
+    plant, log, number = None, [], 0
     try:
         for number, meaning in lines(data):
             if isinstance(meaning, Refused):
                 raise meaning
-            if world is None:
-                world = world_of(meaning)
+            if plant is None:
+                plant = begun(meaning, entries)
                 continue
-            for entry in happen(world, meaning):
-                log += entry_lines(entry, entries)
-                broken += [entry] if is_broken(entry) and not broken else []
-        last, error = verdict(world.plant, broken), None
+            for line in plant.lines_of(meaning):
+                log.append(line)
+        last, error = plant.last_line(), None
     except Refused as refused:
         error = f"line {number}: {refused}"
         last = f"refused: {error}"

@@ -1,8 +1,6 @@
 """What reaches a simulated device by its cables, one pulse at a time, and what its oscillator shows."""
 
-from dataclasses import dataclass
-from fractions import Fraction
-from math import ceil, floor
+from dataclasses import dataclass, field
 
 SECOND = 1_000_000
 Pulse = tuple[int, int]  # when it rises, and when it has ended
@@ -34,6 +32,19 @@ class Cable:
         return ended
 
 
+@dataclass
+class KeptCable(Cable):
+    """A cable of which each pulse that rose on it is kept."""
+
+    rose: list[Pulse] = field(default_factory=list)
+
+    def add(self, rise: int, width: int) -> None:
+        """A pulse rises, if the line is free."""
+        if self.pulse is None:
+            self.rose.append((rise, rise + width))
+        super().add(rise, width)
+
+
 def next_of(pulses: list[Pulse | None], tick: int | None, send: int) -> tuple[int, int, int]:
     """What happens next on these lines: when, of which kind it is, and on which line a pulse ends."""
     ends = [(pulse[1], END, line) for line, pulse in enumerate(pulses) if pulse]
@@ -42,9 +53,9 @@ def next_of(pulses: list[Pulse | None], tick: int | None, send: int) -> tuple[in
 
 def shown(first: int, gain: int, time: int) -> int:
     """What a counter shows at a time that gains so much in each second."""
-    return floor(first + time * (1 + Fraction(gain, SECOND)))
+    return first + time * (SECOND + gain) // SECOND
 
 
 def first_shown(first: int, gain: int, count: int) -> int:
-    """When it first shows a count or more."""
-    return max(0, ceil((count - first) / (1 + Fraction(gain, SECOND))))
+    """When it first shows a count or more: the time rounded up."""
+    return max(0, -((first - count) * SECOND // (SECOND + gain)))

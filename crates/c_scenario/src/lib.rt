@@ -5,7 +5,7 @@
 //! C library for memory, gives all of it back, and keeps nothing between calls.
 #![tactic(auto)]
 
-ghost use Rattle.std.specs.Prelude.{All, ◌≡◌, ◌≢◌, ◌≤◌, ◌⊎◌, ℕ, List, IsSome, None, Some, length, take, true};
+ghost use Rattle.std.specs.Prelude.{All, ◌≡◌, ◌≢◌, ◌≤◌, ◌⊎◌, ℕ, List, IsSome, None, Some, length, take, false, true};
 ghost use Rattle.text_frame.specs.Frame.{NamesNoSecond, ShowsFrameOf};
 ghost use Rattle.text_frame.specs.Letters.{ShowsNoSymbols};
 ghost use Rattle.text_frame.specs.Reading.{IsReadingOf};
@@ -16,6 +16,8 @@ ghost use Rattle.irig_scene.specs.BrokenLogs.{VouchesUntilBroken};
 ghost use Rattle.irig_scene.specs.LogLines.{TellsTruth, VouchesForItself};
 ghost use Rattle.irig_scene.specs.PortLines.{without_port_lines};
 ghost use Rattle.irig_scene.specs.Scene.{Scene, audit_in, meaning_of, output, output_shown};
+ghost use Rattle.irig_scenario.specs.DeviceLogs.{VouchesForDevices};
+ghost use Rattle.irig_scenario.specs.Scenarios.{has_devices};
 ghost use Rattle.irig_scene.specs.VouchedByPorts.{VouchesByPorts};
 ghost use Rattle.irig_scene.specs.VouchedLines.{VouchesByPlantLine};
 ghost use Rattle.c_scenario.specs.Entries.{entries_of, verdict_by};
@@ -23,7 +25,8 @@ ghost use Rattle.c_scenario.specs.Frames.{are_options, are_rules, options_in, ru
 ghost use Rattle.c_scenario.specs.TrueEntries.{AreTrueBefore};
 ghost use Rattle.c_scenario.specs.Stretches.{stretches_of};
 ghost use Rattle.c_scenario.specs.Lanes.{lanes_of};
-ghost use Rattle.c_scenario.specs.Runs.{HasWholeLog, IsRefusalOf, IsStatus, shown_of, written_over};
+ghost use Rattle.report_log.specs.Text.{entries_alone};
+ghost use Rattle.c_scenario.specs.Runs.{HasWholeLog, IsRefusalOf, IsStatus, scenario_log, scenario_refusal, shown_of, written_over};
 
 mod entry;
 mod entry_log;
@@ -57,7 +60,7 @@ const BAD_TEXT: u8 = 1;
 const NO_MEMORY: u8 = 6;
 
 /// Runs a scenario, and writes as much of its log into `log` as that has room for; with `all` the
-/// silent entries too. `whole` is then how many bytes the log has.
+/// silent entries too, or all seconds that devices told. `whole` is then how many bytes the log has.
 ///
 /// 0 if the run was done, and 3 if a line is refused, as the log's last line says. 5 if
 /// there was no memory for the log, and 6 if there was none for the run: `whole` is then how
@@ -72,17 +75,26 @@ pub extern "C" fn irig_scene_c_run(
     whole: &mut usize,
 ) -> u8
     ensures status { IsStatus result }
-    ensures done { result ≡ 0 → (meaning_of text.now).refused ≡ None }
-    ensures refused { result ≡ 3 → IsSome (meaning_of text.now).refused }
-    ensures whole { HasWholeLog result → whole.new ≡ length (output text.now all) }
-    ensures front { whole.new ≤ length (output text.now all) }
+    ensures done { result ≡ 0 → scenario_refusal text.now ≡ None }
+    ensures refused { result ≡ 3 → IsSome (scenario_refusal text.now) }
+    ensures whole { HasWholeLog result
+        → whole.new ≡ length (scenario_log text.now (entries_alone all)) }
+    ensures front { whole.new ≤ length (scenario_log text.now (entries_alone all)) }
     // that many first bytes of the log stand there, as far as there is room, and behind them what
     // stood there
-    ensures log { log.new ≡ written_over log.old (take whole.new (output text.now all)) }
-    ensures vouches { VouchesForItself text.now (take whole.new log.new) }
-    ensures vouches_by_plant_line { VouchesByPlantLine text.now (take whole.new log.new) }
-    ensures vouches_until_broken { VouchesUntilBroken text.now (take whole.new log.new) }
-    ensures truth { TellsTruth text.now (take whole.new log.new) }
+    ensures log { log.new
+        ≡ written_over log.old (take whole.new (scenario_log text.now (entries_alone all))) }
+    // of a plant of readers
+    ensures vouches { has_devices text.now ≡ false
+        → VouchesForItself text.now (take whole.new log.new) }
+    ensures vouches_by_plant_line { has_devices text.now ≡ false
+        → VouchesByPlantLine text.now (take whole.new log.new) }
+    ensures vouches_until_broken { has_devices text.now ≡ false
+        → VouchesUntilBroken text.now (take whole.new log.new) }
+    ensures truth { has_devices text.now ≡ false → TellsTruth text.now (take whole.new log.new) }
+    // of a plant of devices
+    ensures vouches_for_devices { has_devices text.now ≡ true
+        → VouchesForDevices text.now (take whole.new log.new) }
 {
     let ended = run::run_text(alloc, text, Shown { all, ports: false });
     run::write_over(log, &ended.log);
@@ -90,9 +102,9 @@ pub extern "C" fn irig_scene_c_run(
     run::status_of(&ended.answer)
 }
 
-/// The same, and with `ports` the log has after each tick what its ports told. If a line is refused,
-/// `refusal` says which and as what, and as much of the reason is written into `reason` as that has
-/// room for: one line of text without a newline, as the program writes it.
+/// The same, and with `ports` the log has after each tick what its ports told; devices have none. If
+/// a line is refused, `refusal` says which and as what, and as much of the reason is written into
+/// `reason` as that has room for: one line of text without a newline, as the program writes it.
 #[unsafe(no_mangle)]
 pub extern "C" fn irig_scene_c_run_shown(
     alloc: Global,
@@ -105,34 +117,42 @@ pub extern "C" fn irig_scene_c_run_shown(
     refusal: &mut IrigRefusal,
 ) -> u8
     ensures status { IsStatus result }
-    ensures done { result ≡ 0 → (meaning_of text.now).refused ≡ None }
-    ensures refused { result ≡ 3 → IsSome (meaning_of text.now).refused }
+    ensures done { result ≡ 0 → scenario_refusal text.now ≡ None }
+    ensures refused { result ≡ 3 → IsSome (scenario_refusal text.now) }
     ensures refusal { HasWholeLog result
-        → IsRefusalOf (meaning_of text.now).refused refusal.new.line refusal.new.number }
+        → IsRefusalOf (scenario_refusal text.now) refusal.new.line refusal.new.number }
     ensures whole { HasWholeLog result
-        → whole.new ≡ length (output_shown text.now (shown_of all ports)) }
-    ensures front { whole.new ≤ length (output_shown text.now (shown_of all ports)) }
+        → whole.new ≡ length (scenario_log text.now (shown_of all ports)) }
+    ensures front { whole.new ≤ length (scenario_log text.now (shown_of all ports)) }
     ensures log { log.new
-        ≡ written_over log.old (take whole.new (output_shown text.now (shown_of all ports))) }
+        ≡ written_over log.old (take whole.new (scenario_log text.now (shown_of all ports))) }
     // without the lines of ports the log is that of a run that does not show them
     ensures without { without_port_lines (output_shown text.now (shown_of all true))
         ≡ output text.now all }
-    ensures vouches { VouchesForItself text.now (take whole.new log.new) }
-    ensures vouches_by_plant_line { VouchesByPlantLine text.now (take whole.new log.new) }
-    ensures vouches_until_broken { VouchesUntilBroken text.now (take whole.new log.new) }
-    ensures vouches_by_ports { VouchesByPorts text.now (take whole.new log.new) }
-    ensures truth { TellsTruth text.now (take whole.new log.new) }
+    // of a plant of readers
+    ensures vouches { has_devices text.now ≡ false
+        → VouchesForItself text.now (take whole.new log.new) }
+    ensures vouches_by_plant_line { has_devices text.now ≡ false
+        → VouchesByPlantLine text.now (take whole.new log.new) }
+    ensures vouches_until_broken { has_devices text.now ≡ false
+        → VouchesUntilBroken text.now (take whole.new log.new) }
+    ensures vouches_by_ports { has_devices text.now ≡ false
+        → VouchesByPorts text.now (take whole.new log.new) }
+    ensures truth { has_devices text.now ≡ false → TellsTruth text.now (take whole.new log.new) }
+    // of a plant of devices
+    ensures vouches_for_devices { has_devices text.now ≡ true
+        → VouchesForDevices text.now (take whole.new log.new) }
 {
     let ended = run::run_text(alloc, text, Shown { all, ports });
     run::write_over(log, &ended.log);
     *whole = ended.log.len();
-    *refusal = run::explain(alloc, &ended.answer, &ended.refused, reason);
+    *refusal = run::explain_either(alloc, &ended.answer, &ended.refused, reason);
     run::status_of(&ended.answer)
 }
 
-/// The same run, whose log is written into `entries` as numbers, silent ones too, as many as it has
-/// room for, each with the line that asked for it. `whole` is then how many entries the log has, and
-/// `verdict` says whether the premises held.
+/// The same run of a plant of readers, whose log is written into `entries` as numbers, silent ones
+/// too, as many as it has room for, each with the line that asked for it. `whole` is then how many
+/// entries the log has, and `verdict` says whether the premises held. A plant of devices is refused.
 ///
 /// 0 if the run was done, and 3 if a line is refused, as `refusal` and `reason` say. 6 if there was no
 /// memory for the run, and 5 if there was none to say what is refused: nothing is written into

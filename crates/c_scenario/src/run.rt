@@ -5,16 +5,18 @@ ghost use Rattle.c_scenario.specs.Runs.{IsRun, line_of, number_of, status_of, wr
 
 use crate::refusal::IrigRefusal;
 use irig_device::Watched;
-use irig_scene::{Outcome, RefusedLine, SceneFault, Shown, run_scene_shown};
+use irig_scenario::{ScenarioOutcome, WhyRefused, run_scenario};
+use irig_scene::{RefusedLine, SceneFault, Shown};
 use std::alloc::{AllocError, Global};
+use text_faults::meaning_of;
 use text_refusal::{Parts, PlantContext, Reason, why_refused};
 
 /// How a run ended, and what it wrote.
 #[derive(Drop)]
 pub(crate) struct Ended {
-    pub(crate) answer: Result<Outcome, SceneFault>,
+    pub(crate) answer: Result<ScenarioOutcome, SceneFault>,
     pub(crate) log: Vec<u8>,
-    pub(crate) refused: Option<RefusedLine>,
+    pub(crate) refused: Option<WhyRefused>,
 }
 
 pub(crate) fn run_text(alloc: Global, text: &[u8], shown: Shown) -> Ended
@@ -23,7 +25,7 @@ pub(crate) fn run_text(alloc: Global, text: &[u8], shown: Shown) -> Ended
     let mut input = Watched::new(text);
     let mut output = Watched::new(Vec::new(alloc));
     let mut refused = None;
-    let answer = run_scene_shown(alloc, &mut input, &mut output, shown, &mut refused);
+    let answer = run_scenario(alloc, &mut input, &mut output, shown, &mut refused);
     Ended {
         answer,
         log: output.into_inner(),
@@ -32,7 +34,7 @@ pub(crate) fn run_text(alloc: Global, text: &[u8], shown: Shown) -> Ended
 }
 
 /// The exit status that a program has after such an answer.
-pub(crate) fn status_of(answer: &Result<Outcome, SceneFault>) -> u8
+pub(crate) fn status_of<T>(answer: &Result<T, SceneFault>) -> u8
     ensures { result ≡ status_of answer.now }
 {
     match answer {
@@ -42,7 +44,7 @@ pub(crate) fn status_of(answer: &Result<Outcome, SceneFault>) -> u8
 }
 
 // The number of the line that is refused, from 1, or 0.
-fn line_of(answer: &Result<Outcome, SceneFault>) -> u64
+fn line_of<T>(answer: &Result<T, SceneFault>) -> u64
     ensures { result ≡ line_of answer.now }
 {
     match answer {
@@ -52,7 +54,7 @@ fn line_of(answer: &Result<Outcome, SceneFault>) -> u64
 }
 
 // The number of the refusal, or 0.
-fn number_of(answer: &Result<Outcome, SceneFault>) -> u8
+fn number_of<T>(answer: &Result<T, SceneFault>) -> u8
     ensures { result ≡ number_of answer.now }
 {
     match answer {
@@ -63,37 +65,83 @@ fn number_of(answer: &Result<Outcome, SceneFault>) -> u8
 
 /// What is refused, if a line is, and as much of the reason is written over the beginning of `reason`
 /// as that has room for.
-pub(crate) fn explain(
+pub(crate) fn explain<T>(
     alloc: Global,
-    answer: &Result<Outcome, SceneFault>,
+    answer: &Result<T, SceneFault>,
     refused: &Option<RefusedLine>,
     reason: &mut [u8],
 ) -> IrigRefusal
     ensures line { result.line ≡ line_of answer.now }
     ensures number { result.number ≡ number_of answer.now }
 {
-    let line = line_of(answer);
-    let number = number_of(answer);
-    match why(alloc, refused) {
-        Ok(Some(why)) => {
-            write_over(reason, why.text.as_str().as_bytes());
-            IrigRefusal::new(line, number, why.text.len(), why.parts)
-        }
-        _ => IrigRefusal::new(line, number, 0, Parts::NONE),
+    match refused {
+        Some(line) => explain_line(alloc, answer, line, reason),
+        None => refusal_with(answer, "", Parts::NONE, reason),
     }
 }
 
-// Why a line is refused, if one is.
-fn why(alloc: Global, refused: &Option<RefusedLine>) -> Result<Option<Reason>, AllocError> {
-    let Some(refused) = refused else {
-        return Ok(None);
-    };
+/// The same whatever the plant has: of devices the reason is what the refusal means.
+pub(crate) fn explain_either<T>(
+    alloc: Global,
+    answer: &Result<T, SceneFault>,
+    refused: &Option<WhyRefused>,
+    reason: &mut [u8],
+) -> IrigRefusal
+    ensures line { result.line ≡ line_of answer.now }
+    ensures number { result.number ≡ number_of answer.now }
+{
+    match refused {
+        Some(WhyRefused::Line(line)) => explain_line(alloc, answer, line, reason),
+        Some(WhyRefused::Cause(refusal)) => {
+            refusal_with(answer, cause_of(refusal.number()), Parts::NONE, reason)
+        }
+        None => refusal_with(answer, "", Parts::NONE, reason),
+    }
+}
+
+fn explain_line<T>(
+    alloc: Global,
+    answer: &Result<T, SceneFault>,
+    refused: &RefusedLine,
+    reason: &mut [u8],
+) -> IrigRefusal
+    ensures line { result.line ≡ line_of answer.now }
+    ensures number { result.number ≡ number_of answer.now }
+{
+    match why(alloc, refused) {
+        Ok(why) => refusal_with(answer, why.text.as_str(), why.parts, reason),
+        Err(_) => refusal_with(answer, "", Parts::NONE, reason),
+    }
+}
+
+// What is refused, with this reason.
+fn refusal_with<T>(
+    answer: &Result<T, SceneFault>,
+    text: &str,
+    parts: Parts,
+    reason: &mut [u8],
+) -> IrigRefusal
+    ensures line { result.line ≡ line_of answer.now }
+    ensures number { result.number ≡ number_of answer.now }
+{
+    write_over(reason, text.as_bytes());
+    IrigRefusal::new(line_of(answer), number_of(answer), text.len(), parts)
+}
+
+fn cause_of(number: u8) -> &'static str {
+    match meaning_of(number) {
+        Some(meaning) => meaning.cause,
+        None => "",
+    }
+}
+
+// Why a line is refused.
+fn why(alloc: Global, refused: &RefusedLine) -> Result<Reason, AllocError> {
     let context = PlantContext {
         names: &refused.names,
         edges: refused.edges.as_slice(),
     };
-    let reason = why_refused(alloc, refused.refusal, refused.line.as_slice(), &context)?;
-    Ok(Some(reason))
+    why_refused(alloc, refused.refusal, refused.line.as_slice(), &context)
 }
 
 /// Writes the items over the beginning of `room`, as many as it has room for.

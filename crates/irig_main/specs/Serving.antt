@@ -10,11 +10,10 @@ use Rattle.text_frame.specs.declared.frame.FrameOptions.{FrameOptions}
 use Rattle.text_frame.specs.Frame.{NamesNoSecond, ShowsFrameOf}
 use Rattle.text_frame.specs.Letters.{ShowsNoSymbols}
 use Rattle.text_frame.specs.Reading.{IsReadingOf}
-use Rattle.irig_scene.specs.declared.outcome.Outcome.{Outcome}
 use Rattle.report_run.specs.declared.fault.SceneFault.{SceneFault}
 use Rattle.report_log.specs.declared.shown.Shown.{Shown}
 use Rattle.irig_scene.specs.LogLines.{OfWritten}
-use Rattle.irig_scene.specs.Run.{RanShown}
+use Rattle.irig_scenario.specs.Scenarios.{RanScenario}
 use Rattle.report_flat.specs.Flattening.{HasTheLog, RanFlat}
 use Rattle.report_blame.specs.Blaming.{RanBlame}
 use Rattle.cli_words.specs.declared.request.Request.{Request}
@@ -27,7 +26,7 @@ use Rattle.cli_words.specs.declared.request.NoRequest.{NoRequest}
 use Rattle.cli_words.specs.declared.request.NoRequest.TheVariants as none
 use Rattle.irig_main.specs.declared.fault.Fault.{Fault}
 use Rattle.irig_main.specs.declared.fault.Fault.TheVariants as fault
-use Rattle.irig_main.specs.Status.{result_of, status_of_answer}
+use Rattle.irig_main.specs.Status.{ended, result_of, status_of_answer}
 
 -- what the program answers
 abbrev pub Answer : Type 0
@@ -52,18 +51,26 @@ shown all ports = record { all = all; ports = ports }
 abbrev pub plain_log : Wanted
 plain_log = Log false false
 
+-- a run ended so, and of its answer this holds
+abbrev pub EndedWith : {O : Type 0} → Result (Unit {0}) SceneFault
+    → (Result O SceneFault → Type 0) → Type 0
+EndedWith {O} run Holds = (answer : Result O SceneFault) × (run ≡ ended answer) × Holds answer
+
 -- what is wanted of a scenario was written: its log; the scenario as what its readers hear, which
 -- has the same log; or who lied in it
-abbrev pub Writes : Wanted → Result Outcome SceneFault → Bytes → Bytes → Bytes → Bytes → Type 0
-Writes (Log all ports) run input left old new = RanShown run (shown all ports) input left old new
+abbrev pub Writes : Wanted → Result (Unit {0}) SceneFault → Bytes → Bytes → Bytes → Bytes → Type 0
+Writes (Log all ports) run input left old new =
+    EndedWith run (λ answer. RanScenario (shown all ports) answer input left old new)
 Writes Flat run input left old new =
-    IfSome input (λ x. OfWritten old new (HasTheLog run x)) × RanFlat run input left old new
-Writes (Blame lines) run input left old new = RanBlame lines.now run input left old new
+    EndedWith run (λ answer. IfSome input (λ x. OfWritten old new (HasTheLog answer x))
+    × RanFlat answer input left old new)
+Writes (Blame lines) run input left old new =
+    EndedWith run (λ answer. RanBlame lines.now answer input left old new)
 
 -- the scenario on an input was played, of which `left` is left
 pub record PlaysScene (wanted : Wanted) (answer : Answer) (input left old new : Bytes)
     : Type 0 where
-  pub run : Result Outcome SceneFault
+  pub run : Result (Unit {0}) SceneFault
   pub answered : answer ≡ result_of run
   pub wrote : Writes wanted run input left old new
 

@@ -1,7 +1,6 @@
 -- The exit statuses.
 -- Source: docs/OUTPUT.md, the exit status.
 use Rattle.std.specs.Prelude.{◌≡◌, ℕ, ◌≤◌, ◌⊎◌, Result, Ok, Err}
-use Rattle.irig_scene.specs.declared.outcome.Outcome.{Outcome}
 use Rattle.report_run.specs.declared.fault.SceneFault.{SceneFault}
 use Rattle.report_run.specs.declared.fault.SceneFault.TheVariants as scene
 use Rattle.text_frame.specs.declared.reading.ReadingFault.{ReadingFault}
@@ -34,9 +33,14 @@ abbrev pub fault_of_reading : ReadingFault → Fault
 fault_of_reading reading.BadFrameText = BadFrameText
 fault_of_reading reading.Memory = Memory
 
--- what the run of a scenario leaves for the program
-abbrev pub result_of : Result Outcome SceneFault → Result (Unit {0}) Fault
-result_of (Ok outcome) = Ok _
+-- how the run of a scenario ended, without its outcome
+abbrev pub ended : {O : Type 0} → Result O SceneFault → Result (Unit {0}) SceneFault
+ended (Ok outcome) = Ok _
+ended (Err fault) = Err fault
+
+-- what that leaves for the program
+abbrev pub result_of : Result (Unit {0}) SceneFault → Result (Unit {0}) Fault
+result_of (Ok done) = Ok _
 result_of (Err fault) = Err (fault_of fault)
 
 -- what was done is 0

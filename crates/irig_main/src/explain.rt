@@ -2,9 +2,10 @@
 
 use crate::fault::Fault;
 use cli_words::{Request, Source};
-use irig_scene::{RefusedLine, SceneFault};
+use irig_scenario::WhyRefused;
+use irig_scene::{Refusal, RefusedLine, SceneFault};
 use std::alloc::{AllocError, Global};
-use text_refusal::{PlantContext, why_refused};
+use text_refusal::{PlantContext, Reason, why_refused};
 use text_words::{meaning_of, why_no_frame, why_no_time};
 
 /// Writes why a line is refused to the standard error. Without memory, or if it takes nothing,
@@ -12,11 +13,11 @@ use text_words::{meaning_of, why_no_frame, why_no_time};
 pub(crate) fn tell_refusal<R: Eprint + AllocGlobal>(
     rt: &R,
     fault: SceneFault,
-    refused: &Option<RefusedLine>,
+    refused: &Option<WhyRefused>,
 ) {
     if let SceneFault::Refused { line, refusal } = fault
-        && let Some(refused) = refused
-        && let Ok(text) = refusal_text(rt.alloc(), line, refusal.number(), refused)
+        && let Some(why) = refused
+        && let Ok(text) = refusal_text(rt.alloc(), line, refusal, why)
     {
         let _ = rt.eprintln(&text);
     }
@@ -25,19 +26,38 @@ pub(crate) fn tell_refusal<R: Eprint + AllocGlobal>(
 fn refusal_text(
     alloc: Global,
     line: u64,
-    number: u8,
-    refused: &RefusedLine,
+    refusal: Refusal,
+    why: &WhyRefused,
 ) -> Result<String, AllocError> {
+    let number = refusal.number();
+    let Some(meaning) = meaning_of(number) else {
+        return Ok(String::new(alloc));
+    };
+    match why {
+        WhyRefused::Line(refused) => {
+            let reason = reason_of(alloc, refused)?;
+            text_of(alloc, line, number, meaning.name, reason.text.as_str())
+        }
+        WhyRefused::Cause(_) => text_of(alloc, line, number, meaning.name, meaning.cause),
+    }
+}
+
+fn reason_of(alloc: Global, refused: &RefusedLine) -> Result<Reason, AllocError> {
     let context = PlantContext {
         names: &refused.names,
         edges: refused.edges.as_slice(),
     };
-    let reason = why_refused(alloc, refused.refusal, refused.line.as_slice(), &context)?;
-    let name = meaning_of(number).map_or("", |meaning| meaning.name);
-    format!(in alloc;
-        "line {line}: {number} {name}: {}\nmore: irig explain {number}",
-        reason.text
-    )
+    why_refused(alloc, refused.refusal, refused.line.as_slice(), &context)
+}
+
+fn text_of(
+    alloc: Global,
+    line: u64,
+    number: u8,
+    name: &str,
+    reason: &str,
+) -> Result<String, AllocError> {
+    format!(in alloc; "line {line}: {number} {name}: {reason}\nmore: irig explain {number}")
 }
 
 /// Writes what helps with a fault to the standard error, behind its line. Without memory, or if

@@ -4,13 +4,15 @@ ghost use Rattle.std.specs.Prelude.{◌≡◌, ◌↔◌, Err, false, true};
 ghost use Rattle.irig_device.specs.Watched.{device_of, has_failed};
 ghost use Rattle.irig_scene.specs.WholeRun.{left, written};
 ghost use Rattle.irig_main.specs.Serving.{PlaysFile, PlaysScene, Writes};
+ghost use Rattle.irig_main.specs.Status.{ended};
 
 use crate::explain::tell_refusal;
 use crate::fault::Fault;
 use crate::request::open;
 use cli_words::Wanted;
 use irig_device::Watched;
-use irig_scene::{Outcome, RefusedLine, SceneFault, Shown, run_scene_shown};
+use irig_scenario::{WhyRefused, run_scenario};
+use irig_scene::{RefusedLine, SceneFault, Shown};
 use report_blame::blame;
 use report_flat::flatten;
 use std::alloc::Global;
@@ -39,7 +41,7 @@ pub fn play_input<R: Eprint + AllocGlobal, I: BufRead, O: Write>(
 {
     let mut refused = None;
     match write_wanted(rt.alloc(), wanted, input, output, &mut refused) {
-        Ok(_) => Ok(()),
+        Ok(()) => Ok(()),
         Err(fault) => {
             tell_refusal(rt, fault, &refused);
             Err(Fault::from(fault))
@@ -52,21 +54,50 @@ fn write_wanted<I: BufRead, O: Write>(
     wanted: Wanted<'_>,
     input: &mut Watched<I>,
     output: &mut Watched<O>,
-    refused: &mut Option<RefusedLine>,
-) -> Result<Outcome, SceneFault>
+    refused: &mut Option<WhyRefused>,
+) -> Result<(), SceneFault>
     requires input_whole { has_failed input.old ≡ false }
     requires output_whole { has_failed output.old ≡ false }
-    ensures wrote { Writes wanted.entry result (left I.remaining input.old) (left I.remaining input.new)
+    ensures wrote { Writes wanted.entry result
+        (left I.remaining input.old) (left I.remaining input.new)
         (written O.contents output.old) (written O.contents output.new) }
     ensures read { (result ≡ Err SceneFault.Read) ↔ (has_failed input.new ≡ true) }
     ensures write { (result ≡ Err SceneFault.Write) ↔ (has_failed output.new ≡ true) }
 {
     match wanted {
         Wanted::Log { all, ports } => {
-            run_scene_shown(alloc, input, output, Shown { all, ports }, refused)
+            let answer = run_scenario(alloc, input, output, Shown { all, ports }, refused);
+            end_of(answer)
         }
-        Wanted::Flat => flatten(alloc, input, output, refused),
-        Wanted::Blame { lines } => blame(alloc, lines, input, output, refused),
+        Wanted::Flat => {
+            let mut line = None;
+            let answer = flatten(alloc, input, output, &mut line);
+            *refused = why_of(line);
+            end_of(answer)
+        }
+        Wanted::Blame { lines } => {
+            let mut line = None;
+            let answer = blame(alloc, lines, input, output, &mut line);
+            *refused = why_of(line);
+            end_of(answer)
+        }
+    }
+}
+
+fn why_of(line: Option<RefusedLine>) -> Option<WhyRefused> {
+    match line {
+        Some(line) => Some(WhyRefused::Line(line)),
+        None => None,
+    }
+}
+
+// How a run ended, without its outcome.
+fn end_of<T: Copy>(answer: Result<T, SceneFault>) -> Result<(), SceneFault>
+    ensures { result ≡ ended answer }
+{
+    match answer {
+        Ok(_) => Ok(()),
+        Err(fault) => Err(fault),
     }
 }
 

@@ -148,7 +148,7 @@ static MEANINGS: [Meaning; 37] = [
     // 19
     Meaning {
         name: "NoSuchReader",
-        cause: "no reader has this name",
+        cause: "no reader or device has this name",
         example: "{\"do\":\"tick\",\"r\":\"rely\"}",
         cure: "take a name of the plant line",
     },
@@ -192,7 +192,7 @@ static MEANINGS: [Meaning; 37] = [
         name: "Shape",
         cause: "a key is missing or unknown, or a value has another type; a do or kind that is not there",
         example: "{\"do\":\"tick\",\"reader\":\"relay\"}",
-        cure: "compare the line with the tables of docs/SCENARIOS.md; \"table\" needs version 2",
+        cure: "compare the line with the tables of docs/SCENARIOS.md: each version has its own keys and events",
     },
     // 26
     Meaning {
@@ -205,13 +205,13 @@ static MEANINGS: [Meaning; 37] = [
     Meaning {
         name: "Version",
         cause: "a version that this program does not know",
-        example: "{\"version\":4}",
-        cure: "take 1, 2 or 3",
+        example: "{\"version\":5}",
+        cure: "take 1, 2, 3 or 4",
     },
     // 28
     Meaning {
         name: "Names",
-        cause: "no reader or more than 16, a name of another form, or a name twice",
+        cause: "no reader or device, or more than 16, a name of another form, or a name twice",
         example: "\"readers\":[{\"name\":\"Relay\",\"lock_after\":2,\"holdover\":3600}]",
         cure: "small letters, digits, _ and -, 1 to 16 of them",
     },

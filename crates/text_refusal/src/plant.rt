@@ -11,7 +11,7 @@ use crate::plan::find_in_plan;
 use crate::shape::find_in_shape;
 use crate::value::find_in_values;
 use crate::walk::{Wrong, first_place};
-use scenario_json::items_at;
+use scenario_json::{items_at, whole_at};
 use scenario_values::{Version, is_count};
 use serde_json::Value;
 use std::alloc::{AllocError, Global};
@@ -32,9 +32,21 @@ pub(crate) fn find_in_plant(
         Refusal::Shape => Ok(find_misformed(version, value)),
         Refusal::Value => Ok(find_beyond(version, value)),
         Refusal::Names => Ok(find_name(value)),
-        Refusal::Version => Ok(Some(in_line(value, "version", Expected::Text("1, 2 or 3")))),
+        Refusal::Version => Ok(Some(in_line(
+            value,
+            "version",
+            Expected::Text(known_versions(value)),
+        ))),
         Refusal::BadStart => Ok(Some(in_line(value, "start", Expected::Start))),
         _ => find_in_plan(alloc, refusal, value),
+    }
+}
+
+// The versions that there are. A plant of devices is refused so only by what plays readers alone.
+fn known_versions(value: &Value) -> &'static str {
+    match whole_at(value, "version") {
+        Some(4) => "1, 2 or 3",
+        _ => "1, 2, 3 or 4",
     }
 }
 

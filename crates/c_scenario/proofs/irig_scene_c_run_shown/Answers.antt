@@ -1,4 +1,4 @@
-use Rattle.std.proofs.Common.{◌∙◌, ap, rules}
+use Rattle.std.proofs.Common.{◌≡◌, ◌∙◌, length, subst, sym, ap, rules}
 use Rattle.irig_scene.specs.BrokenLogs.{VouchesUntilBroken}
 use Rattle.irig_scene.specs.LogLines.{TellsTruth, VouchesForItself}
 use Rattle.irig_scene.specs.VouchedByPorts.{VouchesByPorts}
@@ -8,20 +8,51 @@ use Rattle.irig_scene.proofs.PlantLines.{vouches_by_plant_line}
 use Rattle.irig_scene.proofs.PortLineLaws.{without_ports}
 use Rattle.irig_scene.proofs.TrueLines.{tells_truth, vouches_for_itself}
 use Rattle.irig_scene.proofs.VouchedByPorts.{vouches_by_ports}
-use Rattle.c_scenario.specs.Runs.{shown_of, written_over}
-use Rattle.c_scenario.proofs.RunLaws.{fact_left, front_counts, log_left}
+use Rattle.c_scenario.specs.Runs.{HasWholeLog, IsRefusalOf, IsStatus, line_of, number_of, scenario_log, scenario_refusal, shown_of, written_over}
+use Rattle.c_scenario.proofs.RunLaws.{devices_left, done_of, ends_as, explained_of, fact_left, front_counts, is_status, log_left, refused_of, whole_left}
 use Rattle.c_scenario.proofs.irig_scene_c_run_shown.Goals as goal
+
+pub returns-clause-status : goal.returns-clause-status
+returns-clause-status c = subst IsStatus (sym c.status_of.ensures) (is_status c.run_text-ended.result.answer)
+
+pub returns-clause-done : goal.returns-clause-done
+returns-clause-done c = λ done.
+    let run = c.run_text-ended.result in
+    let shown = shown_of c.args.all c.args.ports in
+    done_of run.log.items (scenario_log c.args.text.now shown) (scenario_refusal c.args.text.now) run.answer (ends_as c.args.text.now shown run.answer run.log.items c.run_text-ended.ensures) (sym c.status_of.ensures ∙ done)
+
+pub returns-clause-refused : goal.returns-clause-refused
+returns-clause-refused c = λ three.
+    let run = c.run_text-ended.result in
+    let shown = shown_of c.args.all c.args.ports in
+    refused_of run.log.items (scenario_log c.args.text.now shown) (scenario_refusal c.args.text.now) run.answer (ends_as c.args.text.now shown run.answer run.log.items c.run_text-ended.ensures) (sym c.status_of.ensures ∙ three)
+
+pub returns-clause-refusal : goal.returns-clause-refusal
+returns-clause-refusal c = λ whole.
+    let run = c.run_text-ended.result in
+    let shown = shown_of c.args.all c.args.ports in
+    let is = explained_of run.log.items (scenario_log c.args.text.now shown) (scenario_refusal c.args.text.now) run.answer (ends_as c.args.text.now shown run.answer run.log.items c.run_text-ended.ensures) (subst HasWholeLog c.status_of.ensures whole) in
+    subst (λ line. IsRefusalOf (scenario_refusal c.args.text.now) line c.explain_either.result.number) (sym c.explain_either.ensures.line)
+    (subst (λ number. IsRefusalOf (scenario_refusal c.args.text.now) (line_of run.answer) number) (sym c.explain_either.ensures.number) is)
+
+pub returns-clause-whole : goal.returns-clause-whole
+returns-clause-whole c = λ whole.
+    let run = c.run_text-ended.result in
+    let shown = shown_of c.args.all c.args.ports in
+    whole_left c.args.text.now shown run.answer run.log.items c.run_text-ended.ensures c.args.log.now c.len.result c.write_over.new.room (search rules) (c.write_over.ensures ∙ ap (written_over c.args.log.now) c.deref.ensures.value)
+    (subst HasWholeLog c.status_of.ensures whole)
 
 pub returns-clause-front : goal.returns-clause-front
 returns-clause-front c =
     let run = c.run_text-ended.result in
-    front_counts c.args.text.now (shown_of c.args.all c.args.ports) run.answer run.log.items c.len.result c.run_text-ended.ensures (search rules)
+    let shown = shown_of c.args.all c.args.ports in
+    front_counts c.args.text.now shown run.answer run.log.items c.run_text-ended.ensures c.args.log.now c.len.result c.write_over.new.room (search rules) (c.write_over.ensures ∙ ap (written_over c.args.log.now) c.deref.ensures.value)
 
 pub returns-clause-log : goal.returns-clause-log
 returns-clause-log c =
     let run = c.run_text-ended.result in
-    log_left c.args.text.now (shown_of c.args.all c.args.ports) run.answer run.log.items c.args.log.now c.len.result c.write_over.new.room c.run_text-ended.ensures
-    (search rules) (c.write_over.ensures ∙ ap (written_over c.args.log.now) c.deref.ensures.value)
+    let shown = shown_of c.args.all c.args.ports in
+    log_left c.args.text.now shown run.answer run.log.items c.run_text-ended.ensures c.args.log.now c.len.result c.write_over.new.room (search rules) (c.write_over.ensures ∙ ap (written_over c.args.log.now) c.deref.ensures.value)
 
 pub returns-clause-without : goal.returns-clause-without
 returns-clause-without c = without_ports c.args.text.now c.args.all
@@ -30,38 +61,39 @@ pub returns-clause-vouches : goal.returns-clause-vouches
 returns-clause-vouches c =
     let run = c.run_text-ended.result in
     let shown = shown_of c.args.all c.args.ports in
-    fact_left (VouchesForItself c.args.text.now) c.args.text.now shown run.answer run.log.items c.args.log.now c.len.result c.write_over.new.room
-    (vouches_for_itself shown c.args.text.now) c.run_text-ended.ensures
-    (search rules) (c.write_over.ensures ∙ ap (written_over c.args.log.now) c.deref.ensures.value)
-
-pub returns-clause-vouches_until_broken : goal.returns-clause-vouches_until_broken
-returns-clause-vouches_until_broken c =
-    let run = c.run_text-ended.result in
-    let shown = shown_of c.args.all c.args.ports in
-    fact_left (VouchesUntilBroken c.args.text.now) c.args.text.now shown run.answer run.log.items c.args.log.now c.len.result c.write_over.new.room
-    (vouches_until_broken shown c.args.text.now) c.run_text-ended.ensures
-    (search rules) (c.write_over.ensures ∙ ap (written_over c.args.log.now) c.deref.ensures.value)
-
-pub returns-clause-vouches_by_ports : goal.returns-clause-vouches_by_ports
-returns-clause-vouches_by_ports c =
-    let run = c.run_text-ended.result in
-    let shown = shown_of c.args.all c.args.ports in
-    fact_left (VouchesByPorts c.args.text.now) c.args.text.now shown run.answer run.log.items c.args.log.now c.len.result c.write_over.new.room
-    (vouches_by_ports shown c.args.text.now) c.run_text-ended.ensures
-    (search rules) (c.write_over.ensures ∙ ap (written_over c.args.log.now) c.deref.ensures.value)
-
-pub returns-clause-truth : goal.returns-clause-truth
-returns-clause-truth c =
-    let run = c.run_text-ended.result in
-    let shown = shown_of c.args.all c.args.ports in
-    fact_left (TellsTruth c.args.text.now) c.args.text.now shown run.answer run.log.items c.args.log.now c.len.result c.write_over.new.room
-    (tells_truth shown c.args.text.now) c.run_text-ended.ensures
-    (search rules) (c.write_over.ensures ∙ ap (written_over c.args.log.now) c.deref.ensures.value)
+    fact_left c.args.text.now shown run.answer run.log.items c.run_text-ended.ensures c.args.log.now c.len.result c.write_over.new.room (search rules) (c.write_over.ensures ∙ ap (written_over c.args.log.now) c.deref.ensures.value)
+    (VouchesForItself c.args.text.now) (vouches_for_itself shown c.args.text.now)
 
 pub returns-clause-vouches_by_plant_line : goal.returns-clause-vouches_by_plant_line
 returns-clause-vouches_by_plant_line c =
     let run = c.run_text-ended.result in
     let shown = shown_of c.args.all c.args.ports in
-    fact_left (VouchesByPlantLine c.args.text.now) c.args.text.now shown run.answer run.log.items c.args.log.now c.len.result c.write_over.new.room
-    (vouches_by_plant_line shown c.args.text.now) c.run_text-ended.ensures
-    (search rules) (c.write_over.ensures ∙ ap (written_over c.args.log.now) c.deref.ensures.value)
+    fact_left c.args.text.now shown run.answer run.log.items c.run_text-ended.ensures c.args.log.now c.len.result c.write_over.new.room (search rules) (c.write_over.ensures ∙ ap (written_over c.args.log.now) c.deref.ensures.value)
+    (VouchesByPlantLine c.args.text.now) (vouches_by_plant_line shown c.args.text.now)
+
+pub returns-clause-vouches_until_broken : goal.returns-clause-vouches_until_broken
+returns-clause-vouches_until_broken c =
+    let run = c.run_text-ended.result in
+    let shown = shown_of c.args.all c.args.ports in
+    fact_left c.args.text.now shown run.answer run.log.items c.run_text-ended.ensures c.args.log.now c.len.result c.write_over.new.room (search rules) (c.write_over.ensures ∙ ap (written_over c.args.log.now) c.deref.ensures.value)
+    (VouchesUntilBroken c.args.text.now) (vouches_until_broken shown c.args.text.now)
+
+pub returns-clause-vouches_by_ports : goal.returns-clause-vouches_by_ports
+returns-clause-vouches_by_ports c =
+    let run = c.run_text-ended.result in
+    let shown = shown_of c.args.all c.args.ports in
+    fact_left c.args.text.now shown run.answer run.log.items c.run_text-ended.ensures c.args.log.now c.len.result c.write_over.new.room (search rules) (c.write_over.ensures ∙ ap (written_over c.args.log.now) c.deref.ensures.value)
+    (VouchesByPorts c.args.text.now) (vouches_by_ports shown c.args.text.now)
+
+pub returns-clause-truth : goal.returns-clause-truth
+returns-clause-truth c =
+    let run = c.run_text-ended.result in
+    let shown = shown_of c.args.all c.args.ports in
+    fact_left c.args.text.now shown run.answer run.log.items c.run_text-ended.ensures c.args.log.now c.len.result c.write_over.new.room (search rules) (c.write_over.ensures ∙ ap (written_over c.args.log.now) c.deref.ensures.value)
+    (TellsTruth c.args.text.now) (tells_truth shown c.args.text.now)
+
+pub returns-clause-vouches_for_devices : goal.returns-clause-vouches_for_devices
+returns-clause-vouches_for_devices c =
+    let run = c.run_text-ended.result in
+    let shown = shown_of c.args.all c.args.ports in
+    devices_left c.args.text.now shown run.answer run.log.items c.run_text-ended.ensures c.args.log.now c.len.result c.write_over.new.room (search rules) (c.write_over.ensures ∙ ap (written_over c.args.log.now) c.deref.ensures.value)

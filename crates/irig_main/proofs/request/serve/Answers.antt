@@ -1,6 +1,5 @@
 use Rattle.std.proofs.Common.{◌≡◌, Result, Ok, Err, inl, inr, subst}
 use Rattle.std.specs.Prelude.{◌⊎◌}
-use Rattle.irig_scene.specs.declared.outcome.Outcome.{Outcome}
 use Rattle.report_run.specs.declared.fault.SceneFault.{SceneFault}
 use Rattle.report_run.specs.declared.fault.SceneFault.TheVariants.{Refused, Read, Write, Memory}
 use Rattle.irig_main.specs.declared.fault.Fault.TheVariants.{BadTime, BadFrameText}
@@ -11,7 +10,7 @@ use Rattle.irig_main.proofs.request.serve.Goals as goal
 abbrev NamesNothing : Answer → Type 0
 NamesNothing answer = (answer ≡ Err BadTime) ⊎ (answer ≡ Err BadFrameText)
 
-not_of_run : (run : Result Outcome SceneFault) → ¬ NamesNothing (result_of run)
+not_of_run : (run : Result (Unit {0}) SceneFault) → ¬ NamesNothing (result_of run)
 not_of_run (Ok outcome) h = elim h [ inl e ↦ absurd cc | inr e ↦ absurd cc ]
 not_of_run (Err (Refused line refusal)) h = elim h [ inl e ↦ absurd cc | inr e ↦ absurd cc ]
 not_of_run (Err Read) h = elim h [ inl e ↦ absurd cc | inr e ↦ absurd cc ]
