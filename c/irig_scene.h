@@ -46,10 +46,13 @@ enum {
     IRIG_RUN_NO_MEMORY = 6 /* no memory for the run */
 };
 
-/* Runs a scenario of `count` bytes, with `all` the silent edges too, and writes as much of its log
- * to `log` as `room` bytes hold, with no 0 behind it; the bytes of `log` after that stay as they
- * were. `*whole` is how many bytes the log has. If that is more than `room`, nothing is lost but
- * time: call again with so many bytes. A `room` of 0 only asks how many they are.
+/* Runs a scenario of `count` bytes, and writes as much of its log to `log` as `room` bytes hold, with
+ * no 0 behind it; the bytes of `log` after that stay as they were. `*whole` is how many bytes the log
+ * has. If that is more than `room`, nothing is lost but time: call again with so many bytes. A `room`
+ * of 0 only asks how many they are.
+ *
+ * The plant may have readers or devices. With `all` the log has the silent edges of readers too, or
+ * all seconds that devices told, announced or not.
  *
  * After IRIG_RUN_NO_LOG and IRIG_RUN_NO_MEMORY `*whole` is how many bytes there were until then,
  * and these are the first of the log. A run holds its log in memory of its own too, up to three
@@ -81,9 +84,10 @@ IRIG_ASSERT((sizeof(irig_refusal) == 88u) && (offsetof(irig_refusal, whole) == 8
             (offsetof(irig_refusal, number) == 80u));
 
 /* The same run; with `ports` the log has after each tick what its ports told, as with `irig run
- * --ports`. If a line is refused, `refusal` says which and as what, and as much of the reason is
- * written to `reason` as `reason_room` bytes hold, with no 0 behind it: one line of text, without a
- * newline, as the program writes it to standard error. */
+ * --ports`; that of devices has no such lines. If a line is refused, `refusal` says which and as what,
+ * and as much of the reason is written to `reason` as `reason_room` bytes hold, with no 0 behind it:
+ * one line of text, without a newline, as the program writes it to standard error. Of a plant of
+ * devices the reason is what the refusal means, and the spans are empty. */
 uint8_t irig_run_shown(const uint8_t *text, size_t count, bool all, bool ports, uint8_t *log,
                        size_t room, size_t *whole, uint8_t *reason, size_t reason_room,
                        irig_refusal *refusal);
@@ -127,11 +131,12 @@ typedef struct irig_verdict {
 IRIG_ASSERT((sizeof(irig_verdict) == 16u) && (offsetof(irig_verdict, kind) == 8u) &&
             (offsetof(irig_verdict, reader) == 9u));
 
-/* The same run, whose log is written as numbers, silent edges too: as many of its entries as `room`
- * holds; those of `entries` after that stay as they were. `*whole` is how many entries the log has.
- * If that is more than `room`, call again with so many. `verdict`, `refusal` and `reason` are always
- * written. After IRIG_RUN_NO_LOG (here: no memory for the text of a refusal) and IRIG_RUN_NO_MEMORY
- * `*whole` is 0, and no entry is written. */
+/* The same run, whose log is written as numbers, silent edges too. A plant of devices is refused here
+ * and by the calls below, by number 27. As many of the entries are written as `room` holds; those
+ * of `entries` after that stay as they were. `*whole` is how many entries the log has. If that is more
+ * than `room`, call again with so many. `verdict`, `refusal` and `reason` are always written. After
+ * IRIG_RUN_NO_LOG (here: no memory for the text of a refusal) and IRIG_RUN_NO_MEMORY `*whole` is 0,
+ * and no entry is written. */
 uint8_t irig_run_entries(const uint8_t *text, size_t count, irig_entry *entries, size_t room,
                          size_t *whole, irig_verdict *verdict, uint8_t *reason,
                          size_t reason_room, irig_refusal *refusal);

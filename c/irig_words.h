@@ -28,7 +28,7 @@ static const words faults[] = {
     {"Changes", "a change inside a minute, or not later than the one before"},
     {"Parity", "the ones at elements 1 to 75 have the wrong parity"},
     {"Sbs", "the straight binary seconds are not those of the coded time"},
-    {"NoSuchReader", "no reader has this name"},
+    {"NoSuchReader", "no reader or device has this name"},
     {"NoSuchGenerator", "there is no generator g"},
     {"FutureReplay", "a replay of an edge that generator g has not reached"},
     {"EndOfYears", "a second after 2099-12-30"},
@@ -40,7 +40,7 @@ static const words faults[] = {
      "a value out of its range or none of those that it may have, a null pointer, no such "
      "port, or a reader or timekeeper whose numbers something else has changed"},
     {"Version", "a version that this program does not know"},
-    {"Names", "no reader or more than 16, a name of another form, or a name twice"},
+    {"Names", "no reader or device, or more than 16, a name of another form, or a name twice"},
     {"NoPlant", "the input ended before a plant line"},
     {"TooManyLines", "more than 1,000,000 lines"},
     {"TableEnd", "a table goes beyond 2099-12-30"},

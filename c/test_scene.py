@@ -16,8 +16,9 @@ from pathlib import Path
 ROOT = Path(__file__).resolve().parent.parent
 sys.path[:0] = [str(ROOT / "tests"), str(ROOT / "python")]
 
-from case_files import answer, scenarios  # noqa: E402
-from model import meaning  # noqa: E402
+from case_files import Case, all_cases, answer, has_devices, scenarios  # noqa: E402
+from model.lines import lines as lines_of  # noqa: E402
+from model.meaning import Plant  # noqa: E402
 from model.times import Timeline, is_month_end, second_at  # noqa: E402
 import irig  # noqa: E402
 from irig import _library, scenes  # noqa: E402
@@ -27,6 +28,7 @@ from irig.words import CAUSES, LOCKS, MARKS  # noqa: E402
 
 LIBRARY, PROGRAM = ctypes.CDLL(sys.argv[1]), sys.argv[2]
 DONE, BAD, NULL, REFUSED = 0, 1, 2, 3
+VERSION = 27  # the refusal of devices by the calls that are of readers
 UNTOUCHED = b"\xa5"
 RULES = ("even", "odd"), ("add", "subtract"), ("check", "ignore")  # by their numbers
 TIMES = "2016-12-31T23:59:59Z", "2024-07-01T12:00:00Z"
@@ -73,6 +75,14 @@ class Room:
         return all(map(_library.same, held, wanted)) and rest == UNTOUCHED * len(rest)
 
 
+def with_devices() -> Iterator[tuple[Case, bytes]]:
+    """The runs of cases and examples whose plant has devices, with their scenarios."""
+    for case in all_cases():
+        text = (ROOT / case.scenario).read_bytes() if case.scenario and case.words[0] == b"run" else b""
+        if has_devices(text):
+            yield case, text
+
+
 def rooms(size: int) -> Iterator[Room]:
     return map(Room, {0, 1, size // 2, max(size - 1, 0), size, size + 50})
 
@@ -86,7 +96,8 @@ def called(name: str, *words: object) -> int:
 class Runs(unittest.TestCase):
     def test_logs(self) -> None:
         """Of all cases and examples."""
-        for (name, text), (has_all, has_ports) in product(scenarios().items(), product((False, True), repeat=2)):
+        texts = {**scenarios(), **{case.name: text for case, text in with_devices()}}
+        for (name, text), (has_all, has_ports) in product(texts.items(), product((False, True), repeat=2)):
             words = ["--all"] * has_all + ["--ports"] * has_ports
             status, log, told = printed("run", "-", *words, given=text)
             refused = re.match(r"line (\d+): (\d+) \w+: (.*)", told) or ["", "0", "0", ""]
@@ -111,6 +122,37 @@ class Runs(unittest.TestCase):
             self.assertTrue(part.start <= part.end <= len(reason))
 
 
+class Devices(unittest.TestCase):
+    """Plants of devices."""
+
+    def test_logs(self) -> None:
+        """What the cases and examples expect of the program."""
+        count = 0
+        for case, text in with_devices():
+            count += 1
+            shows, room = (c_bool(word in case.words) for word in (b"--all", b"--ports")), Room(len(case.stdout))
+            reason, refusal = Room(500), Refusal()
+            status = called("run_shown", text, c_size_t(len(text)), *shows, *room.words, *reason.words[:2],
+                            ctypes.byref(refusal))
+            with self.subTest(case.name):
+                self.assertEqual((status, room.whole.value), (case.status, len(case.stdout)))
+                self.assertTrue(room.has(case.stdout))
+                last = f"refused: line {refusal.line}: {refusal.number} "
+                self.assertEqual(case.stdout.splitlines()[-1].startswith(last.encode()), status == REFUSED)
+                self.assertEqual(refusal.whole > 0, status == REFUSED)
+        self.assertGreater(count, 150)
+
+    def test_calls_of_readers(self) -> None:
+        """They refuse the plant, and have nothing of it."""
+        for case, text in with_devices():
+            for name, kind in (("run_entries", Entry), ("run_stretches", Stretch), ("run_lanes", Lane)):
+                ran = scenes.played(typed(name), kind, text)
+                with self.subTest(case.name, call=name):
+                    self.assertEqual((ran.status, ran.whole, ran.verdict.kind), (REFUSED, 0, 0))
+                    is_json = not case.stdout.startswith(b"refused: line 1: 24 ")
+                    self.assertEqual(ran.refusal.number, VERSION if is_json else 24)
+
+
 def log_of(source: Callable[..., irig.Log], *words: object) -> tuple[irig.Log, object]:
     """The log, and of a scenario that was refused, where and as what."""
     try:
@@ -122,8 +164,8 @@ def log_of(source: Callable[..., irig.Log], *words: object) -> tuple[irig.Log, o
 def asked_in(text: bytes) -> Iterator[tuple[int, int]]:
     """For each tick of a scenario the line that asks for it, and its reader's place."""
     names: list[str] = []
-    for number, said in meaning.lines(text):
-        if isinstance(said, meaning.Plant):
+    for number, said in lines_of(text):
+        if isinstance(said, Plant):
             names = list(said.readers)
         elif said["do"] == "tick":
             yield number, names.index(said["r"])
@@ -205,7 +247,7 @@ Numbers = tuple[int, ...]  # of a lane: its reader, kind, port, state and cause,
 class Told:
     """What a log with silences and ports says, with the true seconds of tests/model, as lanes."""
 
-    def __init__(self, log: Sequence[str], plant: meaning.Plant) -> None:
+    def __init__(self, log: Sequence[str], plant: Plant) -> None:
         self.names, self.timeline = list(plant.readers), plant.timeline
         self.ticks: dict[tuple[int, int], int] = {}  # by reader and edge its place in the log
         self.tracks: dict[Numbers, list[Numbers]] = {}  # by reader, kind and port what was at each edge
@@ -272,7 +314,7 @@ class Lanes(unittest.TestCase):
         for name, text in scenarios().items():
             status, log, _ = printed("run", "-", "--all", "--ports", given=text)
             answer, whole, lanes, verdict, refusal = self.ran(text, 5000)
-            plant = next((said for _, said in meaning.lines(text) if isinstance(said, meaning.Plant)), None)
+            plant = next((said for _, said in lines_of(text) if isinstance(said, Plant)), None)
             wanted = Told(log.decode().splitlines()[:-1], plant).lanes() if plant else []
             found = [(one.reader, one.kind, one.port, one.state, one.cause, one.first_edge, one.last_edge)
                      for one in lanes]

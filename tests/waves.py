@@ -1,14 +1,18 @@
-"""The waves of a scenario, as tests/model plays it: what comes to the lines of its first reader. Tests
-compare with them what the tools make, and what a log says, so they owe nothing to the program.
+"""The waves of a scenario, as tests/model plays it: what comes to the lines of its first reader, or of
+one of its devices. Tests compare with them what the tools make, and what a log says, so they owe nothing
+to the program.
 
-Each second has its pulses at 10 ms from its edge on, and the first edge comes after 50 ms. A restart is
-no matter of wires, and left out."""
+To a reader each second has its pulses at 10 ms from its edge on. The first edge comes after 50 ms. A
+restart is no matter of wires, and left out."""
 from __future__ import annotations
 
 from collections.abc import Iterable, Iterator, Sequence
 
-from model.meaning import Event, lines
+from model.lines import lines
+from model.meaning import Event
 from model.scenario import World, delivered, happen, second_of_events, world_of
+from model.station import Station
+from model.wires import Pulse
 
 WIDTHS = {"0": 2000, "1": 5000, "P": 8000}
 ELEMENT_US, SECOND_US = 10_000, 1_000_000
@@ -73,3 +77,30 @@ def pulled(changes: Iterable[Change], line: int, begin: int, end: int) -> Iterat
             if is_out:
                 continue
         yield time, of, to
+
+
+def pulses_of_device(text: str, device: str) -> tuple[list[list[Pulse]], int]:
+    """The pulses that rise on each line of a device, from edge 0 on, and how long the scenario takes."""
+    plan, *events = (meaning for _, meaning in lines(text.encode()))
+    station = Station(plan, "")
+    pulses = station.keep_pulses(device)
+    for event in events:
+        list(station.lines_of(event))
+    return pulses, station.now
+
+
+def changes_of_pulses(pulses: Sequence[Sequence[Pulse]], end: int) -> list[Change]:
+    """The changes of lines with these pulses, up to a time of the wave. Pulses that touch are one, and those
+    without width are none."""
+    changes = []
+    for line, on_line in enumerate(pulses):
+        high: list[list[int]] = []
+        for rise, fall in on_line:
+            if high and high[-1][1] == rise:
+                high[-1][1] = fall
+            else:
+                high.append([rise, fall])
+        for rise, fall in high:
+            if rise < fall:
+                changes += [(FIRST_EDGE_US + rise, line, 1), (FIRST_EDGE_US + fall, line, 0)]
+    return sorted(change for change in changes if change[0] < end)

@@ -21,7 +21,7 @@ sys.path.insert(0, str(WEB.parent / "tools/tests"))
 
 import browser  # noqa: E402
 from loading import ROOT, loaded  # noqa: E402
-from case_files import NOTHING, all_cases  # noqa: E402
+from case_files import NOTHING, all_cases, has_devices  # noqa: E402
 from parts.log_lanes import drawn  # noqa: E402
 
 BY_CHANCE, FRAMES = 3000, 400
@@ -84,15 +84,16 @@ def told_scenario(program: Path, request: dict) -> list:
 
 
 def files() -> Iterator[tuple[bytes, bool]]:
-    """The scenario of each case that is a run, and of each example; and whether no line is refused, of which
-    a part may have been run."""
+    """The scenario of each case that is a run, and of each example, if it has no devices; and whether no line
+    is refused, of which a part may have been run."""
     for case in all_cases():
         words = [word for word in case.texts() if word not in ("--all", "--ports")]
         path = case.input if words in FROM_INPUT else NOTHING
         if case.scenario and words == ["run", case.scenario]:
             path = case.scenario
-        if path != NOTHING:
-            yield (ROOT / path).read_bytes(), case.status == 0
+        text = (ROOT / path).read_bytes() if path != NOTHING else b""
+        if path != NOTHING and not has_devices(text):
+            yield text, case.status == 0
 
 
 def by_chance() -> Iterator[bytes]:

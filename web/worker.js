@@ -84,8 +84,8 @@ function run_of(asked, written, room, on_growth = () => {}) {
 // The text of the log of so many entries, and how the run that wrote it ended.
 function log_of(asked, count) {
   const room = SPARE + count * (LINE_ROOM + (asked.shown.ports ? MOST_PORTS * WORD_ROOM : 0));
-  const { status, count: size, items, view } = run_of(asked, text_with(asked.shown), room);
-  return { status, log: new Uint8Array(view.buffer, items, size).slice() };
+  const { status, refusal, count: size, items, view } = run_of(asked, text_with(asked.shown), room);
+  return { status, refusal, log: new Uint8Array(view.buffer, items, size).slice() };
 }
 
 const text_of_line = (log, starts, line) => new TextDecoder().decode(log.subarray(starts[line], starts[line + 1] - 1));
@@ -251,7 +251,9 @@ function told_of(asked, tell) {
   const said = has_ended(ended) ? log_of(asked, count) : { status: ended.status, log: new Uint8Array(0) };
   const starts = starts_of(said.log), is_whole = has_ended(said);
   const verdict = is_whole ? text_of_line(said.log, starts, starts.length - 2) : null;
-  return { kind: "done", ...ended, ...said, starts, verdict, spent, ...(is_whole ? drawing : NOTHING_DRAWN) };
+  const { refusal } = is_whole ? said : ended; // devices are refused in numbers alone
+  const told = { ...ended, ...said, refusal, starts, verdict, spent };
+  return { kind: "done", ...told, ...(is_whole ? drawing : NOTHING_DRAWN) };
 }
 
 function buffers_of(part) { // of all arrays of numbers in it, which go over without a copy

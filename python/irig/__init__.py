@@ -28,8 +28,8 @@ from .frames import (
 from .lanes import Lane
 from .lines import Sync
 from .logs import (
-    Announced, Entry, Log, Ports, PortWord, PremiseBroken, PremisesKept, Refused, Silent,
-    TableBroken, Verdict, read_log,
+    Announced, DeviceBroken, DeviceTableBroken, DriftBroken, Entry, Log, Ports, PortWord, PremiseBroken,
+    PremisesKept, Refused, Silent, Stamped, TableBroken, ToldSecond, Verdict, read_log,
 )
 from .readers import Faulty, Poor, Reader, Report, Silence, Told, Zone, read
 from .scenes import run
@@ -40,10 +40,10 @@ from .timekeepers import Beat, Line, Pace, Rate, Stamp, Timekeeper, quality_of
 __version__ = "3.0.0"
 
 __all__ = [
-    "Announced", "Beat", "Claim", "Coded", "Control", "Entry", "Fault", "Faulty", "Lane", "Leap", "Line", "Log",
-    "Pace", "Poor", "PortWord", "Ports", "PremiseBroken", "PremisesKept", "Rate", "Reader", "Refused", "Report",
-    "Second", "Silence", "Silent", "Stamp", "Stretch", "Sync", "TableBroken", "Timekeeper",
-    "Told", "Verdict", "Zone", "claim", "classify", "coded", "decode", "encode", "frame",
-    "has_parity", "logs", "quality_of", "read", "read_log", "run", "scenarios", "symbols",
-    "widths", "with_parity",
+    "Announced", "Beat", "Claim", "Coded", "Control", "DeviceBroken", "DeviceTableBroken", "DriftBroken", "Entry",
+    "Fault", "Faulty", "Lane", "Leap", "Line", "Log", "Pace", "Poor", "PortWord", "Ports", "PremiseBroken",
+    "PremisesKept", "Rate", "Reader", "Refused", "Report", "Second", "Silence", "Silent", "Stamp", "Stamped",
+    "Stretch", "Sync", "TableBroken", "Timekeeper", "Told", "ToldSecond", "Verdict", "Zone", "claim", "classify",
+    "coded", "decode", "encode", "frame", "has_parity", "logs", "quality_of", "read", "read_log", "run",
+    "scenarios", "symbols", "widths", "with_parity",
 ]

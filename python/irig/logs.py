@@ -13,7 +13,9 @@ from typing import Union, cast, overload
 
 from . import _library as c
 from .faults import MEANINGS, Detail, detail_of
+from .scenarios import has_devices
 from .seconds import Second
+from .timekeepers import Stamp
 from .words import CAUSES, MARKS, Cause, Lock, Mark, PortKind
 
 if TYPE_CHECKING:
@@ -170,13 +172,60 @@ class Ports(InLog):
         return Second(held.truth.at.day, held.truth.at.sod) if held and held.has_truth else None
 
 
-Entry = Union[Announced, Silent, Ports]
-ENTRIES = Announced, Silent, Ports
+@dataclass(frozen=True, repr=False)
+class ToldSecond(InLog):
+    """A device told that a second begins.
+
+    edge: the true edge, counted from 1, to which the told one lies nearest by the device's counter
+    device: its name
+    second: the second that was announced; None if none was, and a log with `all` has these
+    lock: "locked", "holdover", "unlocked" or "acquiring"; of the second and the last `count` is as with
+        `Announced` and `Silent`
+    cause: as there
+    off_us: how far the told edge lies behind that true edge, by the counter; below 0 before it
+    bound_us: how far it may lie off; None if no second was announced
+    """
+
+    edge: int
+    device: str
+    second: Optional[Second]
+    lock: Lock
+    count: int
+    cause: Cause
+    off_us: int
+    bound_us: Optional[int]
+    _lines: Union[Lines, str] = field(default="", compare=False)
+    _place: int = field(default=0, compare=False)
+
+
+@dataclass(frozen=True, repr=False)
+class Stamped(InLog):
+    """A device was asked when an event was.
+
+    instant_us: when it was, in true time since edge 0
+    device: its name
+    stamp: what the device answered; None if it gave none
+    """
+
+    instant_us: int
+    device: str
+    stamp: Optional[Stamp]
+    _lines: Union[Lines, str] = field(default="", compare=False)
+    _place: int = field(default=0, compare=False)
+
+
+OfReader = Union[Announced, Silent, Ports]
+OfDevice = Union[ToldSecond, Stamped]
+Entry = Union[OfReader, OfDevice]
+OF_READERS = Announced, Silent, Ports
+OF_DEVICES = ToldSecond, Stamped
+ENTRIES = *OF_READERS, *OF_DEVICES
 
 
 @dataclass(frozen=True)
 class PremisesKept:
-    """Each second in the log is the true one."""
+    """Each second in the log is the true one; of devices each told edge lies within its bound too, and each stamp
+    names its instant."""
 
     kept = True
 
@@ -208,6 +257,40 @@ class TableBroken:
 
 
 @dataclass(frozen=True)
+class DeviceBroken:
+    """In the second of this edge a device broke what the audit asks, the first to do so (docs/OUTPUT.md)."""
+
+    edge: int
+    device: str
+    kept = False
+
+    def __str__(self) -> str:
+        return f"premises broken: edge {self.edge} device {self.device}"
+
+
+@dataclass(frozen=True)
+class DeviceTableBroken:
+    """This device's leap table is not true."""
+
+    device: str
+    kept = False
+
+    def __str__(self) -> str:
+        return f"premises broken: table of device {self.device}"
+
+
+@dataclass(frozen=True)
+class DriftBroken:
+    """This device's counter gains or loses more than its `drift` says."""
+
+    device: str
+    kept = False
+
+    def __str__(self) -> str:
+        return f"premises broken: drift of device {self.device}"
+
+
+@dataclass(frozen=True)
 class RefusedLine:
     """A line of the scenario was refused, `number` and `name` say why (docs/FAULTS.md)."""
 
@@ -220,23 +303,26 @@ class RefusedLine:
         return f"refused: line {self.line}: {self.number} {self.name}"
 
 
-Verdict = Union[PremisesKept, PremiseBroken, TableBroken]
+Verdict = Union[PremisesKept, PremiseBroken, TableBroken, DeviceBroken, DeviceTableBroken, DriftBroken]
+DEVICE_VERDICTS = DeviceBroken, DeviceTableBroken, DriftBroken
 LastLine = Union[Verdict, RefusedLine]
 
 
 # ---- reading lines
 
 NAME = r"[a-z0-9_-]{1,16}"
-ENTRY = re.compile(
-    rf"(\d{{1,20}}) ({NAME}) (\S+) (locked|unlocked|(?:holdover|acquiring):\d+) ({'|'.join(CAUSES)})",
-    re.ASCII,
-)
+SAID = rf"(\d{{1,20}}) ({NAME}) (\S+) (locked|unlocked|(?:holdover|acquiring):\d+) ({'|'.join(CAUSES)})"
+ENTRY = re.compile(SAID, re.ASCII)
+TOLD = re.compile(rf"{SAID} ([+-]\d{{1,20}}) (\d{{1,20}}|-)", re.ASCII)
+STAMPED = re.compile(rf"@(\d{{1,20}})\.(\d{{6}}) ({NAME}) (?:- - -|(\S+) (\d{{1,20}}) (\d{{1,20}}))", re.ASCII)
 PORTS = re.compile(rf" (\d{{1,20}}) ({NAME})((?: \S+){{1,5}})", re.ASCII)
 FAULT = re.compile(r"fault:(\d+):(\w+)(?::(\w+))?", re.ASCII)
 POOR = re.compile(r"poor:(1[0-5])", re.ASCII)
 REFUSAL = re.compile(r"refused: line (\d+): (\d+) (\w+)", re.ASCII)
 BROKEN = re.compile(rf"premises broken: edge (\d+) reader ({NAME})", re.ASCII)
 BROKEN_TABLE = re.compile(rf"premises broken: table of reader ({NAME})", re.ASCII)
+BROKEN_DEVICE = re.compile(rf"premises broken: edge (\d+) device ({NAME})", re.ASCII)
+BROKEN_DRIFT = re.compile(rf"premises broken: (table|drift) of device ({NAME})", re.ASCII)
 UNTRUE = ("another second", "another mark")
 
 
@@ -258,6 +344,10 @@ class Reading:
         self.is_ended = False
         self._edges: Dict[str, int] = {}  # the last edge of each reader
         self._told: Dict[str, Tuple[int, int]] = {}  # the last edge of its ports, and how many
+        self._forms: Tuple[Tuple[re.Pattern[str], Callable[[str, re.Match[str]], Entry]], ...] = (
+            (ENTRY, self._entry), (PORTS, self._ports), (TOLD, self._told_second), (STAMPED, self._stamped),
+        )
+        self._plant = ""  # what the lines so far are of: "readers", "devices", or nothing that says it
 
     def take(self, line: str) -> Union[Entry, LastLine, None]:
         """What the next line says; None if it is empty."""
@@ -267,19 +357,25 @@ class Reading:
             return None
         if self.is_ended:
             raise ValueError(f"line {self.number} stands below the last line of a log")
-        found = ENTRY.fullmatch(line)
-        if found:
-            return self._entry(line, found)
-        ports = PORTS.fullmatch(line)
-        if ports:
-            return self._ports(line, ports)
+        for form, take in self._forms:
+            found = form.fullmatch(line)
+            if found:
+                return take(line, found)
         last = last_line(line)
         if last is None:
             raise self._no_line(line)
+        if not isinstance(last, (PremisesKept, RefusedLine)):
+            self._is_of("devices" if isinstance(last, DEVICE_VERDICTS) else "readers")
         self.is_ended = True
         return last
 
+    def _is_of(self, plant: str) -> None:
+        if self._plant not in ("", plant):
+            raise ValueError(f"line {self.number} is of {plant}, in a log of {self._plant}")
+        self._plant = plant
+
     def _entry(self, line: str, found: re.Match[str]) -> Entry:
+        self._is_of("readers")
         edge, reader, time = int(found[1]), found[2], found[3]
         self._follow(reader, edge, self._edges.get(reader, 0))
         self._edges[reader] = edge
@@ -287,12 +383,31 @@ class Reading:
         stood = cast(Lock, word), int(count or 0), cast(Cause, found[5])
         if time == "-":
             return Silent(edge, reader, *stood, line)
+        return Announced(edge, reader, self._second(line, time), *stood, line)
+
+    def _told_second(self, line: str, found: re.Match[str]) -> Entry:
+        self._is_of("devices")
+        word, _, count = found[4].partition(":")
+        stood = cast(Lock, word), int(count or 0), cast(Cause, found[5]), int(found[6])
+        if (found[3] == "-") != (found[7] == "-"):
+            raise self._no_line(line)
+        if found[3] == "-":
+            return ToldSecond(int(found[1]), found[2], None, *stood, None, line)
+        return ToldSecond(int(found[1]), found[2], self._second(line, found[3]), *stood, int(found[7]), line)
+
+    def _stamped(self, line: str, found: re.Match[str]) -> Entry:
+        self._is_of("devices")
+        stamp = Stamp(self._second(line, found[4]), int(found[5]), int(found[6])) if found[4] else None
+        return Stamped(1_000_000 * int(found[1]) + int(found[2]), found[3], stamp, line)
+
+    def _second(self, line: str, time: str) -> Second:
         try:
-            return Announced(edge, reader, Second.read(time), *stood, line)
+            return Second.read(time)
         except ValueError:
             raise self._no_line(line) from None
 
     def _ports(self, line: str, found: re.Match[str]) -> Ports:
+        self._is_of("readers")
         edge, reader, words = int(found[1]), found[2], tuple(found[3].split())
         try:
             for word in words:
@@ -376,6 +491,12 @@ def last_line(line: str) -> Optional[LastLine]:
     table = BROKEN_TABLE.fullmatch(line)
     if table:
         return TableBroken(table[1])
+    device = BROKEN_DEVICE.fullmatch(line)
+    if device:
+        return DeviceBroken(int(device[1]), device[2])
+    setup = BROKEN_DRIFT.fullmatch(line)
+    if setup:
+        return DeviceTableBroken(setup[2]) if setup[1] == "table" else DriftBroken(setup[2])
     refusal = REFUSAL.fullmatch(line)
     if not refusal or not _has_meaning(int(refusal[2]), refusal[3]):
         return None
@@ -426,7 +547,8 @@ def ticks_of(lines: Iterable[Union[Entry, LastLine]]) -> Iterator[Tick]:
 class Log(Sequence[Entry]):
     """The log of a scenario.
 
-    entries: its lines but the last, in order: `Announced`, `Silent` and `Ports`
+    entries: its lines but the last, in order: `Announced`, `Silent` and `Ports`; of devices `ToldSecond` and
+        `Stamped`
     verdict: what its last line says; None of a run that was refused
     scenario: the scenario's bytes, if they are known
     """
@@ -438,7 +560,7 @@ class Log(Sequence[Entry]):
 
     @property
     def kept(self) -> bool:
-        """Whether it ends in `premises kept`: each second in it is then the true one."""
+        """Whether it ends in `premises kept`: what `PremisesKept` says is then so."""
         return self.verdict is not None and self.verdict.kept
 
     @cached_property
@@ -457,33 +579,45 @@ class Log(Sequence[Entry]):
     @property
     def readers(self) -> Tuple[str, ...]:
         """The names of its readers, in the order in which they come."""
-        return tuple(dict.fromkeys(entry.reader for entry in self.entries))
+        return tuple(dict.fromkeys(entry.reader for entry in self.entries if isinstance(entry, OF_READERS)))
+
+    @property
+    def devices(self) -> Tuple[str, ...]:
+        """The names of its devices, in the order in which they come."""
+        return tuple(dict.fromkeys(entry.device for entry in self.entries if isinstance(entry, OF_DEVICES)))
 
     def ticks(self) -> Iterator[Tick]:
-        """Its ticks, in order: the line of each, and what its ports told."""
+        """Its ticks, in order: the line of each, and what its ports told. Raises ValueError of devices."""
+        self._is_of_readers()
         return ticks_of(self.entries)
 
     def to_rows(self, by_port: bool = False) -> List[Dict[str, Any]]:
         """A table, as `pandas.DataFrame` takes it: a row a tick, with a column for each port, if it
-        has what they told; with `by_port` a row for each port of each tick."""
+        has what they told; with `by_port` a row for each port of each tick. Raises ValueError of devices."""
         rows = _port_rows if by_port else _rows
         return list(rows(self.ticks()))
 
     def blame(self) -> List[Stretch]:
         """Who lied, or told nothing, and what it cost: what `irig blame` prints of the scenario. Raises
-        ValueError if a log was read without its scenario."""
+        ValueError of devices, and if a log was read without its scenario."""
         from .stretches import stretches_of
 
         return stretches_of(self._known_scenario())
 
     def lanes(self) -> List[Lane]:
         """What a picture of the run shows: how each reader stood, what its ports told, and where leap seconds and
-        months begin. Raises ValueError if a log was read without its scenario."""
+        months begin. Raises ValueError of devices, and if a log was read without its scenario."""
         from .lanes import lanes_of
 
         return lanes_of(self._known_scenario())
 
+    def _is_of_readers(self) -> None:
+        has = self.scenario is not None and has_devices(self.scenario)
+        if has or self.devices or isinstance(self.verdict, DEVICE_VERDICTS):
+            raise ValueError("this is asked of readers, and the scenario's plant has devices")
+
     def _known_scenario(self) -> bytes:
+        self._is_of_readers()
         if self.scenario is None:
             raise ValueError("what is true is said by the scenario, which read_log takes as its second argument")
         return self.scenario

@@ -25,7 +25,7 @@ Value = Dict[str, Any]  # of a line, or of a part of one
 
 __all__ = [
     "Change", "Damage", "Generator", "Heard", "Leap", "Lost", "Raw", "Reader", "Replay", "Scenario",
-    "Table", "Timeline", "line_of", "plant_value", "readers_in",
+    "Table", "Timeline", "has_devices", "line_of", "plant_value", "readers_in",
 ]
 
 
@@ -348,12 +348,26 @@ class Scenario:
 # ---- what a scenario says
 
 
+def has_devices(scenario: Union[str, bytes]) -> bool:
+    """Whether the plant of a scenario has devices in place of readers: the version of its plant line is 4."""
+    plant = _plant_in(scenario)
+    return isinstance(plant, dict) and type(plant.get("version")) is int and plant["version"] == 4
+
+
 def readers_in(scenario: Union[str, bytes]) -> List[str]:
     """The names of the readers, by the plant line of a scenario; none if the program refuses it, as far as
     that is seen here."""
+    try:
+        return [reader["name"] for reader in _plant_in(scenario)["readers"]]
+    except (TypeError, KeyError):
+        return []
+
+
+def _plant_in(scenario: Union[str, bytes]) -> Any:
+    """The value of the first line that is not blank; None if it is no JSON."""
     text = scenario.decode(errors="replace") if isinstance(scenario, bytes) else scenario
     first = next((line for line in text.split("\n") if line.strip()), "")
     try:
-        return [reader["name"] for reader in json.loads(first)["readers"]]
-    except (ValueError, TypeError, KeyError, RecursionError):
-        return []
+        return json.loads(first)
+    except (ValueError, RecursionError):
+        return None

@@ -12,7 +12,7 @@ from typing import Any, Iterator, NamedTuple, Optional, Sequence, Union
 from . import _library as c
 from .faults import MEANINGS
 from .logs import Announced, Entry, Lines, Log, Ports, PremiseBroken, PremisesKept, Refused, Silent
-from .logs import TableBroken, Verdict
+from .logs import TableBroken, Verdict, read_log
 from .scenarios import Scenario, readers_in
 from .seconds import Second
 from .words import CAUSES, LOCKS
@@ -21,6 +21,9 @@ from .words import CAUSES, LOCKS
 ROOM = 1 << 18
 LOG_ROOM = 1 << 25
 REASON_ROOM = 1 << 12
+
+# As an unknown version a plant of devices is refused by the calls that are of readers.
+VERSION = 27
 
 ENDED = c.NUMBERS["RUN_DONE"], c.NUMBERS["RUN_REFUSED"]
 
@@ -65,34 +68,63 @@ def played(call: Any, kind: Any, text: bytes) -> _Ran:
     return ran
 
 
-def _written(text: bytes, all: bool, ports: bool, room: int) -> str:
-    """The log in the library's words: by one call of it, and another one if there was too little room."""
+class _Shown(NamedTuple):
+    """What a run writes: its log in the library's words; of a refused line the program's words and where in them
+    is what."""
+
+    log: str
+    reason: bytes
+    refusal: c.Refusal
+
+
+def _shown(text: bytes, all: bool, ports: bool, room: int, reason_room: int) -> _Shown:
+    """By one call of the library, and another one if there was too little room."""
     memory, whole = mmap.mmap(-1, room), ctypes.c_size_t()
     log = (ctypes.c_uint8 * room).from_buffer(memory)
-    status = c.run_shown(text, len(text), all, ports, log, room, whole, None, 0, c.Refusal())
+    reason, refusal = (ctypes.c_uint8 * reason_room)(), c.Refusal()
+    status = c.run_shown(text, len(text), all, ports, log, room, whole, reason, reason_room, refusal)
     if status not in ENDED:
         raise MemoryError("no memory for the log of a scenario")
-    return memory[: whole.value].decode() if whole.value <= room else _written(text, all, ports, whole.value)
+    if whole.value > room or refusal.whole > reason_room:
+        return _shown(text, all, ports, max(room, whole.value), max(reason_room, refusal.whole))
+    return _Shown(memory[: whole.value].decode(), bytes(reason[: refusal.whole]), refusal)
+
+
+def _written(text: bytes, all: bool, ports: bool, room: int) -> str:
+    """The log in the library's words."""
+    return _shown(text, all, ports, room, REASON_ROOM).log
 
 
 def run(source: Source, all: bool = False, ports: bool = False) -> Log:
-    """Runs a scenario (docs/SCENARIOS.md) and gives its log: what `irig run` prints of it.
+    """Runs a scenario (docs/SCENARIOS.md) and gives its log: what `irig run` prints of it, whether its plant has
+    readers or devices.
 
     source: a path, as a `pathlib.Path` or a str, is a file. A str that has a newline or begins with
         `{` is the scenario's text, and so are bytes, the lines of a `Scenario`, and an empty str.
-    all: tell of the silent edges too
-    ports: tell what each port told, too
+    all: tell of the silent edges too, or of all seconds that devices told
+    ports: tell what each port told, too; devices have no such lines
 
     Raises Refused if a line is refused, OSError if a file can't be read, and MemoryError if memory
     is out.
     """
     text = _text_of(source)
     ran, names = played(c.run_entries, c.Entry, text), readers_in(text)
+    if ran.refusal.number == VERSION:
+        return _of_devices(text, all)
     lines = Lines(partial(_written, text, all, ports, LOG_ROOM))
     log = Log(tuple(_entries(ran, names, lines, all, ports)), _verdict(ran.verdict, names), text, lines)
     if ran.refusal.line:
         raise _explained(ran, log)
     return log
+
+
+def _of_devices(text: bytes, all: bool) -> Log:
+    """The log of a scenario whose plant has no readers: what the library's words say."""
+    shown = _shown(text, all, False, LOG_ROOM, REASON_ROOM)
+    try:
+        return read_log(shown.log, text)
+    except Refused as refused:
+        raise _explained(shown, refused.log) from None
 
 
 def _entries(ran: _Ran, names: Sequence[str], lines: Lines, all: bool, ports: bool) -> Iterator[Entry]:
@@ -139,7 +171,7 @@ def _text_of(source: Source) -> bytes:
     return bytes(memoryview(source))
 
 
-def _explained(ran: _Ran, log: Log) -> Refused:
+def _explained(ran: Union[_Ran, _Shown], log: Log) -> Refused:
     """A refusal with the program's words, and what they say stands where."""
 
     def part(span: c.Span) -> Optional[str]:

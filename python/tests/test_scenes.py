@@ -65,8 +65,8 @@ class OfTheProgram(unittest.TestCase):
 
     def test_a_reason_without_room(self) -> None:
         with mock.patch("irig.scenes.REASON_ROOM", 1), self.assertRaises(irig.Refused) as caught:
-            irig.run('{"version":4}')
-        says = 'line 1: 27 Version: "version" is 4; 1, 2 or 3 may stand here'
+            irig.run('{"version":5}')
+        says = 'line 1: 27 Version: "version" is 5; 1, 2, 3 or 4 may stand here'
         self.assertEqual(str(caught.exception), says)
 
     def test_no_memory(self) -> None:

@@ -1,31 +1,32 @@
-"""The lines that carry a scenario to one reader, a line for each generator, and files of them.
+"""The lines that carry a scenario to one reader or device, a line for each generator, and files of
+them.
 
-`irig flatten` plays the scenario; nothing is played here. The pulses of a second rise each 10 ms
-from its edge on, since a scenario knows no other times. The first edge comes 50 ms behind the
-beginning, and the end 20 ms behind the last edge. All is written as it streams: a scenario is
-flattened twice, once to see what has to stand at the head of a file, and once for the file. Lines
-may be late, and the cable of one out for a while."""
+`irig flatten` plays a scenario of readers; nothing of it is played here. The pulses of a second rise
+each 10 ms from its edge on, since such a scenario knows no other times. What a device hears is played
+by cables.py. The first edge comes 50 ms behind the beginning, and the end 20 ms behind the last edge,
+or behind the last event of a plant of devices. All is written as it streams: a scenario is flattened
+twice, once to see what has to stand at the head of a file, and once for the file."""
 from __future__ import annotations
 
 import json
 import os
 import struct
 import subprocess
+import tempfile
 import wave
-from heapq import merge
-from itertools import groupby, tee, zip_longest
+from itertools import groupby, zip_longest
 from math import gcd
 from pathlib import Path
-from typing import BinaryIO, Dict, Iterator, List, Optional, Sequence, TextIO, Tuple
+from typing import IO, BinaryIO, Dict, Iterator, List, Optional, Sequence, TextIO, Tuple
 
+from parts.cables import ELEMENT_US, SECOND_US, Cables, DeviceScenario, Value, has_devices
 from parts.command import program
 from parts.comtrade import NO_TIME, leap_field
+from parts.oddities import MOST_PULSES, NO_TICK, NO_WIDTH, RESTARTS, RUNS_ON, TOO_MANY, Oddities
 
 from irig import Leap, Second
 
-ELEMENT_US, SECOND_US = 10_000, 1_000_000
 FIRST_EDGE_US, TAIL_US = 50_000, 20_000
-MOST_PULSES = 100  # in a second of a line
 COARSEST_US = 100  # the unit of a value change dump, if all changes allow it
 MOST_BYTES = 0xFFFFFFFF - 36  # of a sound, whose head counts them in 32 bits
 LOUD = 24_000  # of 32,767, for a sound of 16 bits
@@ -35,17 +36,11 @@ Step = Tuple[int, int]
 # A time in microseconds up to which lines stay as they are, and those that are high, a bit each.
 Span = Tuple[int, int]
 
-RESTARTS = "a restart is no matter of lines, and left out"
-TOO_MANY = f"a line has room for {MOST_PULSES} pulses in a second; further ones are left out"
-NO_WIDTH = "a pulse of 0 us is none on a line"
-RUNS_ON = "a pulse of 10 ms or more runs into the next one"
-NO_TICK = "what comes behind the last tick is left out"
-
 
 # ---- a scenario
 
 
-def flattened(scenario: BinaryIO, again: bool = False) -> Iterator[str]:
+def flattened(scenario: IO[bytes], again: bool = False) -> Iterator[str]:
     """The plant line of a file, which is read from its beginning, and then each line of `raw`, `tick`
     and `restart`. If the program refuses the scenario, it says why on the standard error, and this
     is a ValueError. What it says there it says once."""
@@ -68,65 +63,26 @@ def flattened(scenario: BinaryIO, again: bool = False) -> Iterator[str]:
         raise ValueError(f"'irig flatten' ended with status {ran.returncode}")
 
 
-class Oddities:
-    """What no line carries as the scenario has it: at how many ticks, and the first of them."""
-
-    def __init__(self) -> None:
-        self._found: Dict[str, Tuple[int, int, int]] = {}
-
-    def add(self, what: str, tick: int) -> None:
-        count, first, last = self._found.get(what, (0, tick, 0))
-        self._found[what] = count + (tick != last), first, tick
-
-    def texts(self) -> Iterator[str]:
-        for what, (count, first, _) in self._found.items():
-            more = f" and {count - 1} more" if count > 1 else ""
-            yield f"{what}: tick {first}{more}"
-
-
 class Lines:
-    """The lines to the ports of a reader, the first one if none is named. The scenario is a file that
-    can be read twice. Each line may be late by so many microseconds, and one without pulses from a
-    time on, up to another, as if its cable were out."""
+    """The lines of a plant to one that hears them, by its name."""
 
-    def __init__(
-        self, scenario: BinaryIO, reader: Optional[str], is_inverted: bool,
-        late: Sequence[int] = (), pull: Optional[Tuple[int, int, int]] = None,
-    ) -> None:
-        lines = flattened(scenario)
-        plant = json.loads(next(lines))
-        readers = [one["name"] for one in plant["readers"]]
-        if reader not in (None, *readers):
-            raise ValueError(f"it has no reader {reader!r}; it has {', '.join(readers)}")
-        self.reader: str = reader or readers[0]
+    def __init__(self, plant: Value, name: str, is_inverted: bool) -> None:
+        self.name = name
         self.start = Second.read(plant["start"])
         self.leaps = [Leap(leap["day"], leap["kind"]) for leap in plant["leaps"]]
         self.names = [f"G{number}" for number in range(len(plant["generators"]))]
-        count = len(self.names)
-        if late and len(late) != count:
-            raise ValueError(f"--late wants {count} times, one for each line")
-        if pull and pull[0] >= count:
-            raise ValueError(f"--pull names line {pull[0]}; there are 0 to {count - 1}")
-        self.oddities = Oddities()
-        self._scenario, self._late, self._pull = scenario, late, pull
+        self.oddities = Oddities("tick")
+        self.unit_us, self.length_us = COARSEST_US, 0
         self._high = (1 << len(self.names)) - 1 if is_inverted else 0  # between pulses
-        self.ticks, self.unit_us = 0, gcd(COARSEST_US, *late, *(pull or ())[1:])
-        for event in map(json.loads, lines):
-            if event["r"] == self.reader:
-                self.ticks += event["do"] == "tick"
-                self.unit_us = gcd(self.unit_us, *event.get("widths", ()))
 
     @property
     def end_us(self) -> int:
-        return FIRST_EDGE_US + self.ticks * SECOND_US + TAIL_US + max(self._late, default=0)
+        return FIRST_EDGE_US + self.length_us + TAIL_US
 
     def steps(self) -> Iterator[Step]:
         """Each time at which a line changes, from 0 on."""
         yield 0, self._high
-        steps = _delayed(self._pulses(), self._late) if self._late else self._pulses()
-        if self._pull:
-            steps = _pulled(steps, *self._pull, self.end_us)
-        for time, pulses in steps:
+        for time, pulses in self._pulses():
             yield time, pulses ^ self._high
 
     def spans(self) -> Iterator[Span]:
@@ -140,6 +96,86 @@ class Lines:
 
     def _pulses(self) -> Iterator[Step]:
         """The lines on which a pulse is, from each change on."""
+        raise NotImplementedError
+
+
+def _chosen(name: Optional[str], names: Sequence[str], kind: str) -> str:
+    """The name that is asked for, the first one if none is."""
+    if name not in (None, *names):
+        raise ValueError(f"it has no {kind} {name!r}; it has {', '.join(names)}")
+    return name or names[0]
+
+
+class DeviceLines(Lines):
+    """The lines to a device, the first one if none is named."""
+
+    def __init__(self, scenario: BinaryIO, device: Optional[str], is_inverted: bool) -> None:
+        self._scenario = DeviceScenario(scenario)
+        name = _chosen(device, self._scenario.names, "device")
+        lines = self._flattened(name)
+        super().__init__(json.loads(next(lines)), name, is_inverted)
+        for time, _ in self._played(lines):
+            self.unit_us = gcd(self.unit_us, time)
+        self.unit_us = gcd(self.unit_us, self.end_us)
+
+    def _flattened(self, name: str, again: bool = False) -> Iterator[str]:
+        """The plant line, and what a reader in the place of the device hears."""
+        with tempfile.TemporaryFile() as made:
+            made.writelines(self._scenario.of_readers(name))
+            made.flush()
+            yield from flattened(made, again)
+
+    def _pulses(self) -> Iterator[Step]:
+        lines = self._flattened(self.name, again=True)
+        next(lines)
+        yield from self._played(lines)
+
+    def _played(self, lines: Iterator[str]) -> Iterator[Step]:
+        """The steps, by the lines behind the plant line; at its end it is known how long they take."""
+        self.oddities = Oddities("edge")
+        frames, pulses = self._frames(lines), 0
+        cables = Cables(self.name, self._scenario.late(self.name), frames, self.oddities)
+        try:
+            changes = cables.changes(self._scenario.events(), TAIL_US)
+            for time, together in groupby(changes, lambda change: change[0]):
+                before = pulses
+                for _, line in together:
+                    pulses ^= 1 << line
+                if pulses != before:
+                    yield FIRST_EDGE_US + time, pulses
+        except ValueError:
+            list(frames)  # the program may refuse a line before that one
+            raise
+        list(frames)  # or one behind which no second begins
+        self.length_us = cables.now_us
+
+    def _frames(self, lines: Iterator[str]) -> Iterator[List[List[int]]]:
+        """For each second the widths that each generator sends."""
+        sent: List[List[int]] = [[] for _ in self.names]
+        for event in map(json.loads, lines):
+            if event["do"] == "tick":
+                yield sent
+                sent = [[] for _ in self.names]
+            else:
+                sent[event["g"]] = event["widths"]
+
+
+class ReaderLines(Lines):
+    """The lines to the ports of a reader, the first one if none is named. The scenario is a file that
+    can be read twice."""
+
+    def __init__(self, scenario: BinaryIO, reader: Optional[str], is_inverted: bool) -> None:
+        lines = flattened(scenario)
+        plant = json.loads(next(lines))
+        name = _chosen(reader, [one["name"] for one in plant["readers"]], "reader")
+        super().__init__(plant, name, is_inverted)
+        self._scenario = scenario
+        for event in map(json.loads, lines):
+            if event["r"] == self.name:
+                self.length_us += SECOND_US * (event["do"] == "tick")
+                self.unit_us = gcd(self.unit_us, *event.get("widths", ()))
+
+    def _pulses(self) -> Iterator[Step]:
         ends: Dict[int, int] = {}  # of the pulses that last
         for number, second in enumerate(self._seconds()):
             edge = FIRST_EDGE_US + number * SECOND_US
@@ -151,7 +187,7 @@ class Lines:
                     self.oddities.add(RUNS_ON, number + 1)
                 if before != _bits(ends):
                     yield rise, _bits(ends)
-        yield from _fallen(ends, FIRST_EDGE_US + self.ticks * SECOND_US + TAIL_US)
+        yield from _fallen(ends, self.end_us)
 
     def _seconds(self) -> Iterator[List[List[int]]]:
         """For each tick the widths of the pulses on each line since the one before."""
@@ -159,7 +195,7 @@ class Lines:
         next(lines)
         tick, heard = 1, self._silence()
         for event in map(json.loads, lines):
-            if event["r"] != self.reader:
+            if event["r"] != self.name:
                 continue
             if event["do"] == "tick":
                 yield heard
@@ -206,34 +242,10 @@ def _rise(ends: Dict[int, int], rise: int, widths: Sequence[int]) -> bool:
     return runs_on
 
 
-def _changes(steps: Iterator[Step], line: int, late: int) -> Iterator[Tuple[int, int]]:
-    """When a line that is late changes."""
-    before = 0
-    for time, pulses in steps:
-        if (pulses ^ before) >> line & 1:
-            yield time + late, line
-        before = pulses
-
-
-def _delayed(steps: Iterator[Step], late: Sequence[int]) -> Iterator[Step]:
-    copies = tee(steps, len(late))
-    changes = merge(*(_changes(copy, line, late[line]) for line, copy in enumerate(copies)))
-    pulses = 0
-    for time, together in groupby(changes, lambda change: change[0]):
-        pulses ^= _bits({line: time for _, line in together})
-        yield time, pulses
-
-
-def _pulled(steps: Iterator[Step], line: int, begin: int, end: int, last: int) -> Iterator[Step]:
-    """The same steps but that a line has no pulse from a time on, up to another."""
-    ends = [(time, None) for time in (begin, end) if time < last]
-    pulses = before = 0
-    for time, then in merge(steps, ends, key=lambda step: step[0]):
-        pulses = pulses if then is None else then
-        left = pulses & ~(1 << line) if begin <= time < end else pulses
-        if left != before:
-            yield time, left
-        before = left
+def lines_to(scenario: BinaryIO, name: Optional[str], is_inverted: bool) -> Lines:
+    """The lines to a reader or a device of a scenario, the first one if none is named."""
+    kind = DeviceLines if has_devices(scenario) else ReaderLines
+    return kind(scenario, name, is_inverted)
 
 
 # ---- files
@@ -244,7 +256,7 @@ def write_dump(out: TextIO, lines: Lines) -> None:
     each unit."""
     unit = next(unit for unit in (100, 10, 1) if lines.unit_us % unit == 0)
     codes = "abcde"[: len(lines.names)]
-    out.write(f"$comment The lines to {lines.reader}; its first edge is at 50 ms. $end\n")
+    out.write(f"$comment The lines to {lines.name}; its first edge is at 50 ms. $end\n")
     out.write(f"$timescale {unit} us $end\n$scope module irig $end\n")
     for code, name in zip(codes, lines.names):
         out.write(f"$var wire 1 {code} {name} $end\n")
@@ -299,7 +311,7 @@ def write_record(path: Path, lines: Lines, rate: int, is_text: bool) -> None:
     stamp = f"{'/'.join(reversed(day))},{clock}.{SECOND_US - FIRST_EDGE_US:06}"
     channels = [f"{number},{name},,,0" for number, name in enumerate(lines.names, 1)]
     form = "ASCII" if is_text else "BINARY"
-    rows = [f"irig,{lines.reader},2013", f"{count},0A,{count}D", *channels, "50", "1", f"{rate},{length}",
+    rows = [f"irig,{lines.name},2013", f"{count},0A,{count}D", *channels, "50", "1", f"{rate},{length}",
             stamp, stamp, form, "1", "0,0", f"0,{leap}", ""]
     path.write_bytes("\r\n".join(rows).encode())
     with open(path.with_suffix(".dat"), "wb") as file:

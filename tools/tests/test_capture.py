@@ -24,7 +24,8 @@ from unittest import mock
 from loading import ROOT, InAFolder, loaded
 
 import waves
-from case_files import all_cases
+from case_files import all_cases, has_devices, of_readers
+from case_files import examples as all_examples
 from irig._library import IRIG
 from model.times import day_of_text
 from parts.changes import END
@@ -218,19 +219,19 @@ def log_of(text: str) -> list[str]:
 
 @cache
 def scenarios() -> dict[str, str]:
-    """The scenarios of examples and cases that run to their end, by their names."""
+    """The scenarios of examples and cases that run to their end, by their names, but for those of devices."""
     found = {}
     for case in all_cases():
         path = case.scenario or case.input
         if case.status == 0 and (b"run" in case.words or not case.words) and path != "/dev/null":
             text = (ROOT / path).read_text()
-            if text.strip():
+            if text.strip() and not has_devices(text.encode()):
                 found[Path(case.name).stem] = text
     return found
 
 
 def examples() -> list[str]:
-    return sorted(path.stem for path in (ROOT / "examples").glob("*.jsonl"))
+    return [Path(case.name).stem for case in of_readers(all_examples())]
 
 
 @dataclass(frozen=True)

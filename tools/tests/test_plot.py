@@ -16,6 +16,7 @@ from pathlib import Path
 from unittest import mock
 
 from loading import ROOT, compare_pictures, loaded
+from case_files import examples, of_readers
 from parts.log_lanes import PORT_STATES, STATES, Bars, Mark, ReaderLanes, bars_of, run_of
 from parts.command import DEBIAN
 from parts.layout import Label, Scale, chosen, rows_of, ways
@@ -272,9 +273,9 @@ class Layout(unittest.TestCase):
 
 
 class Gallery(unittest.TestCase):
-    def test_each_example_is_shown(self) -> None:
+    def test_each_example_with_readers_is_shown(self) -> None:
         shown = re.findall(r"\]\(\.\./docs/gallery/(\w+)\.svg\)", (ROOT / "examples/README.md").read_text())
-        self.assertEqual(sorted(shown), sorted(path.stem for path in ROOT.glob("examples/*.jsonl")))
+        self.assertEqual(sorted(shown), [Path(case.name).stem for case in of_readers(examples())])
 
 
 class Pictures(unittest.TestCase):

@@ -30,7 +30,7 @@ from pathlib import Path
 import loading
 from loading import ROOT
 
-from parts.lines import Lines, write_dump, write_sound
+from parts.lines import Lines, ReaderLines, write_dump, write_sound
 from test_capture import (
     OTHER, PROGRAM, UNLIKE as unlike_captured, InAFolder, Trip, examples, scenarios, trips_of,
 )
@@ -82,7 +82,7 @@ def lines_of(trip: Trip) -> Iterator[Lines]:
     with tempfile.TemporaryFile() as file:
         file.write(trip.text.encode())
         file.flush()
-        yield Lines(file, trip.reader["name"], False)
+        yield ReaderLines(file, trip.reader["name"], False)
 
 
 @cache

@@ -1,12 +1,13 @@
 #!/usr/bin/env python3
 """Tests of wave: its lines are those that tests/waves.py plays, which owes nothing to the program,
-for all examples and cases that run to their end; each form of a file has the same changes; what no
-line carries is said; and a long scenario takes no more memory than a short one."""
+for all examples and cases that run to their end, of readers and of devices; each form of a file has the
+same changes; what no line carries is said; and a long scenario takes no more memory than a short one."""
 from __future__ import annotations
 
 import json
 import math
 import os
+import random
 import shutil
 import subprocess
 import textwrap
@@ -21,21 +22,27 @@ from unittest import mock
 import loading
 from loading import ROOT
 
-from case_files import all_cases
+from case_files import all_cases, of_readers
+from model.scenario import play
 from parts.recordings import open_recording
-from waves import ELEMENT_US, Change, Widths, changes_of, pulled, seconds_of
+from random_scenarios import random_station, random_station_event
+from waves import ELEMENT_US, Change, Widths, changes_of, changes_of_pulses, pulses_of_device, seconds_of
 
 TOOL = ROOT / "tools/wave"
 ENVIRONMENT = {**os.environ, "IRIG": str(ROOT / "crates/irig_main/out/irig_main")}
 CSV_RATE, SOUND_RATE, RECORD_RATE = 10_000, 48_000, 4_800
 # What the tool says of the lines themselves; all else is about what they do not carry.
-DONE = r"\d+ seconds of \S+ on [35] lines"
+DONE = r"\d+(\.\d*[1-9])? seconds of \S+ on [35] lines"
 
 PLANT = {
     "version": 1, "start": "2016-06-15T12:00:00Z", "leaps": [], "parity": "even", "sense": "add",
     "sbs": "check", "generators": [{"local": 0}] * 3,
     "readers": [{"name": name, "lock_after": 2, "holdover": 60} for name in ("relay", "meter")],
 }
+DEVICE = {"name": "relay", "lock_after": 2, "holdover": 60, "drift": 20}
+METER = {**DEVICE, "name": "meter", "late": [100, 200, 300]}
+# The examples of devices that are compared.
+STATIONS = ("leap_stamped", "liar_outvoted", "bound_grows", "two_cables", "late_lines")
 
 
 def run(*words: object, given: str = "", **more: str) -> subprocess.CompletedProcess[str]:
@@ -49,6 +56,24 @@ def scenario_of(*events: dict) -> str:
     return "".join(json.dumps(one) + "\n" for one in (PLANT, *events))
 
 
+def station_of(*events: dict, devices: Sequence[dict] = (DEVICE, METER)) -> str:
+    plant = {key: value for key, value in PLANT.items() if key != "readers"}
+    lines = ({**plant, "version": 4, "devices": devices}, *events)
+    return "".join(json.dumps(one) + "\n" for one in lines)
+
+
+def on_line(do: str, line: int, device: str = "relay", **more: int) -> dict:
+    return {"do": do, "g": line, "r": device, **more}
+
+
+def passing(us: int) -> dict:
+    return {"do": "pass", "us": us}
+
+
+def seconds(n: int) -> dict:
+    return {"do": "seconds", "n": n}
+
+
 def raw(line: int, *widths: int, reader: str = "relay") -> dict:
     return {"do": "raw", "g": line, "r": reader, "widths": list(widths)}
 
@@ -59,9 +84,31 @@ def tick(reader: str = "relay") -> dict:
 
 @cache
 def scenarios() -> dict[str, str]:
-    """Those of examples and cases that run to their end, by name."""
-    ran = [case for case in all_cases() if case.status == 0 and case.scenario]
+    """Those of examples and cases that run to their end, by name, but for those of devices."""
+    ran = [case for case in of_readers(all_cases()) if case.status == 0]
     return {case.name: (ROOT / case.scenario).read_text() for case in ran if case.scenario}
+
+
+def stations() -> dict[str, str]:
+    """Those of devices, of at most some minutes."""
+    ran = [case for case in all_cases() if case.scenario and case.status == 0]
+    texts = {case.name: (ROOT / case.scenario).read_text() for case in ran}
+    return {name: text for name, text in texts.items() if name not in scenarios() and length_of(text) <= 300}
+
+
+def length_of(text: str) -> int:
+    """How many seconds a scenario of devices takes."""
+    events = [json.loads(line) for line in text.splitlines() if line.strip()][1:]
+    return sum(event["n"] if event["do"] == "seconds" else event.get("us", 0) / 1e6
+               for event in events if event["do"] in ("seconds", "pass"))
+
+
+def random_text(seed: int) -> str:
+    chance = random.Random(seed)
+    plant = random_station(chance)
+    names = [device["name"] for device in plant["devices"]]
+    events = [random_station_event(chance, len(plant["generators"]), names) for _ in range(40)]
+    return "".join(json.dumps(line) + "\n" for line in [plant, *events])
 
 
 def is_carried(seconds: Sequence[list[Widths]]) -> bool:
@@ -142,25 +189,6 @@ class Waves(InAFolder):
         plant = json.loads(next(line for line in text.splitlines() if line.strip()))
         return [(0, line, 0) for line in range(len(plant["generators"]))]
 
-    def test_late_lines_and_a_pulled_cable(self) -> None:
-        text = (ROOT / "examples/leap_inserted.jsonl").read_text()
-        for late, (line, *ends) in (
-            ((0, 350, 700), (0, 3300, 5200)), ((700, 0, 10_000), (2, 0, 9062)),
-            ((2**32, 2**32 + 1, 2**32), (1, 2**32 // 1000 + 40, 2**32 // 1000 + 14_060)),
-        ):
-            words = "--late=" + ",".join(map(str, late)), f"--pull={line},{ends[0]},{ends[1]}"
-            wanted = pulled(changes_of(seconds_of(text), late), line, *(1000 * end for end in ends))
-            with self.subTest(words):
-                path = self.made(text, "lines.vcd", *words)
-                self.assertEqual(recorded(path), ([*self.low(text), *sorted(wanted)], 14_070_000 + max(late)))
-                table = self.made(text, "lines.csv", "--changes", *words)
-                self.assertEqual(recorded(table), recorded(path))
-
-    def test_a_cable_that_is_pulled_out_of_a_pulse(self) -> None:
-        text = scenario_of(raw(0, 8000), tick())
-        changes, _ = recorded(self.made(text, "lines.vcd", "--pull=0,52,54"))
-        self.assertEqual([time for time, *_ in changes[3:]], [50_000, 52_000, 54_000, 58_000])
-
     def test_the_reader_that_is_named(self) -> None:
         text = scenario_of(raw(0, 8000), raw(1, 2000, reader="meter"), tick("meter"), tick())
         for words, line, width in (([], 0, 8000), (["--reader=meter"], 1, 2000)):
@@ -181,9 +209,131 @@ class Waves(InAFolder):
             self.assertEqual(recorded(path)[0][3:], [(50_000, 2, 1), (50_000 + width, 2, 0)])
 
 
+class Devices(InAFolder):
+    """Lines to a device, beside those that tests/model plays."""
+
+    def compare(self, text: str) -> None:
+        """By the first and the last device."""
+        names = [device["name"] for device in json.loads(text.strip().splitlines()[0])["devices"]]
+        for name in {names[0], names[-1]}:
+            with self.subTest(device=name):
+                pulses, end = pulses_of_device(text, name)
+                path = self.made(text, "lines.vcd", f"--device={name}", said="(.*: edge .*\n)*")
+                changes, last = recorded(path)
+                self.assertEqual(last, 70_000 + end)
+                low = [(0, line, 0) for line in range(len(pulses))]
+                self.assertEqual(changes, [*low, *changes_of_pulses(pulses, last)])
+
+    def test_each_scenario(self) -> None:
+        found = stations()
+        self.assertLessEqual({f"examples/{name}.jsonl" for name in STATIONS}, set(found))
+        for name, text in found.items():
+            with self.subTest(name):
+                self.compare(text)
+        print(f"scenarios of devices: {len(found)}")
+        self.assertGreater(len(found), 50)
+
+    def test_random_scenarios(self) -> None:
+        """By seeds, those that no line of is refused."""
+        count = 0
+        for seed in range(20):
+            text = random_text(seed)
+            if play(text.encode()).status == 0:
+                with self.subTest(seed=seed):
+                    self.compare(text)
+                    count += 1
+        print(f"random scenarios of devices: {count}")
+        self.assertGreater(count, 10)
+
+    def changes(self, *events: dict, device: str = "relay", said: str = "") -> list[Change]:
+        """The changes of the lines to a device, in microseconds from edge 0."""
+        path = self.made(station_of(*events), "lines.vcd", f"--device={device}", said=said)
+        return [(time - 50_000, line, level) for time, line, level in recorded(path)[0] if time > 0]
+
+    def test_lateness_holds_for_what_is_sent_from_then_on(self) -> None:
+        changes = self.changes(passing(10_000), on_line("late", 1, us=1999), passing(10_001))
+        self.assertEqual([time for time, line, _ in changes if line == 1], [0, 8000, 11_999, 13_999, 21_999, 23_999])
+
+    def test_a_cable_that_is_out(self) -> None:
+        """It is pulled in a pulse, which is still heard; what is sent when it is plugged is heard."""
+        changes = self.changes(passing(1), on_line("pull", 0), passing(29_999), on_line("plug", 0), passing(1))
+        rises = [[time for time, of, level in changes if of == line and level] for line in range(3)]
+        self.assertEqual(rises, [[0, 30_000], [0, 10_000, 20_000, 30_000], [0, 10_000, 20_000, 30_000]])
+
+    def test_a_busy_line(self) -> None:
+        """A line is busy from when its pulse is sent, late or not, up to its end, which comes behind events and
+        before what is sent. The first one here is sent at 0, and rises at 300."""
+        on = [passing(200), on_line("pulse", 2, "meter", width=5), passing(8100), on_line("pulse", 2, "meter", width=5),
+              passing(1), on_line("pulse", 2, "meter", width=1699), passing(1700)]
+        changes = self.changes(*on, device="meter", said="a pulse rises as the one before .*: edge 0\n" * 0)
+        self.assertEqual([time for time, line, _ in changes if line == 2], [300, 8300, 8301, 10_000, 10_300, 12_300])
+
+    def test_a_pulse_by_hand_is_not_late_and_needs_no_cable(self) -> None:
+        changes = self.changes(passing(9000), on_line("pull", 2, "meter"), on_line("pulse", 2, "meter", width=500),
+                               passing(1000), device="meter")
+        self.assertEqual([time for time, line, _ in changes if line == 2], [300, 8300, 9000, 9500])
+
+    def test_a_pulse_at_edge_0(self) -> None:
+        """It comes before what is sent there."""
+        changes = self.changes(on_line("pulse", 0, width=3000), passing(1))
+        self.assertEqual([time for time, line, _ in changes if line == 0], [0, 3000])
+
+    def test_a_pulse_over_the_end(self) -> None:
+        """It lasts to the end of the file; what would rise later is not there."""
+        path = self.made(station_of(passing(9000), on_line("pulse", 0, width=500_000), passing(1)))
+        changes, end = recorded(path)
+        self.assertEqual([time for time, line, _ in changes if line == 0], [0, 50_000, 58_000, 59_000])
+        self.assertEqual(end, 79_001)
+
+    def test_what_no_line_carries(self) -> None:
+        """Of another device nothing is said."""
+        wide, none = (on_line("pulse", 0, width=width) for width in (1000, 0))
+        touches = "a pulse rises as the one before it ends, and a line shows both as one"
+        for events, said in (
+            ([seconds(2), {"do": "restart", "r": "relay"}], "a restart is no matter of lines, and left out: edge 2"),
+            ([passing(9500), none, seconds(1)], "a pulse of 0 us is none on a line: edge 0"),
+            ([passing(10_000), none, seconds(1)], "a pulse of 0 us is none on a line: edge 0"),
+            ([passing(9000), wide, seconds(1)], f"{touches}: edge 0"),
+            ([passing(9000), wide, seconds(3), wide, seconds(1), wide, seconds(1)], f"{touches}: edge 0 and 2 more"),
+        ):
+            with self.subTest(said):
+                self.made(station_of(*events), said=f"{said}\n")
+                self.made(station_of(*events), "lines.vcd", "--device=meter")
+
+    def test_what_touches_is_one(self) -> None:
+        changes = self.changes(passing(9000), on_line("pulse", 0, width=1000), passing(1001), said=".*: edge 0\n")
+        self.assertEqual([time for time, line, _ in changes if line == 0], [0, 8000, 9000, 12_000])
+
+    def test_faults_begin_with_the_next_frame(self) -> None:
+        silent, repair = {"do": "fault", "g": 1, "kind": "silent"}, {"do": "repair", "g": 1}
+        changes = self.changes(seconds(1), silent, passing(500_000), repair, seconds(2))
+        begun = [line for time, line, level in changes if level and time % 1_000_000 == 0]
+        self.assertEqual(begun, [0, 1, 2, 0, 2, 0, 1, 2, 0, 1, 2])
+        self.assertEqual(sum(line == 1 for time, line, _ in changes if 1_000_000 <= time < 2_000_000), 0)
+
+    def test_the_device_that_is_named(self) -> None:
+        text = station_of(passing(1))
+        for words, late in (([], 0), (["--reader=meter"], 300), (["--device=meter"], 300)):
+            changes, _ = recorded(self.made(text, "lines.vcd", *words))
+            self.assertIn((50_000 + late, 2, 1), changes)
+
+    def test_how_long_it_is(self) -> None:
+        for events, said in (
+            ([], "0"), ([seconds(0)], "0"), ([seconds(10)], "10"), ([seconds(1), passing(950_000)], "1.95"),
+            ([passing(1)], "0.000001"),
+        ):
+            ran = run("-", "-o", self.folder / "a.vcd", given=station_of(*events))
+            self.assertEqual(ran.stderr, f"{said} seconds of relay on 3 lines\n")
+
+    def test_blank_lines(self) -> None:
+        text = station_of(passing(10_000), on_line("late", 0, us=7), passing(1))
+        dump = self.made(text).read_bytes()
+        self.assertEqual(self.made(" \t\n\n" + text.replace("\n", "\r\n \n"), "b.vcd").read_bytes(), dump)
+
+
 class Forms(InAFolder):
     def test_the_same_changes(self) -> None:
-        for name in ("leap_inserted", "zone_change", "pulled_cable", "five_ports"):
+        for name in ("leap_inserted", "zone_change", "pulled_cable", "five_ports", "leap_stamped"):
             text = (ROOT / f"examples/{name}.jsonl").read_text()
             for words in ([], ["--invert"]):
                 with self.subTest(name, words=words):
@@ -355,14 +505,15 @@ class Memory(InAFolder):
     MORE = 6 << 10  # in KiB; the pulses of the longer scenario alone would be 30 MB
 
     def test_a_long_scenario(self) -> None:
-        for ending in (".vcd", ".csv", ".wav", ".cfg"):
-            with self.subTest(ending):
-                least, most = (self.peak(n, ending) for n in (20, 1000))
-                self.assertLess(most, least + self.MORE)
+        for made in (scenario_of, station_of):
+            for ending in (".vcd", ".csv", ".wav", ".cfg"):
+                with self.subTest(ending, made=made.__name__):
+                    least, most = (self.peak(made(seconds(n)), ending) for n in (20, 1000))
+                    self.assertLess(most, least + self.MORE)
 
-    def peak(self, seconds: int, ending: str) -> int:
+    def peak(self, text: str, ending: str) -> int:
         scenario = self.folder / "long.jsonl"
-        scenario.write_text(scenario_of({"do": "seconds", "n": seconds}))
+        scenario.write_text(text)
         more = ["--rate=2000"] if ending != ".vcd" else []
         with mock.patch.dict(os.environ, ENVIRONMENT):
             return loading.peak(TOOL, scenario, "-o", self.folder / f"long{ending}", *more)[1]
@@ -375,7 +526,7 @@ class Words(InAFolder):
         return ran.stderr
 
     def test_words(self) -> None:
-        path = ROOT / "examples/leap_inserted.jsonl"
+        path, stamped = (ROOT / f"examples/{name}.jsonl" for name in ("leap_inserted", "leap_stamped"))
         for words, reason in (
             ([path], "the following arguments are required: -o; see wave --help"),
             ([path, "-o", "a.txt"], "a.txt ends with none of .vcd, .csv, .wav, .cfg; see wave --help"),
@@ -383,13 +534,13 @@ class Words(InAFolder):
             ([path, "-o", "a.vcd", "--text"], "--text is for a .cfg; see"),
             ([path, "-o", "a.vcd", "--rate=5000"], "--rate is for a .wav, a .cfg, and a .csv with a row a"),
             ([path, "-o", "a.csv", "--changes", "--rate=5000"], "--rate is for a .wav, a .cfg, and"),
-            ([path, "-o", "a.vcd", "--late=0,1"], f"wave: {path}: --late wants 3 times, one for each line\n"),
-            ([path, "-o", "a.vcd", "--late=0,1,-1"], "'0,1,-1' is not whole numbers, as 0,350,700"),
-            ([path, "-o", "a.vcd", "--pull=3,1,2"], "--pull names line 3; there are 0 to 2\n"),
-            ([path, "-o", "a.vcd", "--pull=0,2,1"], "'0,2,1' is not LINE,FROM_MS,TO_MS, as 0,3300"),
+            ([path, "-o", "a.vcd", "--late=0,350,700"], "unrecognized arguments: --late=0,350,700; see"),
+            ([path, "-o", "a.vcd", "--pull", "0,3300,5200"], "unrecognized arguments: --pull 0,3300,5200; see"),
             ([path, "-o", "a.wav", "--rate=100"], "'100' is not a whole number from 2000 to"),
             ([path, "-o", "a.vcd", "--reader=meter"],
              f"wave: {path}: it has no reader 'meter'; it has relay, recorder\n"),
+            ([stamped, "-o", "a.vcd", "--device=meter"],
+             f"wave: {stamped}: it has no device 'meter'; it has relay, recorder\n"),
             (["none.jsonl", "-o", "a.vcd"], "wave: none.jsonl: No such file or directory\n"),
             ([path, "-o", self.folder / "none/a.vcd"], "none/a.vcd: No such file or directory\n"),
         ):
@@ -409,6 +560,55 @@ class Words(InAFolder):
             self.assertIn(f"wave: -: {reason}", said[-1])
             self.assertTrue(said[0].startswith(said[-1].split("refused: ")[1]), said)
             self.assertEqual(list(self.folder.iterdir()), [])
+
+    def test_a_refused_scenario_of_devices(self) -> None:
+        """The first line that is refused counts, by the program or by the tool, and no file is begun."""
+        fault, wrong = {"do": "fault", "g": 0, "kind": "dance"}, {"do": "seconds", "n": -1}
+        for events, by_program, line in (
+            ([fault, wrong], True, 2), ([wrong, fault], False, 2), ([seconds(1), fault], True, 3),
+            ([{"do": "repair", "g": 3}], True, 2), ([seconds(1), {"do": "fault"}], True, 3),
+            ([passing(0)], False, 2), ([passing(True)], False, 2), ([{"do": "pass"}], False, 2),
+            ([{**passing(1), "g": 0}], False, 2), ([on_line("pull", 3)], False, 2), ([on_line("pull", -1)], False, 2),
+            ([on_line("plug", 0, "none")], False, 2), ([on_line("late", 0, us=2000)], False, 2),
+            ([on_line("pulse", 0, width=2**32)], False, 2), ([raw(0, 2000)], False, 2),
+            ([{"do": "step", "g": 0}], False, 2),
+            ([{"do": "stamp", "r": "relay", "ago": 4_000_001}], False, 2), ([{"do": 1}], False, 2), ([{}], False, 2),
+            ([[]], False, 2), ([seconds(1), {**tick(), "r": 1.0}], False, 3), ([{"do": "pulse", "g": 0.0}], False, 2),
+        ):
+            with self.subTest(events):
+                said = self.refused("-", "-o", self.folder / "a.vcd", given=station_of(*events)).splitlines()
+                wanted = f"refused: line {line}: 2" if by_program else f"line {line} is refused; 'irig run' says why"
+                self.assertIn(f"wave: -: {wanted}", said[-1])
+                self.assertEqual(len(said) > 1, by_program)
+                self.assertEqual(list(self.folder.iterdir()), [])
+
+    def test_a_refused_plant_of_devices(self) -> None:
+        own = "line 1 is refused; 'irig run' says why"
+        for devices, reason in (
+            ([], own), ([DEVICE, DEVICE], own), ([{**DEVICE, "late": [0, 0]}], own), ([1], own), ({}, own),
+            ([{**DEVICE, "late": [0, 0, 2000]}], own), ([{"lock_after": 2}], own), ([{**DEVICE, "late": 0}], own),
+            ([{**DEVICE, "lock_after": 0}], "refused: line 1: 2"), ([{**DEVICE, "size": 1}], "refused: line 1: 2"),
+        ):
+            with self.subTest(devices):
+                said = self.refused("-", "-o", self.folder / "a.vcd", given=station_of(devices=devices)).splitlines()
+                self.assertIn(f"wave: -: {reason}", said[-1])
+
+    def test_devices_beside_readers(self) -> None:
+        given = (ROOT / "cases/devices_beside_readers/scenario.jsonl").read_text()
+        said = self.refused("-", "-o", self.folder / "a.vcd", given=given)
+        self.assertEqual(said, "wave: -: line 1 is refused; 'irig run' says why\n")
+
+    def test_lines_that_are_no_objects(self) -> None:
+        for line in ("{", "[" * 100_000, '{"do":"seconds","n":1}' + " " * 65_536, "\ufeff{}"):
+            given = station_of(seconds(1)) + line + "\n"
+            said = self.refused("-", "-o", self.folder / "a.vcd", given=given)
+            self.assertEqual(said, "wave: -: line 3 is refused; 'irig run' says why\n")
+
+    def test_a_refusal_behind_blank_lines(self) -> None:
+        fault = json.dumps({"do": "fault", "g": 3, "kind": "silent"})
+        given = "\n" + station_of(seconds(1)) + f"\n \n{fault}\n"
+        said = self.refused("-", "-o", self.folder / "a.vcd", given=given)
+        self.assertIn("wave: -: refused: line 6: 20 ", said)
 
     def test_a_sound_that_is_too_long(self) -> None:
         text = scenario_of({"do": "seconds", "n": 800})
