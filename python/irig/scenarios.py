@@ -1,4 +1,5 @@
-"""Builds scenarios line by line (docs/SCENARIOS.md), and says which readers one has. It needs no library.
+"""Builds scenarios line by line (docs/SCENARIOS.md), and says which readers one has, and its true seconds. It
+needs no library.
 
     from irig.scenarios import Leap, Reader, Replay, Scenario
 
@@ -25,7 +26,7 @@ Value = Dict[str, Any]  # of a line, or of a part of one
 
 __all__ = [
     "Change", "Damage", "Generator", "Heard", "Leap", "Lost", "Raw", "Reader", "Replay", "Scenario",
-    "Table", "Timeline", "has_devices", "line_of", "plant_value", "readers_in",
+    "Table", "Timeline", "has_devices", "line_of", "plant_value", "readers_in", "timeline_in",
 ]
 
 
@@ -361,6 +362,12 @@ def readers_in(scenario: Union[str, bytes]) -> List[str]:
         return [reader["name"] for reader in _plant_in(scenario)["readers"]]
     except (TypeError, KeyError):
         return []
+
+
+def timeline_in(scenario: Union[str, bytes]) -> Timeline:
+    """The true seconds, by the plant line of a scenario, which the program does not refuse."""
+    plant = _plant_in(scenario)
+    return Timeline(plant["start"], [Leap(leap["day"], leap["kind"]) for leap in plant["leaps"]])
 
 
 def _plant_in(scenario: Union[str, bytes]) -> Any:

@@ -15,7 +15,7 @@ from matplotlib.patches import Patch, Rectangle
 from matplotlib.textpath import TextPath
 from matplotlib.ticker import MaxNLocator
 
-from parts.log_lanes import PORT_STATES, STATES, Bars, Offset, ReaderLanes, State
+from parts.log_lanes import PORT_STATES, STATES, Bars, Off, Offset, ReaderLanes, State, apart_of
 from parts.layout import Label, Scale, chosen, ways
 
 from irig import Lane
@@ -30,6 +30,7 @@ HIGH, LOW = 0.30, 0.13
 PORT_LANE, PORT_HIGH, PORT_LOW = 0.115, 0.09, 0.045  # a thin lane for each port, and its bars
 TINY = 6.0  # the numbers of ports
 ABOVE, BELOW = 0.24, 0.05  # a bar: for marks, for labels
+OFF_HIGH, BAND, OFF_BEYOND = 0.62, "#56B4E9", "#D55E00"  # how far a device lay off, and how far it may
 ROW = 0.17
 NARROW = 0.02  # no bar is less wide
 PLAIN = 0.06  # less wide ones have no pattern
@@ -48,9 +49,14 @@ MARKS = {
     "month end": "month ends",
     "premise broken": "premise broken",
 }
+WHAT = {
+    "reader": "how each reader stood, and what its ports told",
+    "device": "how each device stood, what its lines told, and how far off it was",
+}
 VERDICTS = {
-    "premises kept": "each second announced is as the scenario has it",
-    "premises broken: edge": "from there on that reader follows its votes, as the scenario has it or not",
+    "premises kept": "each second announced is as the scenario has it{within}",
+    "premises broken: edge": "from there on that {kind} follows its votes, as the scenario has it or not",
+    "premises broken: drift": "its counter gains or loses more than its setting says",
     "premises broken: table": "its leap table and the scenario's leap seconds differ",
     "refused": "the lines of the scenario above it were played",
 }
@@ -217,6 +223,62 @@ def draw_ports(axes: Axes, lane: ReaderLanes, scale: Scale, top: float) -> float
     return ends
 
 
+# ---- how far a device lay off
+
+
+OFF_PATCHES = (
+    Patch(label="by how much its second began late (+) or early (-)", facecolor="black", linewidth=0),
+    Patch(label="how much it says that may be", facecolor=BAND, alpha=0.35, linewidth=0),
+    Patch(label="more than that", facecolor=OFF_BEYOND, linewidth=0),
+)
+
+
+def most_off(lane: ReaderLanes) -> int:
+    """The height of half a strip, in microseconds: a round number that no bound and no error passes."""
+    offs = [*lane.told, *lane.stamps]
+    most = max([abs(off.off_us or 0) for off in offs] + [off.bound_us or 0 for off in offs] + [10])
+    step = 10 ** (len(str(most)) - 1)
+    return ceil(most / step) * step
+
+
+def draw_offs(axes: Axes, lane: ReaderLanes, scale: Scale, top: float) -> float:
+    """From this height down how far each told edge lay off up to the next one, in the band of its bound, and the
+    stamps of their instants; and where that ends."""
+    if not (lane.told or lane.stamps):
+        return top
+    most, middle = most_off(lane), top - OFF_HIGH / 2
+    inch = (OFF_HIGH / 2 - 0.04) / most
+    axes.plot([0, WIDTH], [middle, middle], color="#888888", lw=0.4, zorder=0.5)
+    for height, text in ((most * inch, f"+{most} us"), (0, "0"), (-most * inch, f"-{most} us")):
+        axes.text(-0.12, middle + height, text, size=TINY, ha="right", va="center")
+    ends = [*(off.at for off in lane.told[1:]), scale.stretches[-1].last]
+    for off, end in zip(lane.told, ends):
+        draw_told(axes, off, (scale.place(off.at), scale.place(min(end, off.at + 1))), middle, inch)
+    for off in lane.stamps:
+        draw_stamp(axes, off, scale.place(off.at), middle, inch)
+    draw_cuts(axes, scale, top - OFF_HIGH, top)
+    return top - OFF_HIGH
+
+
+def draw_told(axes: Axes, off: Off, ends: tuple[float, float], middle: float, inch: float) -> None:
+    if off.bound_us is not None:
+        bound = off.bound_us * inch
+        axes.fill_between(ends, middle - bound, middle + bound, color=BAND, alpha=0.35, lw=0, zorder=0.6)
+    height = middle + (off.off_us or 0) * inch
+    look = {"color": OFF_BEYOND if off.is_beyond else "black", "ls": ":" if off.bound_us is None else "-"}
+    axes.plot(ends, [height, height], lw=1.2, solid_capstyle="butt", **look)
+
+
+def draw_stamp(axes: Axes, off: Off, place: float, middle: float, inch: float) -> None:
+    """A rhombus, hollow if no stamp was given."""
+    look, height = OFF_BEYOND if off.is_beyond else "black", middle + (off.off_us or 0) * inch
+    face = "white" if off.bound_us is None else look
+    axes.plot([place], [height], "D", ms=4, mec=look, mfc=face, zorder=5, clip_on=False)
+
+
+# ---- marks and labels
+
+
 def draw_marks(axes: Axes, lane: ReaderLanes, scale: Scale, foot: float) -> None:
     top = foot + HIGH + 0.1
     for mark in lane.marks:
@@ -240,7 +302,8 @@ def causes_of(lane: ReaderLanes, scale: Scale) -> tuple[list[list[Label]], int]:
         edges = f"{run.first}" if run.first == run.last else f"{run.first} to {run.last}"
         left, right = scale.place(run.first - 0.5), scale.place(run.last + 0.5)
         labels.append(label(f"{edges}: {run.cause}", (left + right) / 2, right - left))
-    return labels, len(amiss)
+    stamps = [label(f"{off.at:.6f}: {off.said}", scale.place(off.at)) for off in lane.stamps[:MOST_LABELS]]
+    return stamps + labels, len(amiss) + len(lane.stamps)
 
 
 def draw_causes(axes: Axes, lane: ReaderLanes, scale: Scale, top: float) -> float:
@@ -253,7 +316,8 @@ def draw_causes(axes: Axes, lane: ReaderLanes, scale: Scale, top: float) -> floa
         write(axes, told, height)
     depth = max((row for _, row in found), default=-1) + 1
     if len(found) < count:
-        what = "silences and lies" if lane.offsets else "silences"
+        kinds = {"silences": True, "lies": lane.offsets, "stamps": lane.stamps}
+        what = " and ".join(kind for kind, is_there in kinds.items() if is_there)
         more, *_ = label(f"and {count - len(found)} more {what}: zoom in by --edges", WIDTH, WIDTH)
         write(axes, Label(more.text, WIDTH, WIDTH - more.width, more.width), top - ROW * (depth + 0.5))
         depth += 1
@@ -268,7 +332,8 @@ def draw_lane(axes: Axes, lane: ReaderLanes, scale: Scale, top: float) -> float:
     draw_bars(axes, lane, scale, foot)
     draw_cuts(axes, scale, foot - 0.02, foot + HIGH + 0.04)
     draw_marks(axes, lane, scale, foot)
-    return draw_causes(axes, lane, scale, draw_ports(axes, lane, scale, foot - BELOW))
+    ports_end = draw_ports(axes, lane, scale, foot - BELOW)
+    return draw_causes(axes, lane, scale, draw_offs(axes, lane, scale, ports_end))
 
 
 # ---- the picture
@@ -285,9 +350,11 @@ def draw_top(axes: Axes, bars: Bars, scale: Scale) -> float:
     return ROW * (max((row for _, row in found), default=-1) + 1)
 
 
-def meaning_of(last_line: str) -> str:
+def meaning_of(bars: Bars) -> str:
     """What the last line of a log means."""
-    return next(meaning for beginning, meaning in VERDICTS.items() if last_line.startswith(beginning))
+    found = (meaning for beginning, meaning in VERDICTS.items() if bars.last_line.startswith(beginning))
+    within = ", and each edge and stamp lies within its bound" if bars.kind == "device" else ""
+    return next(found).format(kind=bars.kind, within=within)
 
 
 def patches_of(bars: Bars) -> list[list[Patch]]:
@@ -297,6 +364,7 @@ def patches_of(bars: Bars) -> list[list[Patch]]:
     found = [
         [Patch(label=f"{name}: {state.meaning}", **look_of(name, state))
          for name, state in STATES.items() if name in readers],
+        [*OFF_PATCHES] if any(lane.told or lane.stamps for lane in bars.lanes) else [],
         [Patch(label=f"port: {state.meaning}", **look_of(name, state))
          for name, state in PORT_STATES.items() if name in ports],
     ]
@@ -325,7 +393,7 @@ def draw_words(figure: Figure, bars: Bars, title: str, left: float) -> None:
     def say(inches: float, text: str, size: float, **look: str) -> None:
         figure.text(left / width, inches / height, text, size=size, va="center", **look)
 
-    heading = f"{title}: how each reader stood, and what its ports told".replace("$", r"\$")  # no formula
+    heading = f"{title}: {WHAT[bars.kind]}".replace("$", r"\$")  # no formula
     wide = width_of(heading, LARGE) * BOLD
     say(height - 0.28, heading, LARGE * min(1.0, WIDTH / wide), weight="bold")
     told = "no second is announced"
@@ -333,10 +401,13 @@ def draw_words(figure: Figure, bars: Bars, title: str, left: float) -> None:
         ends = bars.announced[0], bars.announced[-1]
         first, last = (f"{entry.second} at edge {entry.edge}" for entry in ends)
         told = f"first announced: {first}; last: {last}"
+    apart = apart_of(bars)
+    if apart is not None:
+        told += f"; stamps of one instant lie {apart} us apart at most"
     say(height - 0.52, told, SMALL, color="#444444")
     sign = "\N{CHECK MARK}" if bars.last_line == "premises kept" else "\N{BALLOT X}"
     say(0.42, f"{sign} {bars.last_line}", NORMAL, weight="bold")
-    say(0.2, meaning_of(bars.last_line), SMALL, color="#444444")
+    say(0.2, meaning_of(bars), SMALL, color="#444444")
 
 
 def picture_of(bars: Bars, title: str) -> Figure:
@@ -344,7 +415,7 @@ def picture_of(bars: Bars, title: str) -> Figure:
     figure = Figure()
     axes = figure.add_axes([0, 0, 1, 1])
     top, foot = draw_top(axes, bars, scale), 0.0
-    axes.text(-0.12, -0.06, "reader", size=SMALL, color="#444444", ha="right", va="center")
+    axes.text(-0.12, -0.06, bars.kind, size=SMALL, color="#444444", ha="right", va="center")
     for lane in bars.lanes:
         foot = draw_lane(axes, lane, scale, foot)
     foot -= 0.12

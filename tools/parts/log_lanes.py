@@ -12,7 +12,8 @@ from parts.command import read_text, shown, warn
 
 import irig
 from irig.faults import Fault
-from irig.logs import Announced, PremiseBroken, RefusedLine, Tick
+from irig.logs import Announced, DeviceBroken, PremiseBroken, RefusedLine, Stamped, Tick, ToldSecond
+from irig.scenarios import Leap, Timeline, timeline_in
 from irig.seconds import Second
 from irig.stretches import Stretch
 from irig.words import CAUSES
@@ -124,15 +125,39 @@ class Offset:
     cause: str
 
 
+@dataclass(frozen=True)
+class Off:
+    """How many microseconds behind true time, or before it if below 0, a device's second began that it told from the
+    true edge `at` on, or by its stamp of the true time `at`, in seconds since edge 0; and how far that may be.
+
+    off_us: None of a stamp that was not given, or that is of another second
+    bound_us: None where nothing was announced or given
+    said: of a stamp, what the device answered
+    """
+
+    at: float
+    off_us: int | None
+    bound_us: int | None
+    said: str = ""
+
+    @property
+    def is_beyond(self) -> bool:
+        """Whether it lay further off than its bound."""
+        return self.bound_us is not None and (self.off_us is None or abs(self.off_us) > self.bound_us)
+
+
 @dataclass
 class ReaderLanes:
-    """What one reader did: the lanes of how it stood and of what its ports told, marks, and offsets."""
+    """What one reader did: the lanes of how it stood and of what its ports told, marks, and offsets. Of a device also
+    how far its told seconds and its stamps lay off."""
 
     reader: str
     runs: list[irig.Lane] = field(default_factory=list)
     marks: list[Mark] = field(default_factory=list)
     ports: list[list[irig.Lane]] = field(default_factory=list)
     offsets: list[Offset] = field(default_factory=list)
+    told: list[Off] = field(default_factory=list)
+    stamps: list[Off] = field(default_factory=list)
 
     def take(self, lane: irig.Lane) -> None:
         """Takes up a lane, in the order of edges and ports."""
@@ -148,7 +173,9 @@ class ReaderLanes:
         """These edges alone."""
         marks = [mark for mark in self.marks if first - 0.5 < mark.at < last + 0.5]
         ports = [_cut(runs, first, last) for runs in self.ports]
-        return ReaderLanes(self.reader, _cut(self.runs, first, last), marks, ports, _cut(self.offsets, first, last))
+        told, stamps = ([off for off in offs if first - 0.5 < off.at < last + 0.5] for offs in (self.told, self.stamps))
+        runs, offsets = (_cut(these, first, last) for these in (self.runs, self.offsets))
+        return ReaderLanes(self.reader, runs, marks, ports, offsets, told, stamps)
 
 
 Edges = TypeVar("Edges", irig.Lane, Offset)
@@ -172,8 +199,9 @@ class Bars:
     first: int
     last: int
     last_line: str
-    announced: list[Announced]
+    announced: list[Announced | ToldSecond]
     dues: Dues
+    kind: str = "reader"  # of what the lanes are: readers, or devices
 
     def utc(self, edge: int) -> Second | None:
         """The true second that begins at an edge; None beyond the years served."""
@@ -196,10 +224,36 @@ def bars_of(ran: Ran) -> Bars:
         raise ValueError(f"no edges to draw: {ran.refused or f'it says {ran.last_line!r} alone'}")
     found, stretches = ran.log.lanes(), ran.log.blame()
     lanes = readers_of(ran, found)
+    timeline = timeline_in(ran.log.scenario)
     for lane in lanes:
         lane.offsets = offsets_of(one for one in stretches if one.reader == lane.reader)
-    announced = [entry for entry in ran.log if isinstance(entry, Announced)]
-    return Bars(lanes, 1, ran.last_edge, ran.last_line, announced, dues_of(ran.log, found))
+        lane.told, lane.stamps = offs_of(ran.log, lane.reader, timeline)
+    announced = [entry for entry in ran.log if isinstance(entry, (Announced, ToldSecond)) and entry.second]
+    dues, kind = dues_of(timeline, ran.last_edge), "device" if ran.log.devices else "reader"
+    return Bars(lanes, 1, ran.last_edge, ran.last_line, announced, dues, kind)
+
+
+def offs_of(log: irig.Log, device: str, timeline: Timeline) -> tuple[list[Off], list[Off]]:
+    """How far the seconds that a device told lay off, and its stamps; nothing of a reader."""
+    entries = [entry for entry in log if isinstance(entry, (ToldSecond, Stamped)) and entry.device == device]
+    told = [Off(one.edge, one.off_us, one.bound_us) for one in entries if isinstance(one, ToldSecond)]
+    return told, [off_of(one, timeline) for one in entries if isinstance(one, Stamped)]
+
+
+def off_of(asked: Stamped, timeline: Timeline) -> Off:
+    """How far off a second began by a stamp, which then is as much too early."""
+    at, stamp = asked.instant_us / 1_000_000, asked.stamp
+    if stamp is None:
+        return Off(at, None, None, "no stamp")
+    time = str(stamp.second)[11:19]
+    try:
+        off_us = asked.instant_us - 1_000_000 * timeline.edge_of(stamp.second) - stamp.offset_us
+    except Fault:
+        off_us = 1_000_000
+    if abs(off_us) >= 1_000_000:
+        return Off(at, None, stamp.bound_us, f"{time} + {stamp.offset_us} us, another second")
+    by = f"{abs(off_us)} us {'early' if off_us > 0 else 'late'}"
+    return Off(at, off_us, stamp.bound_us, f"{time} + {stamp.offset_us} us, {by}")
 
 
 def readers_of(ran: Ran, lanes: Iterable[irig.Lane]) -> list[ReaderLanes]:
@@ -224,19 +278,28 @@ def offsets_of(stretches: Iterable[Stretch]) -> list[Offset]:
     return [Offset(first, last, ", ".join([offset, *ports])) for (first, last, _, offset), ports in found.items()]
 
 
-NEXT = {"leap second": "insert", "deleted second": "delete", "month end": "no-leap"}  # what frames say before a mark
+def apart_of(bars: Bars) -> int | None:
+    """How many microseconds two stamps of one instant lie apart at most; None if there are no two near the truth."""
+    found: dict[float, list[int]] = {}
+    for off in (off for lane in bars.lanes for off in lane.stamps if off.off_us is not None):
+        found.setdefault(off.at, []).append(off.off_us)
+    return max((max(offs) - min(offs) for offs in found.values() if len(offs) > 1), default=None)
 
 
-def dues_of(log: irig.Log, lanes: Iterable[irig.Lane]) -> Dues:
-    """The first true second, at edge 0, and those that do not just count on, at leap seconds and behind them."""
-    told = {entry.edge: entry for entry in log.ports}
-    found = [(0, told[1].truth)] if told else []
-    marks = {lane.first: lane.state for lane in lanes if lane.kind == "mark"}
-    for edge, kind in sorted(marks.items()):
-        before = told[edge].truth
-        if kind != "month end" or before.is_leap:
-            found.append((edge, before.next(NEXT[kind])))
+def dues_of(timeline: Timeline, last: int) -> Dues:
+    """The first true second, at edge 0, and those up to an edge that do not just count on: leap seconds, and the
+    first seconds behind them and behind deleted ones."""
+    found = [(0, timeline.second(0))]
+    for edge in sorted(edge for leap in timeline.leaps for edge in edges_about(timeline, leap) if 0 < edge <= last):
+        found.append((edge, timeline.second(edge)))
     return found
+
+
+def edges_about(timeline: Timeline, leap: Leap) -> list[int]:
+    """The edges at which counting on would be wrong by a leap second: below 0 before the timeline starts."""
+    day = Second.of(f"{leap.day}T00:00:00Z").day
+    behind = Second(day + 1, 0).since(timeline.second(0), timeline.leaps)
+    return [behind - 1, behind] if leap.kind == "insert" else [behind]
 
 
 # ---- for pages
@@ -266,7 +329,8 @@ def drawn_of(ran: Ran) -> dict:
         for lane in readers_of(ran, found)
     ]
     broken = {"edge": verdict.edge, "reader": verdict.reader} if isinstance(verdict, PremiseBroken) else None
-    dues = [[edge, second.day, second.sod] for edge, second in dues_of(ran.log, found)]
+    dues = dues_of(timeline_in(ran.log.scenario), ran.last_edge) if ran.log else []
+    dues = [[edge, second.day, second.sod] for edge, second in dues]
     return {"lanes": lanes, "causes": [*CAUSES], "first": 1, "last": ran.last_edge, "verdict": ran.last_line,
             "broken": broken, "refused": ran.refused and ran.refused.line, "dues": dues}
 

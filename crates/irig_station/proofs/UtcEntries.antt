@@ -17,7 +17,7 @@ still_stamped None k = tt
 still_stamped (Some s) k = still_valid s.second k
 
 still_entry : (e : Entry) → ∥ IsValidEntry e ∥₁ → IsValidEntry e
-still_entry (Told r told) k = still_of_utc told.beat.report.announce k
+still_entry (Told r told) k = still_of_utc told k
 still_entry (Stamped r time stamp) k = still_stamped stamp k
 
 -- what is so by some proof is so

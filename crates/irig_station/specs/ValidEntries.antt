@@ -5,7 +5,8 @@ use Rattle.irig_simulated.specs.ToldSeconds.{IsToldOfUtc}
 use Rattle.irig_station.specs.declared.entry.Entry.{Entry}
 use Rattle.irig_station.specs.declared.entry.Entry.TheVariants.{Told, Stamped}
 
--- the second that is announced, if one is, and that of a stamp, if one is given
+-- the second that is announced, if one is, and each that a line claims; that of a stamp, if one is
+-- given
 abbrev pub IsValidEntry : Entry → Type 0
 IsValidEntry (Told r told) = IsToldOfUtc told
 IsValidEntry (Stamped r time stamp) = StampsOfUtc stamp

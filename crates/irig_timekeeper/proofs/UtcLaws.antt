@@ -4,6 +4,10 @@ use Rattle.std.specs.Prelude.{IfSome}
 use Rattle.std.proofs.Math.Logic.{∥∥₁_map}
 use Rattle.irig_time.proofs.ValidLaws.{still_valid}
 use Rattle.irig_time.specs.Seconds.{IsValid}
+use Rattle.irig_vote.specs.Vote.{AreOfUtc, IsOfUtc}
+use Rattle.irig_lines.specs.declared.lines.KeptFrame.{KeptFrame}
+use Rattle.irig_lines.specs.declared.lines.Lines.{Lines}
+use Rattle.irig_lines.specs.Steps.{AreKeptOfUtc, IsKeptOfUtc, frame_tells, tells_of}
 use Rattle.irig_timekeeper.specs.Clock.{AnnouncedOfUtc}
 use Rattle.irig_timekeeper.specs.declared.clock.ClockState.{ClockState}
 use Rattle.irig_timekeeper.specs.declared.stamp.Announced.{Announced}
@@ -25,4 +29,18 @@ pub same_announced : (s q : ClockState) → s.last ≡ q.last → s.before ≡ q
 same_announced s q last before k = record {
   last = subst (λ (a : Option Announced). IfSome a (λ a. IsValid a.second)) last k.last;
   before = subst (λ (a : Option Announced). IfSome a (λ a. IsValid a.second)) before k.before;
+}
+
+-- so is what lines tell that keep such frames
+frame_told : (frame : Option KeptFrame) → IsKeptOfUtc frame → IsOfUtc (frame_tells frame)
+frame_told None v = tt
+frame_told (Some x) v = v
+
+pub told_of_utc : (lines : Lines) → AreKeptOfUtc lines → AreOfUtc (tells_of lines)
+told_of_utc lines v = record {
+  a = frame_told lines.a.frame v.a;
+  b = frame_told lines.b.frame v.b;
+  c = frame_told lines.c.frame v.c;
+  d = frame_told lines.d.frame v.d;
+  e = frame_told lines.e.frame v.e;
 }

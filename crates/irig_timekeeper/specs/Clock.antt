@@ -6,6 +6,7 @@ use Rattle.irig_time.specs.declared.second.UtcSecond.{UtcSecond}
 use Rattle.irig_time.specs.declared.claim.Claim.{Claim}
 use Rattle.irig_time.specs.Seconds.{IsValid}
 use Rattle.irig_time.specs.Tables.{TableValue}
+use Rattle.irig_vote.specs.Vote.{AreOfUtc}
 use Rattle.irig_reader.specs.declared.report.Lock.{Lock}
 use Rattle.irig_reader.specs.declared.report.Lock.TheVariants as lock
 use Rattle.irig_reader.specs.declared.report.Report.{Report}
@@ -308,6 +309,10 @@ clock_vote c s now = claim_voted (vote_of_lines c s now)
 -- each second that is announced is one of UTC
 abbrev pub SaysOfUtc : Option Beat → Type 0
 SaysOfUtc beat = IfSome beat (λ b. IfSome b.report.announce IsValid)
+
+-- so is each second that a line claims
+abbrev pub TellsOfUtc : Option Beat → Type 0
+TellsOfUtc beat = IfSome beat (λ b. AreOfUtc b.told)
 
 -- so are those that are kept
 pub record AnnouncedOfUtc (s : ClockState) : Type 0 where

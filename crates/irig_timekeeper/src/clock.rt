@@ -2,6 +2,7 @@
 
 ghost use Rattle.std.specs.Prelude.{◌≡◌, ◌<◌, ◌≤◌, ◌+◌, ◌-◌, ◌*◌, IfSome, Some, None};
 ghost use Rattle.irig_time.specs.Seconds.{IsValid};
+ghost use Rattle.irig_vote.specs.Vote.{AreOfUtc};
 ghost use Rattle.irig_reader.specs.Rule.{count_of};
 ghost use Rattle.irig_lines.specs.Counting.{edges_to_vote, edges_own};
 ghost use Rattle.irig_timekeeper.specs.Rule.{against_table, missed, step_behind};
@@ -10,7 +11,7 @@ ghost use Rattle.irig_timekeeper.specs.Keeping.{new_state};
 ghost use Rattle.irig_lines.specs.Intervals.{IsShort};
 ghost use Rattle.irig_lines.specs.Paces.{IsSound, grown_us};
 ghost use Rattle.irig_lines.specs.Rates.{rate_of, serving};
-ghost use Rattle.irig_timekeeper.specs.Clock.{age_of, rules_on, knowing, knowing_vote, learning, is_held, lasted, bound_of, announced_at, still_serves, beat_by, beaten, step_to, after_vote, answer_to_vote, after_own, answer_alone, doubted_s, settled_at, vote_of_lines, clock_after, clock_answer, clock_vote, clock_wait, held_second, second_ended, unless_doubted, SaysOfUtc, AnnouncedOfUtc, AreSmall};
+ghost use Rattle.irig_timekeeper.specs.Clock.{age_of, rules_on, knowing, knowing_vote, learning, is_held, lasted, bound_of, announced_at, still_serves, beat_by, beaten, step_to, after_vote, answer_to_vote, after_own, answer_alone, doubted_s, settled_at, vote_of_lines, clock_after, clock_answer, clock_vote, clock_wait, held_second, second_ended, unless_doubted, SaysOfUtc, AnnouncedOfUtc, TellsOfUtc, AreSmall};
 ghost use Rattle.irig_lines.specs.Exactness.{most_drift_us, most_vote_us, most_held_us};
 
 use crate::check::{against_table, step_checked};
@@ -133,6 +134,7 @@ pub fn tick<T: Leaps>(rules: &ClockRules, table: &T, state: &mut ClockState, now
     ensures counting { count_of state.new.reader < rules.now.reader_rules.lock_after }
     ensures valid { AreKeptOfUtc state.new.lines }
     ensures said { SaysOfUtc result.beat }
+    ensures told { TellsOfUtc result.beat }
     ensures small { state.new.bound_us ≤ most_vote_us }
     ensures known { IsShort state.new.interval }
     ensures paced { IsSound state.new.pace }
@@ -159,6 +161,7 @@ fn tick_by_vote<T: Leaps>(
     requires small { vote.bound_us ≤ most_vote_us }
     requires counting { count_of state.old.reader < rules.now.reader_rules.lock_after }
     requires valid { IsValid vote.claim.at }
+    requires lines { AreKeptOfUtc state.old.lines }
     ensures answer { result.beat ≡ answer_to_vote rules.now (T.says table.now) state.old vote
         (edges_to_vote state.old.edge_us vote.edge_us) }
     ensures after { state.new ≡ learning rules.now (knowing_vote rules.now state.old vote
@@ -172,6 +175,7 @@ fn tick_by_vote<T: Leaps>(
     ensures counting { count_of state.new.reader < rules.now.reader_rules.lock_after }
     ensures valid { AreKeptOfUtc state.new.lines }
     ensures said { SaysOfUtc result.beat }
+    ensures told { TellsOfUtc result.beat }
     ensures small { state.new.bound_us ≤ most_vote_us }
     ensures announced { AnnouncedOfUtc state.old → AnnouncedOfUtc state.new }
 {
@@ -218,6 +222,7 @@ fn tick_alone<T: Leaps>(
     ensures counting { count_of state.new.reader < rules.now.reader_rules.lock_after }
     ensures valid { AreKeptOfUtc state.new.lines }
     ensures said { SaysOfUtc result.beat }
+    ensures told { TellsOfUtc result.beat }
     ensures small { state.new.bound_us ≤ most_vote_us }
     ensures announced { AnnouncedOfUtc state.old → AnnouncedOfUtc state.new }
 {
@@ -305,6 +310,7 @@ fn beat_at<T: Leaps>(
     requires counting { count_of state.old.reader < rules.now.reader_rules.lock_after }
     requires small { state.old.bound_us ≤ most_vote_us }
     requires valid { IfSome vote (λ claim. IsValid claim.at) }
+    requires lines { AreKeptOfUtc state.old.lines }
     requires ended { AreSmall state.old }
     requires some { 1 ≤ edges }
     requires paced { IsSound state.old.pace }
@@ -317,6 +323,7 @@ fn beat_at<T: Leaps>(
         state.old.bound_us }
     ensures counting { count_of state.new.reader < rules.now.reader_rules.lock_after }
     ensures said { IfSome result.report.announce IsValid }
+    ensures told { AreOfUtc result.told }
     ensures ended { AreSmall state.new }
     ensures paced { IsSound state.new.pace }
     ensures announced { AnnouncedOfUtc state.old → AnnouncedOfUtc state.new }

@@ -12,7 +12,7 @@ ghost use Rattle.irig_vote.specs.Vote.{ports_in};
 ghost use Rattle.irig_reader.specs.Rule.{count_of};
 ghost use Rattle.irig_reader.specs.Rules.{IsReaderRules};
 ghost use Rattle.irig_lines.specs.Steps.{line_at, line_heard, whole_frame, AreKeptOfUtc, IsKeptOfUtc, AreNewLines};
-ghost use Rattle.irig_timekeeper.specs.Clock.{AnnouncedOfUtc, AreSmall, SaysOfUtc};
+ghost use Rattle.irig_timekeeper.specs.Clock.{AnnouncedOfUtc, AreSmall, SaysOfUtc, TellsOfUtc};
 ghost use Rattle.irig_timekeeper.specs.Stamps.{StampsOfUtc};
 ghost use Rattle.irig_lines.specs.Intervals.{IsShort};
 ghost use Rattle.irig_lines.specs.Paces.{IsSound};
@@ -208,6 +208,7 @@ impl<P: Port> Timekeeper<P> {
     pub fn tick(&mut self, now_us: u32) -> Option<Beat>
         ensures answer { ForKeeping self.old (λ k. result ≡ answer_at k now_us) }
         ensures valid { SaysOfUtc result }
+        ensures told { TellsOfUtc result }
         ensures after { Goes self.old self.new (λ k. after_tick k now_us) }
         ensures lived { (made : MadeOf) (calls : List Call) (now : ℕ) → HasLived self.old made calls
             → now_us ≡ now % 2 ^ 32 → HasLived self.new made (Tick now ∷ calls) }

@@ -5,7 +5,7 @@ ghost use Rattle.irig_frame.specs.declared.symbol.Symbol.{Symbol};
 ghost use Rattle.irig_lines.specs.Delays.{corrected, delay_at};
 ghost use Rattle.irig_lines.specs.Refusals.{clock_fault};
 ghost use Rattle.irig_reader.specs.Rules.{IsReaderRules};
-ghost use Rattle.irig_timekeeper.specs.Clock.{SaysOfUtc};
+ghost use Rattle.irig_timekeeper.specs.Clock.{SaysOfUtc, TellsOfUtc};
 ghost use Rattle.irig_timekeeper.specs.Keepers.{ForKeeping};
 ghost use Rattle.irig_timekeeper.specs.Keeping.{answer_at, place_told, stamp_at, wait_at};
 ghost use Rattle.irig_timekeeper.specs.Life.{Call};
@@ -136,6 +136,7 @@ impl<P: Port> Device<P> {
         ensures on { TicksOn self.old self.new now }
         ensures answer { ForKeeping self.old.keeper (λ k. result ≡ answer_at k (now % 2 ^ 32)) }
         ensures valid { SaysOfUtc result }
+        ensures told { TellsOfUtc result }
         ensures set { IsSetAs self.new self.old }
         // the law `a_device_vouches`
         ensures truth { TellsTruly self.old self.new now result }

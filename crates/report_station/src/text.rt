@@ -5,6 +5,7 @@ ghost use Rattle.std.specs.Fmt.{decimal};
 ghost use Rattle.irig_time.specs.Seconds.{IsValid};
 ghost use Rattle.report_log.specs.Text.{name_at, texts_of, time_shown_text};
 ghost use Rattle.report_station.specs.StationText.{bound_text, broken_text, distance_text, drift_text, false_table_text, instant_text, name_between, off_text, said_text, six_digits, stamp_text, stamped_text, station_audit_text, station_entry_text, station_text, told_if_shown, told_text};
+ghost use Rattle.irig_simulated.specs.ToldSeconds.{IsToldOfUtc};
 ghost use Rattle.irig_station.specs.ValidEntries.{IsValidEntry};
 
 use indexmap::IndexSet;
@@ -64,7 +65,7 @@ fn push_entry(
 
 #[tactic(auto, unfolding(crate::specs::StationText::told_text))]
 fn push_told(text: &mut String, name: &str, told: &ToldSecond) -> Result<(), AllocError>
-    requires { IfSome told.now.beat.report.announce IsValid }
+    requires { IsToldOfUtc told.now }
     ensures { OnOk result (string_bytes text.new
         ≡ string_bytes text.old ++ told_text name.now told.now) }
 {

@@ -13,3 +13,6 @@ tick_by_vote-requires-clause-valid g c =
 
 pub tick_alone-requires-clause-valid : goal.tick_alone-requires-clause-valid
 tick_alone-requires-clause-valid g c = subst AreKeptOfUtc (sym (ap (λ (s : ClockState). s.lines) c.settle_clock.ensures.after)) (settled_valid c.args.now_us c.args.state.now.lines c.requires.valid)
+
+pub tick_by_vote-requires-clause-lines : goal.tick_by_vote-requires-clause-lines
+tick_by_vote-requires-clause-lines g c = subst AreKeptOfUtc (sym (ap (λ (s : ClockState). s.lines) c.settle_clock.ensures.after)) (settled_valid c.args.now_us c.args.state.now.lines c.requires.valid)

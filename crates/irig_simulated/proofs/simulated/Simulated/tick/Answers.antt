@@ -1,6 +1,6 @@
 use Rattle.std.proofs.Common.{◌≡◌, ◌∙◌, ℕ, All, List, ◌∷◌, ◌++◌, [], Option, ap, arith, subst, sym}
 use Rattle.std.specs.Prelude.{max}
-use Rattle.irig_timekeeper.specs.Clock.{SaysOfUtc}
+use Rattle.irig_timekeeper.specs.Clock.{SaysOfUtc, TellsOfUtc}
 use Rattle.irig_timekeeper.specs.Life.Call.{Tick}
 use Rattle.irig_witness.specs.Devices.{IsDeviceOf}
 use Rattle.irig_simulated.specs.declared.told_second.ToldSecond.{ToldSecond}
@@ -60,7 +60,9 @@ invariant_of-self-in-Some-clause-valid g c =
     let items : c.push_reserved.new.self.items ≡ self.told.items ++ (c.told_second.result ∷ []) =
     c.push_reserved.ensures.items ∙ ap (λ (xs : List ToldSecond). xs ++ (c.told_second.result ∷ [])) c.reserve.ensures.items in
     let says = subst SaysOfUtc c.in-Some.is c.tick-beat.ensures.valid in
-    let utc : IsToldOfUtc c.told_second.result = subst IsToldOfUtc (sym c.told_second.ensures) says in
+    let tells = subst TellsOfUtc c.in-Some.is c.tick-beat.ensures.told in
+    let utc : IsToldOfUtc c.told_second.result =
+    subst IsToldOfUtc (sym c.told_second.ensures) (record { announced = says; lines = tells }) in
     ∥∥₁_map self.valid (told_more self.told.items c.push_reserved.new.self.items c.told_second.result items utc)
 
 pub invariant_of-self-in_default-clause-valid : goal.invariant_of-self-in_default-clause-valid
