@@ -7,10 +7,6 @@ enum { TURN_S = 4295, AGAIN_S = 120 };
 /* What a life is long for. */
 typedef enum length { SHORT, LONG, TURN, LEARNING, LENGTHS } length;
 
-/* One of some numbers. */
-#define ONE_OF(luck, ...)                                                                          \
-    ((const int32_t[]){__VA_ARGS__})[below(luck, sizeof((const int32_t[]){__VA_ARGS__}) / 4)]
-
 /* A number up to a bound, each size as often. */
 static uint32_t of_any_size(chance *luck, uint32_t most) {
     uint32_t bits = 0;
@@ -72,12 +68,6 @@ static void plan_delays(world *w, chance *luck) {
                                             : ONE_OF(luck, -MOST_DELAY_US, 0, MOST_DELAY_US);
         w->delay_us[i] = is_any ? by_us : 0;
     }
-}
-
-/* The month's end at or before a day. */
-static int64_t month_end_before(int64_t day) {
-    while (day > 1 && !is_month_end(day)) day--;
-    return day;
 }
 
 static void plan_time(life *l, chance *luck) {

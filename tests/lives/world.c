@@ -23,6 +23,11 @@ bool is_month_end(int64_t day) {
     return false;
 }
 
+int64_t month_end_before(int64_t day) {
+    while (day > 1 && !is_month_end(day)) day--;
+    return day;
+}
+
 /* ---- frames, written anew by docs/FRAME.md */
 
 static void put(frame *f, unsigned element, uint64_t value) {
@@ -36,10 +41,12 @@ static void put_digits(frame *f, unsigned element, uint64_t value) {
 }
 
 static void put_control(frame *f, const content *what, bool is_subtracted) {
-    int32_t offset = is_subtracted ? what->zone : -what->zone;
+    int32_t offset = (is_subtracted ? what->zone : -what->zone) + what->offset_more;
+    offset = offset > MOST_OFFSET ? MOST_OFFSET : offset < -MOST_OFFSET ? -MOST_OFFSET : offset;
     uint64_t size = (uint64_t)(offset < 0 ? -offset : offset);
     put(f, 60, (uint64_t)what->pending);
     put(f, 61, (uint64_t)what->is_delete);
+    put(f, 62, (uint64_t)what->turns);
     put(f, 63, (uint64_t)what->dst);
     put(f, 64, (uint64_t)(offset < 0));
     put(f, 65, size / 2);

@@ -5,7 +5,7 @@
 
 #include "irig.h"
 
-enum { DAY_S = 86400, LAST_DAY = 36523, ELEMENTS = 100, HALF = 50 };
+enum { DAY_S = 86400, LAST_DAY = 36523, ELEMENTS = 100, HALF = 50, MOST_OFFSET = 31 };
 
 /* A second of UTC: the day from 2000-01-01, and the second of the day. */
 typedef struct utc {
@@ -13,6 +13,9 @@ typedef struct utc {
 } utc;
 
 bool is_month_end(int64_t day);
+
+/* The month's end at or before a day. */
+int64_t month_end_before(int64_t day);
 
 /* A bit for each element that is a one, fifty in each word. */
 typedef struct frame {
@@ -30,6 +33,8 @@ typedef struct content {
     utc at;
     int32_t zone;
     bool pending, is_delete, dst;
+    bool turns; /* daylight saving begins or ends at the end of the minute */
+    int32_t offset_more; /* the offset that is sent is so many half hours more than the zone's */
     uint32_t quality;
 } content;
 
@@ -68,6 +73,10 @@ static inline int32_t between(chance *luck, int32_t low, int32_t high) {
 }
 
 static inline bool is_once_in(chance *luck, uint32_t times) { return below(luck, times) == 0; }
+
+/* One of some numbers. */
+#define ONE_OF(luck, ...)                                                                          \
+    ((const int32_t[]){__VA_ARGS__})[below(luck, sizeof((const int32_t[]){__VA_ARGS__}) / 4)]
 
 /* ---- a world */
 
