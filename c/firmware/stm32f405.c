@@ -94,20 +94,42 @@ __attribute__((weak)) uint32_t timer_flags(void) {
     return flags;
 }
 
+/* Changes that were taken from the timer, and are not told yet. */
+typedef struct change {
+    uint8_t line;
+    bool is_high;
+    uint32_t time_us;
+} change;
+enum { MOST_CHANGES = 4 * LINES };
+static change changes[MOST_CHANGES];
+static uint32_t changes_in, changes_out;
+
 /* A channel catches a rise, and then the fall behind it, and so on; so it needs to look at no pin. */
 static void take_capture(uint8_t line) {
     bool is_high = !(TIM2->CCER & CCER_CCXP(line));
-    uint32_t time_us = TIM2->CCR[line];
+    changes[changes_in++ % MOST_CHANGES] = (change){line, is_high, TIM2->CCR[line]};
     TIM2->CCER ^= CCER_CCXP(line);
-    on_capture(line, is_high, time_us);
 }
 
-/* Changes first, as on_compare wants it. */
-static void serve_timer(void) {
+/* Whether the compare has matched; and takes what the channels have caught. */
+static bool take_all(void) {
     uint32_t flags = timer_flags();
     for (uint8_t line = 0; line < LINES; line++)
         if (flags & CCXIF(line)) take_capture(line);
-    if (!(flags & CC4IF) && !is_past) return;
+    return flags & CC4IF;
+}
+
+/* Changes first, as on_compare wants it. From the last fall of a frame to the next rise there are 2 ms, and
+ * by a slow clock it takes as long to tell those of three lines. So behind each one all channels are served
+ * again. */
+static void serve_timer(void) {
+    bool is_due = take_all();
+    while (changes_out != changes_in) {
+        change next = changes[changes_out++ % MOST_CHANGES];
+        on_capture(next.line, next.is_high, next.time_us);
+        is_due |= take_all();
+    }
+    if (!is_due && !is_past) return;
     is_past = false;
     on_compare();
 }
