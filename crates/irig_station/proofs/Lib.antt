@@ -1,6 +1,8 @@
 pub mod SetupLaws
 pub mod CourseTruth
 pub mod PromiseLaws
+pub mod SoonLaws
+pub mod BreakLaws
 pub mod HarmlessLaws
 pub mod StationLaws
 pub mod BeginLaws

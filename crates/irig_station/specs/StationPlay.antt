@@ -1,6 +1,6 @@
 -- What events do with a station, and what is logged of them.
 -- Source: docs/SCENARIOS.md, events; this project's profile.
-use Rattle.std.specs.Prelude.{ℕ, ◌-◌, nat_lt, min, if◌then◌else◌, List, [], ◌∷◌, length, set, slice_index_or, take}
+use Rattle.std.specs.Prelude.{ℕ, ◌-◌, nat_lt, min, if◌then◌else◌, List, [], ◌∷◌, length, set, slice_index_or, take, drop}
 use Rattle.irig_gen.specs.Frames.{GeneratorValue}
 use Rattle.irig_plant.specs.Schedule.{generator_with_fault, generator_without_fault, no_generator}
 use Rattle.irig_wires.specs.declared.wire.Wire.{Wire}
@@ -80,3 +80,7 @@ audit_of_station s ev = (standing_after s ev).audit
 -- what was logged while they were
 abbrev pub vouched_log : StationSetup → List Event → List Entry
 vouched_log s ev = take (standing_after s ev).vouched (standing_after s ev).log
+
+-- and what was logged behind that
+abbrev pub doubtful_log : StationSetup → List Event → List Entry
+doubtful_log s ev = drop (standing_after s ev).vouched (standing_after s ev).log

@@ -8,6 +8,8 @@ use Rattle.irig_simulated.specs.Truth.{IsToldOfItsEdge}
 use Rattle.irig_station.specs.declared.entry.Entry.{Entry}
 use Rattle.irig_station.specs.declared.entry.Entry.TheVariants.{Told, Stamped}
 use Rattle.irig_station.specs.declared.audit.Audit.TheVariants.{Kept}
+use Rattle.irig_station.specs.declared.event.Event.{Event}
+use Rattle.irig_station.specs.declared.event.Event.TheVariants as event
 use Rattle.irig_station.specs.StationSetups.{StationSetup, kind_of_device}
 use Rattle.irig_station.specs.StationStandings.{StationStanding}
 
@@ -41,3 +43,17 @@ pub record LogHasGrown (before now : StationStanding) : Type 0 where
   pub more : List Entry
   pub log : now.log ≡ before.log ++ more
   pub kept : now.audit ≡ Kept → before.audit ≡ Kept
+
+-- ---- a log whose premises broke
+
+-- no stamp is asked for of an instant further back than so many microseconds
+abbrev pub IsAskedWithin : (ago : ℕ) → Event → Type 0
+IsAskedWithin ago (event.Stamp r us) = us ≤ ago
+IsAskedWithin ago e = ⊤
+
+-- what an entry shows that was logged in the second of edge n or later: the second that was told is
+-- of no edge before the last one before that; the instant of a stamp lies no further than so before
+-- edge n
+abbrev pub IsLoggedFrom : (ago n : ℕ) → Entry → Type 0
+IsLoggedFrom ago n (Told r told) = n ≤ told.edge + 1
+IsLoggedFrom ago n (Stamped r time stamp) = n * 1000000 ≤ time + ago

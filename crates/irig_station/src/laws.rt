@@ -4,8 +4,8 @@ ghost use Rattle.std.specs.Prelude.{◌≡◌, ◌∷◌, ◌+◌, ◌*◌, All,
 ghost use Rattle.std.specs.List.{Contains};
 ghost use Rattle.irig_station.specs.StationSetups.{IsStationSetup, StationSetup};
 ghost use Rattle.irig_station.specs.StationAudits.{audit_at_start};
-ghost use Rattle.irig_station.specs.StationPlay.{audit_of_station, log_of_station, standing_after, vouched_log};
-ghost use Rattle.irig_station.specs.StationPromise.{AreStampedTogether, LogHasGrown, IsTrueEntry, drift_of_device};
+ghost use Rattle.irig_station.specs.StationPlay.{audit_of_station, doubtful_log, log_of_station, standing_after, vouched_log};
+ghost use Rattle.irig_station.specs.StationPromise.{AreStampedTogether, IsAskedWithin, IsLoggedFrom, LogHasGrown, IsTrueEntry, drift_of_device};
 
 use crate::audit::Audit;
 use crate::entry::Entry;
@@ -38,4 +38,14 @@ pub fn a_log_of_devices_grows()
     // their settings.
     ensures start { (s : StationSetup) (ev : List Event) → audit_of_station s ev ≡ Audit.Kept
         → audit_at_start s ≡ Audit.Kept }
+{}
+
+/// What was logged since the second of an edge in which the audit broke shows it: a second that was
+/// told is of that edge or a later one, or of the one before, and the instant of a stamp lies no
+/// further before that edge than stamps are asked for. So an entry that shows an earlier edge or
+/// instant was logged while the audit was kept, and so was all above it.
+pub fn a_log_shows_where_it_broke()
+    ensures { (s : StationSetup) (ev : List Event) (ago r n : ℕ) → IsStationSetup s
+        → All (IsAskedWithin ago) ev → audit_of_station s ev ≡ Audit.Broken r n
+        → All (IsLoggedFrom ago n) (doubtful_log s ev) }
 {}

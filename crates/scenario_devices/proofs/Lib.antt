@@ -5,3 +5,4 @@ pub mod ValueLaws
 pub mod VersionLaws
 pub mod StandardFacts
 pub mod SoundStations
+pub mod AskedLaws
