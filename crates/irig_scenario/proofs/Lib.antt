@@ -1,4 +1,5 @@
 pub mod MeaningLaws
 pub mod DeviceLines
+pub mod DeviceReadLaws
 pub mod DeviceLogLaws
 pub mod ScenarioLaws

@@ -1,6 +1,6 @@
 -- A run of a scenario is one of the play that its first line chooses, and tells the truth.
-use Rattle.std.proofs.Common.{◌≡◌, ◌↔◌, ℕ, Bool, true, false, List, [], ◌∷◌, ◌++◌, Option, Some, None, Result, Ok, Err, refl, ap, sym, subst, ◌∙◌, append-nil}
-use Rattle.std.specs.Prelude.{⊤, IfSome}
+use Rattle.std.proofs.Common.{◌≡◌, ◌↔◌, ℕ, Bool, true, false, List, [], ◌++◌, Option, Some, None, Result, Ok, Err, refl, ap, sym, subst, ◌∙◌, append-nil}
+use Rattle.std.specs.Prelude.{IfSome}
 use Rattle.std.specs.Io.KnownBytes.{Appends}
 use Rattle.std.proofs.lemmas.List.{append_cancel_left}
 use Rattle.irig_device.specs.declared.watched.Watched.{Watched}
@@ -13,9 +13,7 @@ use Rattle.report_run.specs.Runs.{AreBytesOf, RunFor}
 use Rattle.report_run.specs.Texts.{whole_text}
 use Rattle.report_either.specs.Alone.{AnswersAs, RanAlone}
 use Rattle.report_either.specs.Sides.{given_as}
-use Rattle.report_either.specs.declared.either.EitherOutcome.{EitherOutcome}
-use Rattle.report_either.specs.declared.either.EitherOutcome.TheVariants.{First, Second}
-use Rattle.irig_scene.specs.declared.outcome.Outcome.{Outcome}
+use Rattle.report_either.specs.declared.either.EitherOutcome.TheVariants.{First}
 use Rattle.irig_scene.specs.LogLines.{OfWritten}
 use Rattle.irig_scene.specs.LogTexts.{log_texts}
 use Rattle.irig_scene.specs.Run.{Ends, RanOn, RanShown}

@@ -8,6 +8,7 @@ use Rattle.report_log.specs.LogLines.{whole_lines}
 use Rattle.report_run.specs.Meanings.{meaning_of}
 use Rattle.report_station.specs.StationText.{station_entry_text}
 use Rattle.irig_station_scene.specs.StationScenes.{StationScene, station_log, station_scenario}
+use Rattle.irig_scenario.specs.StationLogs.{VouchesByStationLine, VouchesUntilBreak}
 
 -- a line is that of an entry of a scene's log, and this is true: a second that is shown is T of its
 -- edge, and begins no further from that than its bound says; a stamp names its instant
@@ -23,8 +24,12 @@ pub record IsTrueDeviceLog (x : List ℕ) (above : List (List ℕ)) : Type 0 whe
   pub means : (meaning_of station_scenario x).scene ≡ Some scene
   pub lines : All (IsTrueDeviceLine scene) above
 
--- a log vouches for itself: if its last whole line is `premises kept`, the lines above are true
-abbrev pub VouchesForDevices : List ℕ → List ℕ → Type 0
-VouchesForDevices x written =
-    (above : List (List ℕ)) → whole_lines written ≡ above ++ codes "premises kept" ∷ []
-    → IsTrueDeviceLog x above
+-- a log vouches for itself
+pub record VouchesForDevices (x written : List ℕ) : Type 0 where
+  -- if its last whole line is `premises kept`, each line above is that of an entry that is true
+  pub entries : (above : List (List ℕ))
+      → whole_lines written ≡ above ++ codes "premises kept" ∷ [] → IsTrueDeviceLog x above
+  -- and what is read from its bytes is true, by the plant line alone, and stamps lie together
+  pub shown : VouchesByStationLine x written
+  -- if that says in which second the premises broke, so are the lines that were logged before
+  pub until : VouchesUntilBreak x written

@@ -1,3 +1,4 @@
+pub mod StationLogs
 pub mod DeviceLogs
 pub mod Scenarios
 pub mod WhyRefused

@@ -55,7 +55,8 @@ pub record RunsScenarioTruly {R W : Type 0} (remaining : R → Bytes) (contents 
       RunsTruly remaining contents shown answer before after old new))
   -- of a plant of devices the log vouches for itself: if the last whole line written is
   -- `premises kept`, each line above shows T of its edge to its bound, or a stamp that names its
-  -- instant
+  -- instant, and stamps of one instant lie together; if it says where the premises broke, so do the
+  -- lines that were logged before
   pub devices : IfSome (left remaining before) (λ x. has_devices x ≡ true
       → OfWritten (written contents old) (written contents new) (VouchesForDevices x))
   -- after Ok or a refusal the log of the events is written, and the last line, and nothing else;

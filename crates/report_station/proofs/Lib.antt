@@ -1,1 +1,3 @@
 pub mod StationLineLaws
+pub mod NumberLaws
+pub mod StationReadLaws

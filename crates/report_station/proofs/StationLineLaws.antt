@@ -1,9 +1,8 @@
 -- The lines of a station's log: one for each entry that is shown, and none of them is a last line.
-use Rattle.std.proofs.Common.{◌≡◌, ◌≢◌, ℕ, zero, suc, ◌-◌, ◌/◌, ◌%◌, ◌<◌, Bool, true, false, ◌||◌, cond, nat_lt, List, [], ◌∷◌, ◌++◌, length, replicate, All, Option, Some, None, refl, ap, sym, subst, ◌∙◌, append_assoc, append-nil, arith, codes}
+use Rattle.std.proofs.Common.{◌≡◌, ◌≢◌, ℕ, zero, suc, ◌-◌, ◌/◌, ◌%◌, Bool, true, false, ◌||◌, cond, nat_lt, List, [], ◌∷◌, ◌++◌, length, replicate, Option, Some, None, refl, ap, sym, ◌∙◌, append_assoc, arith, codes}
 use Rattle.std.specs.Prelude.{is_some}
-use Rattle.std.specs.List.{AllByRecursion, Contains, flat_map}
+use Rattle.std.specs.List.{flat_map}
 use Rattle.std.specs.Fmt.{decimal}
-use Rattle.std.proofs.lemmas.List.Elements.{All-nil, All-cons, All-weaker}
 use Rattle.irig_time.specs.declared.second.UtcSecond.{UtcSecond}
 use Rattle.irig_time.specs.TextValues.{second_text}
 use Rattle.irig_timekeeper.specs.declared.stamp.Stamp.{Stamp}
@@ -13,17 +12,17 @@ use Rattle.irig_station.specs.declared.entry.Entry.TheVariants.{Told, Stamped}
 use Rattle.report_log.specs.Text.{cause_text, lock_text, name_at, time_shown_text}
 use Rattle.report_log.specs.LogLines.{whole_lines}
 use Rattle.report_log.proofs.WordLaws.{IsWord, IsNumber, AreNames, words_join, word_by_test, decimal_number, decimal_word, second_word, lock_word, cause_word, name_is_word}
-use Rattle.report_log.proofs.LogLaws.{NoNewline, all_join, line_with, whole_along, word_line}
+use Rattle.report_log.proofs.LogLaws.{NoNewline, line_with, whole_along, word_line}
 use Rattle.report_log.proofs.LastLines.{literal_line}
-use Rattle.report_station.specs.StationText.{bound_text, instant_text, off_text, six_digits, stamp_text, stamped_text, station_entry_text, station_text, told_if_shown, told_text}
+use Rattle.report_station.specs.StationText.{bound_text, instant_text, off_text, six_digits, stamp_text, stamped_text, station_entry_text, station_text, told_text}
 
 -- ---- words
 
-time_is_word : (o : Option UtcSecond) → IsWord (time_shown_text o)
+pub time_is_word : (o : Option UtcSecond) → IsWord (time_shown_text o)
 time_is_word None = word_by_test (codes "-") refl
 time_is_word (Some u) = second_word u
 
-off_word : (count other : ℕ) → IsWord (off_text count other)
+pub off_word : (count other : ℕ) → IsWord (off_text count other)
 off_word count other = elim (nat_lt count other) as (λ b. IsWord (cond b (codes "-" ++ decimal (other - count)) (codes "+" ++ decimal (count - other)))) [
   | true ↦ words_join (codes "-") _ (word_by_test (codes "-") refl) (decimal_word (other - count))
   | false ↦ words_join (codes "+") _ (word_by_test (codes "+") refl) (decimal_word (count - other))
@@ -40,7 +39,7 @@ zeros_word (suc n) = (omega arith, zeros_word n)
 six_word : (n : ℕ) → IsWord (six_digits n)
 six_word n = words_join (replicate (6 - length (decimal n)) 48) (decimal n) (zeros_word (6 - length (decimal n))) (decimal_word n)
 
-instant_word : (time : ℕ) → IsWord (instant_text time)
+pub instant_word : (time : ℕ) → IsWord (instant_text time)
 instant_word time =
     words_join (decimal (time / 1000000)) _ (decimal_word (time / 1000000))
     (words_join (codes ".") _ (word_by_test (codes ".") refl) (six_word (time % 1000000)))
