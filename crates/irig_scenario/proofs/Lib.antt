@@ -3,3 +3,4 @@ pub mod DeviceLines
 pub mod DeviceReadLaws
 pub mod DeviceLogLaws
 pub mod ScenarioLaws
+pub mod ListenLaws

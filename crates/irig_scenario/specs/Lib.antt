@@ -1,3 +1,4 @@
+pub mod AnyScenario
 pub mod StationLogs
 pub mod DeviceLogs
 pub mod Scenarios

@@ -2,9 +2,11 @@
 #![tactic(auto)]
 
 mod laws;
+mod listen;
 mod refused;
 mod run;
 
 pub use laws::device_lines_read_one_way;
+pub use listen::{ScenarioOutcome, ScenarioRun, listen_to_scenario};
 pub use refused::WhyRefused;
-pub use run::{ScenarioOutcome, run_scenario};
+pub use run::run_scenario;

@@ -1,27 +1,17 @@
-//! A scenario from its first line to its last.
+//! The log of a scenario, from its first line to its last.
 
 ghost use Rattle.std.specs.Prelude.{◌≡◌, false};
 ghost use Rattle.irig_device.specs.Watched.{has_failed};
 ghost use Rattle.irig_scenario.specs.Scenarios.{RunsScenarioTruly};
-ghost use Rattle.irig_scenario.specs.WhyRefused.{IsExplainedAs, explained_by};
+ghost use Rattle.irig_scenario.specs.WhyRefused.{IsExplainedAs};
 
+use crate::listen::{ScenarioOutcome, ScenarioRun, listen_to_scenario};
 use crate::refused::WhyRefused;
 use irig_device::Watched;
-use irig_port::FlowPort;
-use irig_scene::{Log, Outcome, Player, RefusedLine, SceneFault, Shown};
-use irig_station_scene::{StationOutcome, StationPlayer};
-use report_either::{Either, EitherOutcome};
-use report_run::{LinesRun, run_lines};
-use scenario_devices::is_station_line;
+use irig_scene::{Log, SceneFault, Shown};
+use irig_station_scene::StationLog;
 use std::alloc::Global;
 use std::io::{BufRead, Write};
-use text_faults::Refusal;
-
-/// How a run without a refusal ends: of a plant of readers, or of one of devices.
-pub type ScenarioOutcome = EitherOutcome<Outcome, StationOutcome>;
-
-// What plays a scenario: its first line says which.
-type AnyPlayer = Either<Player<Log, FlowPort>, StationPlayer<FlowPort>>;
 
 /// Runs the lines of the input, and writes what each gives before the next is read. The version of
 /// the first line that is not blank says whether its plant has readers or devices.
@@ -43,39 +33,13 @@ pub fn run_scenario<R: BufRead, W: Write>(
         input.old input.new output.old output.new }
     ensures refused { IsExplainedAs result refused.old refused.new }
 {
-    let LinesRun {
+    let ScenarioRun {
         answer,
-        player,
-        line,
+        refused: explained,
         ..
-    } = run_lines::<AnyPlayer, R, W>(alloc, shown, input, output);
-    if let Err(SceneFault::Refused { refusal, .. }) = answer {
-        *refused = Some(why_refused(alloc, refusal, line, player));
+    } = listen_to_scenario::<Log, StationLog, R, W>(alloc, shown, input, output);
+    if explained.is_some() {
+        *refused = explained;
     }
     answer
-}
-
-// What explains the refusal of a line at which this player stood, none before the first line.
-fn why_refused(
-    alloc: Global,
-    refusal: Refusal,
-    line: Vec<u8>,
-    player: Option<AnyPlayer>,
-) -> WhyRefused
-    ensures { explained_by result ≡ refusal }
-{
-    match player {
-        Some(Either::First(player)) => {
-            let (_, explained) = player.end(alloc, Some(refusal), line);
-            match explained {
-                Some(line) => WhyRefused::Line(line),
-                None => WhyRefused::Cause(refusal),
-            }
-        }
-        Some(Either::Second(_)) => WhyRefused::Cause(refusal),
-        None => match is_station_line(alloc, line.as_slice()) {
-            Ok(false) => WhyRefused::Line(RefusedLine::before_plant(alloc, refusal, line)),
-            _ => WhyRefused::Cause(refusal),
-        },
-    }
 }

@@ -10,3 +10,4 @@ pub mod PassLaws
 pub mod GrowthLaws
 pub mod StationFacts
 pub mod UtcEntries
+pub mod DeviceEntries

@@ -1,9 +1,10 @@
 -- What a station is made of.
 -- Source: docs/SCENARIOS.md; this project's profile.
-use Rattle.std.specs.Prelude.{ℕ, false, All, List, [], length, slice_get, Option, Some, None}
+use Rattle.std.specs.Prelude.{ℕ, ◌-◌, ◌==◌, if◌then◌else◌, false, All, List, [], length, slice_get, Option, Some, None}
 use Rattle.irig_time.specs.declared.rules.Rules.{Rules}
 use Rattle.irig_time.specs.Tables.{table}
-use Rattle.irig_time.specs.Timelines.{TimelineValue}
+use Rattle.irig_time.specs.declared.claim.Claim.{Claim}
+use Rattle.irig_time.specs.Timelines.{TimelineValue, truth_at}
 use Rattle.irig_time.specs.TimelineFaults.{IsTimeline}
 use Rattle.irig_gen.specs.Frames.{GeneratorValue}
 use Rattle.irig_vote.specs.declared.redundancy.Redundancy.{Redundancy}
@@ -30,6 +31,11 @@ station_setup times generators rules devices =
 -- each device has a line from each generator
 abbrev pub redundancy_of_station : StationSetup → Redundancy
 redundancy_of_station s = redundancy_of (length s.generators)
+
+-- what a line tells at an edge of a true frame: the claim of the second that ended there; none at
+-- edge 0, and where the timeline has no such second
+abbrev pub truth_before : StationSetup → (edge : ℕ) → Option Claim
+truth_before s edge = if edge == 0 then None else truth_at s.times (edge - 1)
 
 -- what stands for a device past the last one; no event that is accepted names it
 abbrev pub no_kind : Rules → Redundancy → Kind

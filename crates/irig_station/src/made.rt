@@ -2,7 +2,7 @@
 
 ghost use Rattle.std.specs.Prelude.{◌≡◌, ℕ, All, drop, length, IfErr, IfOk};
 ghost use Rattle.irig_plant.specs.History.{AreGenerators};
-ghost use Rattle.irig_station.specs.StationSetups.{StationSetup, station_setup};
+ghost use Rattle.irig_station.specs.StationSetups.{StationSetup, redundancy_of_station, station_setup, truth_before};
 ghost use Rattle.irig_station.specs.StationStandings.{StationStanding, station_at_start};
 ghost use Rattle.irig_station.specs.Stations.{AreDevices, AreNewDevices, IsStationAt};
 ghost use Rattle.irig_station.specs.ValidEntries.{IsValidEntry};
@@ -15,7 +15,7 @@ use crate::station::Station;
 use irig_gen::Generator;
 use irig_port::Port;
 use irig_simulated::{DeviceSetup, Second, Simulated};
-use irig_time::{Rules, Timeline};
+use irig_time::{Claim, Rules, Timeline};
 use irig_vote::Redundancy;
 use std::alloc::{AllocError, Global};
 
@@ -107,5 +107,28 @@ impl<P: Port> Station<P> {
             → IsStationAt self.now s x shown → result ≡ x.audit }
     {
         self.audit
+    }
+
+    /// How many lines each device has.
+    pub fn redundancy(&self) -> Redundancy
+        ensures { (s : StationSetup) (x : StationStanding) (shown : ℕ)
+            → IsStationAt self.now s x shown → result ≡ redundancy_of_station s }
+    {
+        match self.generators.len() {
+            3 => Redundancy::Three,
+            _ => Redundancy::Five,
+        }
+    }
+
+    /// What a line tells at an edge of a true frame: the claim of the second that ended there. None
+    /// at edge 0, and where the timeline has no such second.
+    pub fn truth(&self, edge: u64) -> Option<Claim>
+        ensures { (s : StationSetup) (x : StationStanding) (shown : ℕ)
+            → IsStationAt self.now s x shown → result ≡ truth_before s edge }
+    {
+        match edge.checked_sub(1) {
+            Some(number) => self.timeline.truth(number),
+            None => None,
+        }
     }
 }

@@ -1,4 +1,6 @@
 pub mod StationScenes
 pub mod StationTexts
 pub mod StationStays
+pub mod StationListening
 pub mod StationRuns
+pub mod StationHeard

@@ -13,32 +13,34 @@ use Rattle.irig_station_scene.specs.StationScenes.{StationScene, event_in_scene,
 
 -- ---- a player
 
--- it stands as a scene leaves it, and has let go so many entries of its log
-pub record IsStationPlayerPast {P : Type 0} {g : Ghosts P} (shown : ℕ) (p : StationPlayer P g)
+-- its station stands as a scene leaves it, and has let go so many entries of its log
+pub record IsStationPlayerPast {L P : Type 0} {g : Ghosts P} (shown : ℕ) (p : StationPlayer L P g)
     (x : StationScene) : Type 0 where
   pub station : IsStationAt p.station x.plan.setup (standing_in x) shown
   pub named : texts_of p.names.keys ≡ x.plan.names
 
--- it stands as a scene leaves it; entries that were written may stand until the next event
-pub record IsStationPlayerAt {P : Type 0} {g : Ghosts P} (p : StationPlayer P g)
-    (x : StationScene) : Type 0 where
+-- it stands as a scene leaves it, and so does its listener; entries that were said may stand until
+-- the next event
+pub record IsStationPlayerAt {L P : Type 0} {g : Ghosts P} (stands_for : L → StationScene → Type 0)
+    (p : StationPlayer L P g) (x : StationScene) : Type 0 where
   pub shown : ℕ
   pub stands : IsStationPlayerPast shown p x
+  pub listener : stands_for p.listener x
 
 -- it has played an event, with this refusal, if it was refused, and only the entries of that event
 -- stand; or something failed
-abbrev pub HasPlayedEvent : {P : Type 0} {g : Ghosts P} → Result (Option Refusal) Failure
-    → StationScene → Event → StationPlayer P g → Type 0
+abbrev pub HasPlayedEvent : {L P : Type 0} {g : Ghosts P} → Result (Option Refusal) Failure
+    → StationScene → Event → StationPlayer L P g → Type 0
 HasPlayedEvent (Ok refusal) x e p =
     ((event_in_scene x e).refusal ≡ refusal)
     × IsStationPlayerPast (length (station_log x)) p (event_in_scene x e).scene
 HasPlayedEvent (Err failure) x e p = ⊤
 
 -- so whatever scene it is of
-abbrev pub PlaysEventOf : {P : Type 0} {g : Ghosts P} → StationPlayer P g → Event
-    → Result (Option Refusal) Failure → StationPlayer P g → Type 0
+abbrev pub PlaysEventOf : {L P : Type 0} {g : Ghosts P} → StationPlayer L P g → Event
+    → Result (Option Refusal) Failure → StationPlayer L P g → Type 0
 PlaysEventOf old e result new =
-    (x : StationScene) → IsStationPlayerAt old x → HasPlayedEvent result x e new
+    (x : StationScene) (shown : ℕ) → IsStationPlayerPast shown old x → HasPlayedEvent result x e new
 
 -- ---- the whole run
 

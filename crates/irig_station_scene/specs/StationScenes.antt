@@ -1,6 +1,6 @@
 -- What a scenario with devices means: the station and the events that its lines give.
 -- Source: docs/SCENARIOS.md, a plant of devices.
-use Rattle.std.specs.Prelude.{ℕ, List, [], ◌∷◌, length, Option, Some, None, option_and_then, Result, Ok, Err}
+use Rattle.std.specs.Prelude.{ℕ, List, [], ◌∷◌, length, reverse, Option, Some, None, option_and_then, Result, Ok, Err}
 use Rattle.text_faults.specs.declared.refusal.Refusal.{Refusal}
 use Rattle.text_faults.specs.declared.refusal.Refusal.TheVariants as refusal
 use Rattle.irig_station.specs.declared.audit.Audit.{Audit}
@@ -30,6 +30,10 @@ standing_in x = standing_after x.plan.setup x.events
 -- what is logged of a scene, the oldest entry first
 abbrev pub station_log : StationScene → List Entry
 station_log x = log_of_station x.plan.setup x.events
+
+-- the newest entry first
+abbrev pub newest_first : StationScene → List Entry
+newest_first x = reverse (station_log x)
 
 -- how many entries that is
 abbrev pub station_entries : StationScene → ℕ

@@ -1,6 +1,6 @@
 -- What is said of a scene stays, whatever a further line does. It is a proof, not a definition:
 -- that of a trait's law has to stand here.
-use Rattle.std.proofs.Common.{◌≡◌, ℕ, Bool, List, [], ◌++◌, Result, Ok, Err, sym, ap, ◌∙◌, append-nil}
+use Rattle.std.proofs.Common.{◌≡◌, ℕ, Bool, List, [], ◌++◌, Result, Ok, Err, refl, sym, ap, ◌∙◌, append-nil}
 use Rattle.std.proofs.lemmas.Grind.{flat_map-append}
 use Rattle.text_faults.specs.declared.refusal.Refusal.{Refusal}
 use Rattle.irig_station.specs.declared.event.Event.{Event}
@@ -9,7 +9,7 @@ use Rattle.scenario_devices.specs.StationEvents.{event_in_station_line}
 use Rattle.report_station.specs.StationText.{station_entry_text, station_text}
 use Rattle.report_run.specs.Texts.{Stays}
 use Rattle.irig_station_scene.specs.StationScenes.{StationScene, event_in_scene, next_in_scene, standing_in, station_log, station_scenario}
-use Rattle.irig_station_scene.specs.StationTexts.{log_in_scene, station_texts}
+use Rattle.irig_station_scene.specs.StationTexts.{log_in_scene, quiet_texts, station_texts}
 
 -- the text of one scene is in front of that of another
 pub record LogFront (all : Bool) (from to : StationScene) : Type 0 where
@@ -37,3 +37,7 @@ pub station_said_stays : (all : Bool) → Stays station_scenario (station_texts 
 station_said_stays all x line =
     let front = front_of_next all x (event_in_station_line x.plan.names line) in
     (front.text, front.more)
+
+-- nothing said stays
+pub quiet_stays : Stays station_scenario quiet_texts
+quiet_stays x line = ([], refl)

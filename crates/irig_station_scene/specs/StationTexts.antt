@@ -21,3 +21,12 @@ station_texts all = record {
   closing = λ x. [];
   end = verdict_in_scene;
 }
+
+-- of a listener that says nothing
+abbrev pub quiet_texts : Texts StationScene
+quiet_texts = record {
+  first = λ line. [];
+  said = λ x. [];
+  closing = λ x. [];
+  end = λ x. [];
+}

@@ -1,10 +1,16 @@
-//! Scenarios with devices: the text of a station and of what happens in it, line by line, to the
-//! text of its log.
+//! Scenarios with devices: the text of a station and of what happens in it, line by line, to what a
+//! listener says of it, which is the log unless another is asked.
 #![tactic(auto)]
 
+mod listener;
+mod log;
 mod outcome;
 mod play;
 mod player;
+mod run;
 
+pub use listener::StationListener;
+pub use log::StationLog;
 pub use outcome::StationOutcome;
 pub use player::StationPlayer;
+pub use run::{StationRun, listen_to_station};

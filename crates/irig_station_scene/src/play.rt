@@ -1,25 +1,23 @@
-//! A station and the names of its devices, as they play the lines of a scenario.
+//! A station and its listener, as they play the lines of a scenario.
 
 ghost use Rattle.std.specs.Prelude.{false};
 ghost use Rattle.scenario_devices.specs.StationLine.{is_station_line};
 ghost use Rattle.irig_station_scene.specs.StationRuns.{IsStationPlayerAt, StationEnds};
 ghost use Rattle.irig_station_scene.specs.StationScenes.{StationScene, station_entries, station_scenario};
-ghost use Rattle.irig_station_scene.specs.StationStays.{station_said_stays};
-ghost use Rattle.irig_station_scene.specs.StationTexts.{station_texts};
 
+use crate::listener::StationListener;
 use crate::outcome::StationOutcome;
 use crate::player::StationPlayer;
 use irig_device::Watched;
 use irig_port::Port;
 use report_either::Chosen;
-use report_log::Shown;
-use report_run::{Failure, Play, Stop};
+use report_run::{Failure, Play, Stop, write_text};
 use scenario_devices::{is_station_line, station_of_line};
 use std::alloc::{AllocError, Global};
 use std::io::Write;
 
-impl<P: Port> Play for StationPlayer<P> {
-    type Asked = Shown;
+impl<L: StationListener, P: Port> Play for StationPlayer<L, P> {
+    type Asked = L::Asked;
 
     type Outcome = StationOutcome;
 
@@ -27,9 +25,9 @@ impl<P: Port> Play for StationPlayer<P> {
 
     ghost language = { station_scenario };
 
-    ghost texts = { λ shown. station_texts shown.all };
+    ghost texts = { L.texts };
 
-    ghost stands_for = { λ shown. IsStationPlayerAt };
+    ghost stands_for = { λ asked. IsStationPlayerAt (L.stands_for asked) };
 
     ghost ends = { StationEnds };
 
@@ -37,7 +35,7 @@ impl<P: Port> Play for StationPlayer<P> {
 
     ghost counts = { false };
 
-    ghost stays = { λ shown. station_said_stays shown.all };
+    ghost stays = { L.stays };
 
     fn counts() -> bool {
         false
@@ -49,25 +47,26 @@ impl<P: Port> Play for StationPlayer<P> {
 
     fn begin<W: Write>(
         alloc: Global,
-        _shown: Shown,
+        asked: L::Asked,
         line: &[u8],
         _output: &mut Watched<W>,
     ) -> Result<Self, Stop> {
         let station = station_of_line(alloc, line)?;
-        let player = StationPlayer::new(alloc, station)?;
+        let player = StationPlayer::new(alloc, asked, station)?;
         Ok(player)
     }
 
     fn take<W: Write>(
         &mut self,
         alloc: Global,
-        shown: Shown,
+        asked: L::Asked,
         line: &[u8],
         output: &mut Watched<W>,
     ) -> Result<(), Stop> {
         let event = self.event_of_line(alloc, line)?;
         let refusal = self.play(&event)?;
-        self.write_log(alloc, shown.all, output)?;
+        let text = self.hear(alloc, asked)?;
+        write_text(output, text.as_str())?;
         match refusal {
             None => Ok(()),
             Some(refusal) => Err(Stop::Refused(refusal)),
@@ -77,11 +76,11 @@ impl<P: Port> Play for StationPlayer<P> {
     fn write_last<W: Write>(
         &self,
         alloc: Global,
-        _shown: Shown,
+        asked: L::Asked,
         refused: bool,
         output: &mut Watched<W>,
     ) -> Result<(), Failure> {
-        self.write_end(alloc, refused, output)
+        self.write_end(alloc, asked, refused, output)
     }
 
     fn outcome(&self, lines: u64) -> StationOutcome {
@@ -92,7 +91,7 @@ impl<P: Port> Play for StationPlayer<P> {
     }
 }
 
-impl<P: Port> Chosen for StationPlayer<P> {
+impl<L: StationListener, P: Port> Chosen for StationPlayer<L, P> {
     ghost is_chosen = { is_station_line };
 
     fn is_chosen(alloc: Global, line: &[u8]) -> Result<bool, AllocError> {

@@ -1,49 +1,56 @@
-//! A station that plays the events of lines, and writes what is logged of them.
+//! A station that plays the events of lines, and its listener.
 
 ghost use Rattle.std.specs.Prelude.{◌≡◌, ◌≤◌, length};
 ghost use Rattle.irig_station_scene.specs.StationScenes.{refusal_of_fault};
 
+use crate::listener::StationListener;
 use indexmap::IndexSet;
 use irig_device::Watched;
 use irig_port::Port;
 use irig_station::{Audit, Event, Station, StationFault};
 use report_run::{Failure, write_text};
-use report_station::{push_station_audit, push_station_entries};
 use scenario_devices::{BuiltStation, event_of_station_line};
 use std::alloc::Global;
 use std::io::Write;
 use text_faults::{LineFault, Refusal};
 
-/// A station, and the names of its devices.
+/// A station, the names of its devices, and who listens to it.
 #[derive(Drop)]
-pub struct StationPlayer<P: Port> {
+pub struct StationPlayer<L, P: Port> {
+    listener: L,
     station: Station<P>,
     names: IndexSet<String>,
     ghost few: { length names.keys ≤ 16 },
 }
 
-impl<P: Port> StationPlayer<P> {
-    ghost use Rattle.std.specs.Prelude.{◌||◌, [], drop, ℕ, Bool, IfErr, IfOk, vec_len};
+impl<L: StationListener, P: Port> StationPlayer<L, P> {
+    ghost use Rattle.std.specs.Prelude.{◌||◌, ◌++◌, [], ℕ, List, IfErr, IfOk, OnOk, string_bytes, vec_len};
     ghost use Rattle.irig_device.specs.Watched.{device_of, has_failed};
     ghost use Rattle.irig_plant.specs.History.{AreGenerators};
+    ghost use Rattle.irig_station.specs.declared.event.Event.{Event as EventOf};
     ghost use Rattle.text_faults.specs.Refusals.{IsUnlessMemory};
     ghost use Rattle.scenario_devices.specs.StationEvents.{event_in_station_line};
-    ghost use Rattle.scenario_devices.specs.StationLine.{HasDevices, station_of};
+    ghost use Rattle.scenario_devices.specs.StationLine.{HasDevices, StationPlan, station_of};
     ghost use Rattle.report_run.specs.declared.stop.Failure.TheVariants.{Memory};
     ghost use Rattle.report_run.specs.Faults.{WroteText, failed_write};
     ghost use Rattle.report_run.specs.Texts.{last_of};
-    ghost use Rattle.report_station.specs.StationText.{station_text};
-    ghost use Rattle.irig_station_scene.specs.StationScenes.{StationScene, station_audit, station_log, station_scene};
-    ghost use Rattle.irig_station_scene.specs.StationTexts.{station_texts};
+    ghost use Rattle.irig_station_scene.specs.StationScenes.{StationScene, event_in_scene, station_audit, station_log, station_scene};
     ghost use Rattle.irig_station_scene.specs.StationRuns.{IsStationPlayerAt, IsStationPlayerPast, PlaysEventOf};
 
     /// The player of a station to which nothing has happened.
-    pub(crate) fn new(alloc: Global, line: BuiltStation) -> Result<StationPlayer<P>, Failure>
+    pub(crate) fn new(
+        alloc: Global,
+        asked: L::Asked,
+        line: BuiltStation,
+    ) -> Result<StationPlayer<L, P>, Failure>
         requires generators { AreGenerators line.rules line.generators.items }
         requires devices { HasDevices line }
         requires names { length line.names.keys ≡ vec_len line.devices }
         ensures stands { IfOk result (λ player.
-            IsStationPlayerAt player (station_scene (station_of line) [])) }
+            IsStationPlayerAt (L.stands_for asked) player (station_scene (station_of line) [])) }
+        ensures quiet { OnOk result ((plan : StationPlan)
+            → (L.texts asked).said (station_scene plan []) ≡ []) }
+        ensures first { OnOk result ((line : List ℕ) → (L.texts asked).first line ≡ []) }
         ensures memory { IfErr result (λ failure. failure ≡ Memory) }
     {
         let BuiltStation {
@@ -53,15 +60,24 @@ impl<P: Port> StationPlayer<P> {
             devices,
             names,
         } = line;
+        let lines = generators.len() as u8;
+        let Ok(listener) = L::new(alloc, asked, &names, lines) else {
+            return Err(Failure::Memory);
+        };
         match Station::new(alloc, timeline, generators, rules, &devices) {
-            Ok(station) => Ok(StationPlayer { station, names }),
+            Ok(station) => Ok(StationPlayer {
+                listener,
+                station,
+                names,
+            }),
             Err(_) => Err(Failure::Memory),
         }
     }
 
     /// What a line after the plant line says.
     pub(crate) fn event_of_line(&self, alloc: Global, line: &[u8]) -> Result<Event, LineFault>
-        ensures { (x : StationScene) → IsStationPlayerAt self.now x
+        ensures { (asked : L.Asked) (x : StationScene)
+            → IsStationPlayerAt (L.stands_for asked) self.now x
             → IsUnlessMemory (λ e. e) (event_in_station_line x.plan.names line.now) result }
     {
         event_of_station_line(alloc, &self.names, line)
@@ -71,6 +87,7 @@ impl<P: Port> StationPlayer<P> {
     /// was refused. `Memory` if there was none.
     pub(crate) fn play(&mut self, event: &Event) -> Result<Option<Refusal>, Failure>
         ensures plays { PlaysEventOf self.old event.now result self.new }
+        ensures listener { self.new.listener ≡ self.old.listener }
         ensures memory { IfErr result (λ failure. failure ≡ Memory) }
     {
         self.station.clear_log();
@@ -83,44 +100,51 @@ impl<P: Port> StationPlayer<P> {
         }
     }
 
-    /// Writes the entries that stand in the log.
-    pub(crate) fn write_log<W: Write>(
-        &self,
-        alloc: Global,
-        all: bool,
-        output: &mut Watched<W>,
-    ) -> Result<(), Failure>
-        ensures wrote { (x : StationScene) (shown : ℕ) → IsStationPlayerPast shown self.now x
-            → WroteText result
-            (W.contents (device_of output.old)) (W.contents (device_of output.new))
-            (station_text x.plan.names all (drop shown (station_log x))) }
-        ensures note { has_failed output.new ≡ (has_failed output.old || failed_write result) }
+    /// What is said of an event that was played, whose entries stand in the log. `Memory` if there
+    /// was none.
+    pub(crate) fn hear(&mut self, alloc: Global, asked: L::Asked) -> Result<String, Failure>
+        ensures said { IfOk result (λ text. (x : StationScene) (e : EventOf)
+            → L.stands_for asked self.old.listener x
+            → IsStationPlayerPast (length (station_log x)) self.old (event_in_scene x e).scene
+            → (L.texts asked).said (event_in_scene x e).scene
+            ≡ (L.texts asked).said x ++ string_bytes text) }
+        ensures stands { OnOk result ((x : StationScene) (e : EventOf)
+            → L.stands_for asked self.old.listener x
+            → IsStationPlayerPast (length (station_log x)) self.old (event_in_scene x e).scene
+            → IsStationPlayerAt (L.stands_for asked) self.new (event_in_scene x e).scene) }
+        ensures memory { IfErr result (λ failure. failure ≡ Memory) }
     {
         let mut text = String::new(alloc);
-        if push_station_entries(&mut text, &self.names, self.station.log(), all).is_err() {
-            return Err(Failure::Memory);
+        let entries = self.station.log();
+        match self
+            .listener
+            .push_event(asked, &self.station, &self.names, entries, &mut text)
+        {
+            Ok(()) => Ok(text),
+            Err(_) => Err(Failure::Memory),
         }
-        write_text(output, text.as_str())
     }
 
-    /// Writes what comes last: nothing if a line is refused, and else whether the premises held.
+    /// Writes what comes last: what is open, if a line is refused, and else what ends the text.
     pub(crate) fn write_end<W: Write>(
         &self,
         alloc: Global,
+        asked: L::Asked,
         refused: bool,
         output: &mut Watched<W>,
     ) -> Result<(), Failure>
-        ensures wrote { (all : Bool) (x : StationScene) → IsStationPlayerAt self.now x
+        ensures wrote { (x : StationScene) → IsStationPlayerAt (L.stands_for asked) self.now x
             → WroteText result
             (W.contents (device_of output.old)) (W.contents (device_of output.new))
-            (last_of (station_texts all) refused x) }
+            (last_of (L.texts asked) refused x) }
         ensures note { has_failed output.new ≡ (has_failed output.old || failed_write result) }
     {
-        if refused {
-            return Ok(());
-        }
         let mut text = String::new(alloc);
-        if push_station_audit(&mut text, &self.names, self.station.audit()).is_err() {
+        if self
+            .listener
+            .push_last(asked, &self.station, &self.names, refused, &mut text)
+            .is_err()
+        {
             return Err(Failure::Memory);
         }
         write_text(output, text.as_str())
@@ -128,9 +152,17 @@ impl<P: Port> StationPlayer<P> {
 
     /// The audit so far.
     pub(crate) fn audit(&self) -> Audit
-        ensures { (x : StationScene) → IsStationPlayerAt self.now x → result ≡ station_audit x }
+        ensures { (asked : L.Asked) (x : StationScene)
+            → IsStationPlayerAt (L.stands_for asked) self.now x → result ≡ station_audit x }
     {
         self.station.audit()
+    }
+
+    /// Who listened.
+    pub fn into_listener(self) -> L
+        ensures { result ≡ self.listener }
+    {
+        self.listener
     }
 }
 

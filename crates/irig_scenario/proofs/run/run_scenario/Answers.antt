@@ -10,18 +10,18 @@ use Rattle.irig_station_scene.specs.StationTexts.{station_texts}
 use Rattle.irig_scenario.proofs.ScenarioLaws.{ran_scenario, runs_scenario_truly}
 use Rattle.irig_scenario.proofs.run.run_scenario.Goals as goal
 
-pub returns-in-Err-Refused-clause-runs : goal.returns-in-Err-Refused-clause-runs
-returns-in-Err-Refused-clause-runs g c =
+pub returns-then-is_some-clause-runs : goal.returns-then-is_some-clause-runs
+returns-then-is_some-clause-runs g c =
     let shown = c.args.shown in
-    let run = c.run_lines-answer.ensures in
+    let run = c.listen_to_scenario-answer.ensures in
     runs_scenario_truly _ _ shown _ _ _ _ _ run.read run.write
     (ran_scenario shown _ _ _ _ _
-    (either_runs_alone is_station_line scenario station_scenario (of_scenes (log_texts shown)) (station_texts shown.all) Ends StationEnds _ _ _ _ _ _ _ _ _ _ run.ran))
+    (either_runs_alone is_station_line scenario station_scenario (of_scenes (log_texts shown)) (station_texts shown.all) Ends StationEnds _ _ _ _ _ _ _ _ _ _ run.heard.ran))
 
-pub returns-in_default-clause-runs : goal.returns-in_default-clause-runs
-returns-in_default-clause-runs g c =
+pub returns-else-is_some-clause-runs : goal.returns-else-is_some-clause-runs
+returns-else-is_some-clause-runs g c =
     let shown = c.args.shown in
-    let run = c.run_lines-answer.ensures in
+    let run = c.listen_to_scenario-answer.ensures in
     runs_scenario_truly _ _ shown _ _ _ _ _ run.read run.write
     (ran_scenario shown _ _ _ _ _
-    (either_runs_alone is_station_line scenario station_scenario (of_scenes (log_texts shown)) (station_texts shown.all) Ends StationEnds _ _ _ _ _ _ _ _ _ _ run.ran))
+    (either_runs_alone is_station_line scenario station_scenario (of_scenes (log_texts shown)) (station_texts shown.all) Ends StationEnds _ _ _ _ _ _ _ _ _ _ run.heard.ran))

@@ -1,0 +1,61 @@
+//! The log, as a listener.
+
+use crate::listener::StationListener;
+use indexmap::IndexSet;
+use irig_port::Port;
+use irig_station::{Entry, Station};
+use report_log::Shown;
+use report_station::{push_station_audit, push_station_entries};
+use std::alloc::{AllocError, Global};
+
+/// Writes the line of each entry, and at the end whether the premises held.
+#[derive(Drop)]
+pub struct StationLog {}
+
+impl StationListener for StationLog {
+    ghost use Rattle.std.specs.Prelude.{⊤};
+    ghost use Rattle.irig_station_scene.specs.StationStays.{station_said_stays};
+    ghost use Rattle.irig_station_scene.specs.StationTexts.{station_texts};
+
+    type Asked = Shown;
+
+    ghost texts = { λ shown. station_texts shown.all };
+
+    ghost stands_for = { λ shown log x. ⊤ };
+
+    ghost stays = { λ shown. station_said_stays shown.all };
+
+    fn new(
+        _alloc: Global,
+        _shown: Shown,
+        _names: &IndexSet<String>,
+        _lines: u8,
+    ) -> Result<StationLog, AllocError> {
+        Ok(StationLog {})
+    }
+
+    fn push_event<P: Port>(
+        &mut self,
+        shown: Shown,
+        _station: &Station<P>,
+        names: &IndexSet<String>,
+        entries: &[Entry],
+        text: &mut String,
+    ) -> Result<(), AllocError> {
+        push_station_entries(text, names, entries, shown.all)
+    }
+
+    fn push_last<P: Port>(
+        &self,
+        _shown: Shown,
+        station: &Station<P>,
+        names: &IndexSet<String>,
+        refused: bool,
+        text: &mut String,
+    ) -> Result<(), AllocError> {
+        if refused {
+            return Ok(());
+        }
+        push_station_audit(text, names, station.audit())
+    }
+}
