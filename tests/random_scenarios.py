@@ -124,52 +124,6 @@ def random_event(chance: Random, generators: int, readers: list[str]) -> dict:
     ))  # fmt: skip
 
 
-# ---- plants of devices
-
-
-def random_device(chance: Random, name: str, lines: int, leaps: list[dict]) -> dict:
-    """A device, whose counter seldom drifts by more than it says, whose lines are seldom too late, and whose table may
-    lack a leap."""
-    drift, table = chance.choice((0, 1, 10, 40, 100)), random_reader(chance, name, LAST_DAY, leaps).get("table")
-    device = {
-        "name": name, "lock_after": chance.choice((1, 1, 2, 3)), "holdover": chance.choice((0, 1, 9, 57, 58, 999)),
-        "drift": drift, "gain": chance.choice((0, drift, -drift, drift // 2, chance.randint(-drift, drift + 1))),
-        "counter": chance.choice((0, 1, 4_290_000_000, 2**32 - 1, chance.randrange(2**32))),
-        "late": [chance.choice((0, 0, 100, 350, 449, 450, chance.randrange(2000))) for _ in range(lines)],
-        "poll": chance.choice((0, 1000, 95_000, 95_000, 999_999, 3_000_000)),
-    }  # fmt: skip
-    if chance.random() < 0.7:
-        del device["poll"]
-    return device | ({"table": table} if table and chance.random() < 0.5 else {})
-
-
-def random_station(chance: Random, ends: list[int] = MONTH_ENDS) -> dict:
-    """A plant of devices, which often starts just before the end of one of these months."""
-    plant = random_plant(chance, ends)
-    lines, names = len(plant["generators"]), [reader["name"] for reader in plant.pop("readers")]
-    return plant | {"version": 4, "devices": [random_device(chance, name, lines, plant["leaps"]) for name in names]}
-
-
-def random_passing(chance: Random) -> dict:
-    """True time that passes, often an element or a second."""
-    us = chance.choice((1, 450, 2000, 8000, 10_000, 10_000, 500_000, 990_000, chance.randrange(1, 2_000_000)))
-    seconds = {"do": "seconds", "n": chance.choice((0, 1, 1, 2, 3))}
-    return chance.choice(({"do": "pass", "us": us}, seconds))
-
-
-def random_station_event(chance: Random, generators: int, devices: list[str]) -> dict:
-    """An event that a plant of these generators and devices seldom refuses."""
-    g, r = {"g": chance.randrange(generators)}, {"r": chance.choice(devices)}
-    width, us = chance.choice((*WIDTHS, 300, 499_999, 500_000, 2_000_000)), chance.choice((0, 0, 350, 449, 450, 1999))
-    at_once = chance.choice((
-        {"do": "fault", **g, **random_fault(chance)}, {"do": "repair", **g}, {"do": "pull", **g, **r},
-        {"do": "plug", **g, **r}, {"do": "plug", **g, **r}, {"do": "late", **g, **r, "us": us},
-        {"do": "pulse", **g, **r, "width": width}, {"do": "tick", **r}, {"do": "tick", **r}, {"do": "restart", **r},
-        {"do": "stamp", **r, "ago": chance.choice((0, 100, 300_000, 1_000_000, chance.randrange(4_000_000)))},
-    ))  # fmt: skip
-    return random_passing(chance) if chance.random() < 0.45 else at_once
-
-
 # ---- changed lines
 
 

@@ -7,7 +7,6 @@ from __future__ import annotations
 import json
 import math
 import os
-import random
 import shutil
 import subprocess
 import textwrap
@@ -23,9 +22,7 @@ import loading
 from loading import ROOT
 
 from case_files import all_cases, of_readers
-from model.scenario import play
 from parts.recordings import open_recording
-from random_scenarios import random_station, random_station_event
 from waves import ELEMENT_US, Change, Widths, changes_of, changes_of_pulses, pulses_of_device, seconds_of
 
 TOOL = ROOT / "tools/wave"
@@ -101,14 +98,6 @@ def length_of(text: str) -> int:
     events = [json.loads(line) for line in text.splitlines() if line.strip()][1:]
     return sum(event["n"] if event["do"] == "seconds" else event.get("us", 0) / 1e6
                for event in events if event["do"] in ("seconds", "pass"))
-
-
-def random_text(seed: int) -> str:
-    chance = random.Random(seed)
-    plant = random_station(chance)
-    names = [device["name"] for device in plant["devices"]]
-    events = [random_station_event(chance, len(plant["generators"]), names) for _ in range(40)]
-    return "".join(json.dumps(line) + "\n" for line in [plant, *events])
 
 
 def is_carried(seconds: Sequence[list[Widths]]) -> bool:
@@ -234,12 +223,15 @@ class Devices(InAFolder):
         self.assertGreater(len(found), 50)
 
     def test_random_scenarios(self) -> None:
-        """By seeds, those that no line of is refused."""
+        """Those of tests/stations that take half a minute at most, and of which no line is refused."""
+        stations = self.folder / "stations"
+        subprocess.run([ROOT / "tests/stations/compile", stations], check=True)
+        subprocess.run([stations, "--count", "50", "--into", self.folder], check=True, capture_output=True)
         count = 0
-        for seed in range(20):
-            text = random_text(seed)
-            if play(text.encode()).status == 0:
-                with self.subTest(seed=seed):
+        for path in sorted(self.folder.glob("*.jsonl")):
+            text, log = path.read_text(), path.with_suffix(".log").read_text()
+            if length_of(text) <= 30 and "refused:" not in log:
+                with self.subTest(path.name):
                     self.compare(text)
                     count += 1
         print(f"random scenarios of devices: {count}")
