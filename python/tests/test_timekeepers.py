@@ -207,8 +207,8 @@ class Ticks(unittest.TestCase):
         self.assertEqual(str(beat), "- unlocked no-vote")
         self.assertEqual((beat.edge_us, beat.missed), (24_000_000, 20))
 
-    def test_a_leap_table(self) -> None:
-        """Frames said nothing of the leap second."""
+    def test_a_leap_that_only_the_table_knows(self) -> None:
+        """Frames said nothing of it."""
         known = {"until": "2017-06-30", "leaps": [irig.Leap("2016-12-31")]}
         keeper = Timekeeper(lock_after=1, drift_us=7, **known)
         hear_frame(keeper, irig.frame("2016-12-31T23:58:59Z"), 0, 0, 1, 2)
