@@ -121,13 +121,14 @@ static bool take_all(void) {
 
 /* Changes first, as on_compare wants it. From the last fall of a frame to the next rise there are 2 ms, and
  * by a slow clock it takes as long to tell those of three lines. So behind each one all channels are served
- * again. */
+ * again, until a tick is due: a line full of noise delays none. */
 static void serve_timer(void) {
     bool is_due = take_all();
     while (changes_out != changes_in) {
         change next = changes[changes_out++ % MOST_CHANGES];
         on_capture(next.line, next.is_high, next.time_us);
-        is_due |= take_all();
+        bool has_room = changes_in - changes_out <= MOST_CHANGES - LINES;
+        if (has_room && !is_due && !is_past) is_due = take_all();
     }
     if (!is_due && !is_past) return;
     is_past = false;
