@@ -78,7 +78,7 @@ static struct {
     recent recent[MOST_LINES];
     uint64_t begun;     /* when it was made or restarted, by the counter, */
     uint64_t last_tick; /* and when it was ticked since, or the same */
-    bool has_ticked, is_misled;
+    bool has_ticked;
     uint32_t step;
     uint64_t step_us; /* when the step begins */
 } d;
@@ -150,13 +150,14 @@ static void break_premises(void) {
     t->edge = d.step_us / SECOND_US;
 }
 
-/* A call that comes now is in time. */
+/* Whether a call that comes now is in time, */
 static void ask_for_time(uint64_t now) {
     if (now - d.last_tick < GAP_US) return;
     counts[BROKEN_BY_GAP] += !d.told->is_broken;
     break_premises();
 }
 
+/* and few enough lines are untrue. */
 static void ask_for_truth(uint64_t now) {
     uint32_t untrue = 0;
     for (unsigned i = 0; i < d.plant->generators; i++) untrue += is_untrue(i, now);
@@ -527,7 +528,7 @@ void play_plant(const plant *p) {
     uint64_t us = 0;
     for (int i = 0; i < p->events; i++) us += us_of(&p->event[i]);
     int64_t seconds = seconds_up_to(p, (int64_t)(us / SECOND_US + 2));
-    if (seconds > MOST_SECONDS_PLAYED) give_up("too many seconds");
+    if (seconds >= MOST_SECONDS_PLAYED) give_up("too many seconds");
     count_events(p, why);
     for (uint32_t r = 0; r < p->devices; r++) told_by[r].entries = 0;
     if (why.event >= 0) {
