@@ -44,8 +44,11 @@ void compare_at(uint32_t time_us);
 /* Begins. IRIG_FAULT_VALUE, IRIG_FAULT_TABLE_END to IRIG_FAULT_TABLE_TWICE, IRIG_FAULT_DRIFT. */
 uint32_t capture_init(const irig_setup *setup, const irig_table *table, const irig_wires *wires);
 
-/* A change of a line, counted from 0, at a time that its channel has caught. A line that is stuck high
- * has no pulse; loose again whole turns of the timer later, it may have one, as by a glitch. */
+/* A change of a line, counted from 0, at a time that its channel has caught. The line's next change comes
+ * 2 ms later or more, and its channel has to be free by then. By a slow clock the calls of several lines
+ * take longer: take from all channels what they have caught before each call, as serve_timer of
+ * ../firmware/stm32f405.c does. A line that is stuck high has no pulse; loose again whole turns of the
+ * timer later, it may have one, as by a glitch. */
 void on_capture(uint8_t line, bool is_high, uint32_t time_us);
 
 /* The time that was asked for has come. Changes that were caught and not yet told come first: a tick
