@@ -80,19 +80,19 @@ def told_scenario(program: Path, request: dict) -> list:
     answer = [status, hashlib.sha256(log).hexdigest(), reason]
     if not request["is_drawn"]:
         return answer
-    return [*answer, beside(log.decode(), drawn(text), request["shown"]["ports"])]
+    return [*answer, beside(log.decode(), drawn(text), request["shown"]["ports"] or has_devices(text))]
 
 
 def files() -> Iterator[tuple[bytes, bool]]:
-    """The scenario of each case that is a run, and of each example, if it has no devices; and whether no line
-    is refused, of which a part may have been run."""
+    """The scenario of each case that is a run, and of each example; and whether no line is refused, of which a part
+    may have been run."""
     for case in all_cases():
         words = [word for word in case.texts() if word not in ("--all", "--ports")]
         path = case.input if words in FROM_INPUT else NOTHING
         if case.scenario and words == ["run", case.scenario]:
             path = case.scenario
         text = (ROOT / path).read_bytes() if path != NOTHING else b""
-        if path != NOTHING and not has_devices(text):
+        if path != NOTHING:
             yield text, case.status == 0
 
 

@@ -23,7 +23,7 @@ from irig.words import CAUSES, LOCKS  # noqa: E402
 
 SCRIPTS = (PARTS / "list.js", PARTS / "utc.js", WEB / "log.js", PARTS / "timeline.js",
            WEB / "c.js", WEB / "codec.js", WEB / "frame.js", WEB / "editor.js", WEB / "scenario.js", WEB / "page.js")
-WORKER = WEB / "c.js", WEB / "worker.js"
+WORKER = PARTS / "utc.js", WEB / "c.js", WEB / "worker.js"
 MODULES = ("c_scenario", "c_reader")
 READS = {"uint8_t": "getUint8", "int8_t": "getInt8", "uint16_t": "getUint16", "uint32_t": "getUint32",
          "int32_t": "getInt32", "uint64_t": "getBigUint64", "size_t": "getBigUint64"}
@@ -66,19 +66,23 @@ def causes() -> dict[str, list[str]]:
     }
 
 
-def verdicts() -> list[str]:
-    """What the last line of a log means, by the number of its verdict; 0 is that of a line that is refused."""
-    *meanings, refused = (meaning for _, meaning in rows(ROOT / "docs/OUTPUT.md", "| Last line | Meaning |"))
-    return [plain(meaning) for meaning in (refused, *meanings)]
+# The last lines of a log by the numbers of their verdicts; 0 is that of a line that is refused.
+VERDICTS = "refused: ", "premises kept", "premises broken: edge ", "premises broken: table ", "premises broken: drift "
+
+
+def verdicts(head: str) -> list[str]:
+    """What the last line of a log means, by the number of its verdict, of the table with this head."""
+    found = [(plain(line), plain(meaning)) for line, meaning in rows(ROOT / "docs/OUTPUT.md", head)]
+    return [meaning for begin in VERDICTS for line, meaning in found if line.startswith(begin)]
 
 
 def examples() -> list[dict[str, object]]:
     """Each example with what happens in it and what to look at."""
-    heads = "| Scenario | What happens | Look at |"
     return [
         {"name": name, "happens": plain(happens), "look": plain(look),
          "text": (ROOT / f"examples/{name}.jsonl").read_text()}
-        for names, happens, look in rows(ROOT / "examples/README.md", heads)
+        for of in ("Scenario", "Scenario with devices")
+        for names, happens, look in rows(ROOT / "examples/README.md", f"| {of} | What happens | Look at |")
         for name in re.findall(r"`(\w+)`", names)
     ]
 
@@ -141,7 +145,8 @@ def data_of(folder: Path) -> dict[str, object]:
         "port_states": {name: vars(state) for name, state in PORT_STATES.items()},
         "numbers": {number: meaning._asdict() for number, meaning in MEANINGS.items()},
         "causes": causes(),
-        "verdicts": verdicts(),
+        "verdicts": verdicts("| Last line | Meaning |"),
+        "verdicts_of_devices": verdicts("| Last line of devices | Meaning |"),
         "examples": examples(),
         "elements": elements(),
         "modules": {name: coded((folder / f"{name}.wasm").read_bytes()) for name in MODULES},

@@ -220,15 +220,12 @@ class ScenarioTab {
     part("state").textContent = `${ENDS[status] || `status ${status}`}: ${lines} of log in ${cost}`;
   }
 
-  show_verdict({ verdict, kind_of_verdict, broken, refusal }) {
-    // Of a plant with devices there is a log alone.
-    const is_cut = verdict === null, is_text = kind_of_verdict === NUMBERS.VERDICT_NONE && !refusal;
-    const is_kept = is_text ? verdict === "premises kept" : kind_of_verdict === NUMBERS.VERDICT_KEPT;
+  show_verdict({ verdict, kind_of_verdict, broken, refusal, has_devices }) {
+    const is_cut = verdict === null, is_kept = kind_of_verdict === NUMBERS.VERDICT_KEPT;
     part("verdict").textContent = `${is_kept ? "\u2713" : "\u2717"} ${is_cut ? "memory ran out" : verdict}`;
     part("meaning").textContent = is_cut
       ? "The log shows how it begins, as far as there was memory. Allow more, or make the scenario shorter."
-      : is_text ? "The plant has devices, of which nothing is drawn."
-      : data.verdicts[kind_of_verdict].replace(/\bN\b/, (refusal && refusal.line) || (broken && broken.edge));
+      : data[has_devices ? "verdicts_of_devices" : "verdicts"][kind_of_verdict].replace(/\bN\b/, (refusal && refusal.line) || (broken && broken.edge));
     part("to-verdict").hidden = true;
     if (broken) this.lead_to_edge(broken);
     if (refusal) this.show_refusal(refusal);

@@ -9,7 +9,7 @@ const REASON_ROOM = 4096; // bytes: more than a reason has
 const LINE_ROOM = 64, WORD_ROOM = 24, MOST_PORTS = 5; // bytes of an entry's line, and of a port's word, about
 
 const {
-  entry: ENTRY, lane: LANE, told: TOLD, claim: CLAIM, utc: UTC, verdict: VERDICT, refusal: REFUSAL,
+  entry: ENTRY, device_entry: DEVICE_ENTRY, lane: LANE, told: TOLD, claim: CLAIM, utc: UTC, verdict: VERDICT, refusal: REFUSAL,
 } = LAYOUT;
 
 // ---- the module
@@ -27,10 +27,17 @@ function begun({ module, text, most }, sizes, on_growth) {
 
 // ---- the runs
 
-function names_in(text) { // of the readers, in a plant line that the module took
+function plant_in(text) { // the plant line, which the module took
   const from = text.findIndex((byte) => !BLANKS.includes(byte)), end = text.indexOf(NEWLINE, from);
-  const line = new TextDecoder().decode(text.subarray(from, end < 0 ? text.length : end));
-  return JSON.parse(line).readers.map(({ name }) => name);
+  return JSON.parse(new TextDecoder().decode(text.subarray(from, end < 0 ? text.length : end)));
+}
+
+const names_of = ({ readers, devices }) => (readers || devices).map(({ name }) => name);
+
+function start_of({ start }) { // its day, and the second of that
+  const [hour, minute, second] = start.slice(11, 19).split(":").map(Number);
+  const day = (Date.parse(`${start.slice(0, 10)}T00:00:00Z`) - Date.UTC(2000, 0, 1)) / (1000 * WHOLE_DAY);
+  return [day, 3600 * hour + 60 * minute + second];
 }
 
 // How many entries a scenario asks for, at most.
@@ -52,6 +59,8 @@ function refusal_in(view, place, reason) {
 const in_numbers = (call, { size }) => (
   { size, play: (calls, text, room, verdict, reason) => calls[call](...text, ...room, verdict, ...reason) });
 const ENTRIES = in_numbers("irig_scene_c_run_entries", ENTRY), LANES = in_numbers("irig_scene_c_run_lanes", LANE);
+const DEVICES = in_numbers("irig_scene_c_run_told", DEVICE_ENTRY);
+const OTHER_VERSION = 27; // as which a plant of devices is refused where readers are asked for
 const text_with = ({ all, ports }) => ({
   size: 1,
   play: (calls, text, room, _, reason) =>
@@ -132,7 +141,7 @@ class Lane { // one reader
     this.made = new Table("ends", "makers");
     this.lies = new Table("edges", "ports", "days", "sods");
     this.ports = Array.from({ length: MOST_PORTS }, () => new Table("firsts", "lasts", "states"));
-    Object.assign(this, { reader, marks: [], places: Array(MOST_PORTS).fill(0) });
+    Object.assign(this, { reader, marks: [], places: Array(MOST_PORTS).fill(0), offs: [], stamps: [] });
   }
 
   take(view, at) { // what the module draws of it
@@ -165,7 +174,8 @@ class Lane { // one reader
     const ports = this.ports.map((runs) => runs.packed()).filter(({ firsts }) => has_ports && firsts.length);
     const marks = this.marks.flatMap(([edge, mark]) => MARKS[mark].map(([before, what]) => [edge - before, what]));
     const rows = [this.stood, this.said, this.told, this.made].map((table) => table.packed());
-    return Object.assign({ reader: this.reader, marks, ports, lies: this.lies.packed() }, ...rows);
+    const { reader, offs, stamps } = this;
+    return Object.assign({ reader, marks, ports, lies: this.lies.packed(), offs, stamps }, ...rows);
   }
 }
 
@@ -203,30 +213,84 @@ function dues_of(first, lanes) {
   return dues;
 }
 
+// ---- the seconds and the stamps of devices
+
+// Gives the lanes of devices what they told, with the lines of the log, by the true seconds at edges. Answers those that
+// told something, in the order of the first of each.
+function take_told(lanes, { view, items, count }, shown, clock) {
+  const told = new Set();
+  let line = 0;
+  for (let place = 0, at = items; place < count; place++, at += DEVICE_ENTRY.size) {
+    const of = (name) => get(view, at, DEVICE_ENTRY[name]), lane = lanes[of("device")], has = of("names") === 1;
+    const bound = has ? of("bound_us") : null;
+    told.add(lane);
+    if (of("kind") === NUMBERS.DEVICE_STAMP) {
+      lane.stamps.push(stamp_told([of("day"), of("sod")], of("offset_us"), of("instant_us"), bound, clock));
+      line++;
+    } else {
+      lane.offs.push([of("edge"), of("behind_us") - of("before_us"), bound, ""]);
+      if (shown.all || has) lane.said.add(of("edge"), line++, of("day"), of("sod"));
+    }
+  }
+  return [...told];
+}
+
+// When an instant was, how far a second began off by its stamp, how far that may be, and what the stamp says.
+function stamp_told(second, offset, instant, bound, clock) {
+  const at = instant / 1e6, time = `${second_text(second).slice(11, 19)} + ${offset} us`;
+  if (bound === null) return [at, null, null, "no stamp"];
+  const about = [-2, -1, 0, 1].map((by) => Math.floor(at) + by);
+  const edge = about.find((each) => each >= 0 && String(clock.at(each)) === String(second));
+  const off = edge === undefined ? 1e6 : instant - 1e6 * edge - offset;
+  if (Math.abs(off) >= 1e6) return [at, null, bound, `${time}, another second`];
+  return [at, off, bound, `${time}, ${Math.abs(off)} us ${off > 0 ? "early" : "late"}`];
+}
+
+// ---- the whole picture
+
 const NOTHING_DRAWN = {
   lanes: [], causes: [], first: 1, last: 1, broken: null, kind_of_verdict: NUMBERS.VERDICT_NONE, dues: [],
+  has_devices: false,
 };
+
+// What has entries, readers or devices, of which lanes are told, and the true seconds.
+function entered(lanes, entries, plant, shown) {
+  if (!plant.devices) {
+    const [ticked, first_due] = take_entries(lanes, entries, shown);
+    return [ticked, dues_of(first_due, ticked)];
+  }
+  const dues = dues_of([0, ...start_of(plant)], lanes);
+  return [take_told(lanes, entries, shown, clock_of(dues)), dues];
+}
 
 // What is drawn, by the entries of a run and what the module draws; and where the premises broke, if they did.
 function drawing_of(entries, { view, items, count, verdict }, { text, shown }) {
-  const names = entries.count ? names_in(text) : [], readers = names.map((name) => new Lane(name));
+  const plant = entries.count ? plant_in(text) : { readers: [] }, names = names_of(plant);
+  const lanes = names.map((name) => new Lane(name));
   for (let place = 0, at = items; place < count; place++, at += LANE.size) {
-    readers[get(view, at, LANE.reader)].take(view, at);
+    lanes[get(view, at, LANE.reader)].take(view, at);
   }
-  const [ticked, first_due] = take_entries(readers, entries, shown);
-  const lanes = ticked.map((lane) => lane.drawn(shown.ports)), ends = lanes.map(({ lasts }) => lasts.at(-1));
+  const [entering, dues] = entered(lanes, entries, plant, shown);
+  const drawn = entering.map((lane) => lane.drawn(shown.ports || plant.devices));
   const [kind, edge, reader] = ["kind", "edge", "reader"].map((name) => get(view, verdict, VERDICT[name]));
   const broken = kind === NUMBERS.VERDICT_BROKEN ? { edge, reader: names[reader] } : null;
-  if (broken) lanes[ticked.indexOf(readers[reader])].marks.push([edge, "premise broken"]);
-  const last = Math.max(1, ...ends), dues = dues_of(first_due, ticked);
-  return { lanes, causes: CAUSES, first: 1, last, broken, kind_of_verdict: kind, dues };
+  const place = broken ? entering.indexOf(lanes[reader]) : -1;
+  if (place >= 0) drawn[place].marks.push([edge, "premise broken"]);
+  const ends = drawn.flatMap(({ lasts, stamps }) => [lasts.at(-1) || 0, ...stamps.map(([at]) => Math.floor(at))]);
+  const last = ends.reduce((most, end) => Math.max(most, end), 1);
+  const has_devices = Boolean(plant.devices);
+  return { lanes: drawn, causes: CAUSES, first: 1, last, broken, kind_of_verdict: kind, dues, has_devices };
 }
 
 // ---- the messages
 
 // How the runs in numbers ended, and what is drawn of them. Their memories are let go before the log is written.
 function numbers_told(asked, expected, on_growth, on_end) {
-  const entries = run_of(asked, ENTRIES, room_for(expected, ENTRY, asked), on_growth), { count } = entries;
+  const of_readers = run_of(asked, ENTRIES, room_for(expected, ENTRY, asked), on_growth);
+  const has_devices = of_readers.refusal && of_readers.refusal.number === OTHER_VERSION;
+  const of_devices = has_devices ? run_of(asked, DEVICES, room_for(expected, DEVICE_ENTRY, asked), on_growth) : null;
+  const is_told = of_devices && !(of_devices.refusal && of_devices.refusal.number === OTHER_VERSION);
+  const entries = is_told ? of_devices : of_readers, { count } = entries;
   on_end(count);
   const lanes = has_ended(entries) ? run_of(asked, LANES, room_for(count, LANE, asked)) : entries;
   const { status, refusal } = lanes, drawing = has_ended(lanes) ? drawing_of(entries, lanes, asked) : NOTHING_DRAWN;
@@ -251,7 +315,7 @@ function told_of(asked, tell) {
   const said = has_ended(ended) ? log_of(asked, count) : { status: ended.status, log: new Uint8Array(0) };
   const starts = starts_of(said.log), is_whole = has_ended(said);
   const verdict = is_whole ? text_of_line(said.log, starts, starts.length - 2) : null;
-  const { refusal } = is_whole ? said : ended; // devices are refused in numbers alone
+  const { refusal } = is_whole ? said : ended;
   const told = { ...ended, ...said, refusal, starts, verdict, spent };
   return { kind: "done", ...told, ...(is_whole ? drawing : NOTHING_DRAWN) };
 }

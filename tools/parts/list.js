@@ -6,14 +6,6 @@ const ROW = 18; // the height of a line in a list, as in timeline.css
 const MOST_HEIGHT = 8000000; // browsers have no higher elements
 const MOST_LETTERS = 2000; // of a line that is shown
 
-const first_after = (values, wanted, from = 0) => { // the first place at which a rising list is not below it
-  let low = from, high = values.length;
-  while (low < high) {
-    const middle = (low + high) >> 1;
-    if (values[middle] < wanted) low = middle + 1; else high = middle;
-  }
-  return low;
-};
 const clamp = (value, least, most) => Math.max(least, Math.min(most, value));
 const cut = (text, most) => (text.length > most ? `${text.slice(0, most)} ..` : text);
 

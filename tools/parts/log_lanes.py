@@ -3,7 +3,7 @@ alike, for each of its ports runs at which it told alike, and marks at leap seco
 broke. tools/plot draws them, and the page of tools/view; web/worker.js has the same of the same numbers."""
 from __future__ import annotations
 
-from collections.abc import Iterable
+from collections.abc import Callable, Iterable
 from dataclasses import dataclass, field, replace
 from typing import TypeVar
 
@@ -72,7 +72,22 @@ class Ran:
 
     @property
     def last_edge(self) -> int:
-        return max((entry.edge for entry in self.log), default=1)
+        """The last edge of which it says something: a stamp is of a time within a second."""
+        edges = (entry.instant_us // 1_000_000 if isinstance(entry, Stamped) else entry.edge for entry in self.log)
+        return max(edges, default=1)
+
+    @property
+    def names(self) -> tuple[str, ...]:
+        """The readers or the devices that have entries, in the order of the first of each."""
+        return self.log.devices or self.log.readers
+
+    @property
+    def broken(self) -> tuple[int, str] | None:
+        """The edge at which a premise broke, and whose it was."""
+        verdict = self.log.verdict
+        if isinstance(verdict, DeviceBroken):
+            return verdict.edge, verdict.device
+        return (verdict.edge, verdict.reader) if isinstance(verdict, PremiseBroken) else None
 
 
 def run_of(scenario: bytes) -> Ran:
@@ -257,13 +272,13 @@ def off_of(asked: Stamped, timeline: Timeline) -> Off:
 
 
 def readers_of(ran: Ran, lanes: Iterable[irig.Lane]) -> list[ReaderLanes]:
-    """The lanes of each reader that has edges."""
-    found = {reader: ReaderLanes(reader) for reader in ran.log.readers}
+    """The lanes of each reader or device that has edges."""
+    found = {name: ReaderLanes(name) for name in ran.names}
     for lane in sorted(lanes, key=lambda it: (it.first, it.port or 0)):
         found[lane.reader].take(lane)
-    verdict = ran.log.verdict
-    if isinstance(verdict, PremiseBroken):
-        found[verdict.reader].marks.append(Mark(verdict.edge, "premise broken"))
+    edge, name = ran.broken or (0, "")
+    if name in found:
+        found[name].marks.append(Mark(edge, "premise broken"))
     return list(found.values())
 
 
@@ -312,10 +327,8 @@ def drawn(scenario: bytes) -> dict:
 
 def drawn_of(ran: Ran) -> dict:
     """The bars of a run for a page, by numbers, with which lines of its log and of its scenario are of which edges."""
-    found, verdict = ran.log.lanes(), ran.log.verdict
-    ticks: dict[str, list[tuple[int, Tick]]] = {}
-    for number, tick in enumerate(ran.log.ticks()):
-        ticks.setdefault(tick.reader, []).append((number, tick))
+    timeline = timeline_in(ran.log.scenario) if ran.log else None
+    placed = _devices_placed(ran.log, timeline) if ran.log.devices else _readers_placed(ran.log)
     lanes = [
         {
             "reader": lane.reader,
@@ -323,16 +336,51 @@ def drawn_of(ran: Ran) -> dict:
             **_columns(lane.runs, STATES),
             "causes": [CAUSES.index(run.cause) for run in lane.runs],
             "ports": [_columns(runs, PORT_STATES) for runs in lane.ports],
-            **_placed(ticks[lane.reader]),
-            "lies": _lies(lane, {tick.edge: tick for _, tick in ticks[lane.reader]}),
+            **placed(lane),
         }
-        for lane in readers_of(ran, found)
+        for lane in (readers_of(ran, ran.log.lanes()) if ran.log else [])
     ]
-    broken = {"edge": verdict.edge, "reader": verdict.reader} if isinstance(verdict, PremiseBroken) else None
-    dues = dues_of(timeline_in(ran.log.scenario), ran.last_edge) if ran.log else []
-    dues = [[edge, second.day, second.sod] for edge, second in dues]
+    edge, name = ran.broken or (0, "")
+    broken = {"edge": edge, "reader": name} if ran.broken else None
+    dues = [[edge, second.day, second.sod] for edge, second in dues_of(timeline, ran.last_edge)] if timeline else []
     return {"lanes": lanes, "causes": [*CAUSES], "first": 1, "last": ran.last_edge, "verdict": ran.last_line,
             "broken": broken, "refused": ran.refused and ran.refused.line, "dues": dues}
+
+
+def _readers_placed(log: irig.Log) -> Callable[[ReaderLanes], dict]:
+    """What a page has of a reader beside its bars."""
+    ticks: dict[str, list[tuple[int, Tick]]] = {}
+    for number, tick in enumerate(log.ticks()):
+        ticks.setdefault(tick.reader, []).append((number, tick))
+
+    def placed(lane: ReaderLanes) -> dict:
+        of_reader = ticks[lane.reader]
+        lies = _lies(lane, {tick.edge: tick for _, tick in of_reader})
+        return {**_placed(of_reader), "lies": lies, "offs": [], "stamps": []}
+
+    return placed
+
+
+def _devices_placed(log: irig.Log, timeline: Timeline) -> Callable[[ReaderLanes], dict]:
+    """The same of a device: its log has a line for each second and for each stamp, and nobody asks for a tick."""
+    numbered = [*enumerate(log)]
+
+    def placed(lane: ReaderLanes) -> dict:
+        told = [(number, one) for number, one in numbered if isinstance(one, ToldSecond) and one.device == lane.reader]
+        offs, stamps = ([[off.at, off.off_us, off.bound_us, off.said] for off in found]
+                        for found in offs_of(log, lane.reader, timeline))
+        return {
+            "edges": [one.edge for _, one in told],
+            "lines": [number for number, _ in told],
+            "days": [one.second.day if one.second else 0 for _, one in told],
+            "sods": [one.second.sod if one.second else 0 for _, one in told],
+            **dict.fromkeys(("told_edges", "told_lines", "ends", "makers"), []),
+            "lies": dict.fromkeys(("edges", "ports", "days", "sods"), []),
+            "offs": offs,
+            "stamps": stamps,
+        }
+
+    return placed
 
 
 def _columns(runs: list[irig.Lane], names: Iterable[str]) -> dict[str, list[int]]:

@@ -3,6 +3,7 @@
 
 const LANE = 46, HIGH = 24, LOW = 11, TOP = 14, AXIS = 26, UTC_ROW = 14; // the axis, and its rows for UTC
 const PORT_LANE = 11, PORT_HIGH = 9, PORT_LOW = 5, BELOW_PORTS = 4; // a thin lane a port
+const OFF_HIGH = 44, BELOW_OFFS = 8, BAND = "#56B4E959", BEYOND = "#D55E00"; // how far a device lay off, and may
 const NARROW = 2, PLAIN = 5; // the least width of a silence; less wide bars have no pattern
 const FEWEST = 4; // edges on the screen at the nearest zoom
 const LEAST_LIE = 3; // no lie is less wide
@@ -21,7 +22,16 @@ class LaneOfEdges { // a lane, and which line tells of an edge
   constructor(lane, top) {
     Object.assign(this, { ...lane, top });
     const { length } = this.ports;
-    this.height = LANE + (length ? length * PORT_LANE + BELOW_PORTS : 0);
+    this.below_ports = LANE + (length ? length * PORT_LANE + BELOW_PORTS : 0);
+    const sizes = [...this.offs, ...this.stamps].flatMap(([, off, bound]) => [Math.abs(off || 0), bound || 0]);
+    this.most_off = sizes.reduce((most, size) => Math.max(most, size), 10);
+    this.height = this.below_ports + (sizes.length ? OFF_HIGH + BELOW_OFFS : 0);
+    this.begins = this.offs.map(([at]) => at);
+  }
+
+  stamps_at(edge) { // what was said of instants in the second of an edge
+    const of_edge = this.stamps.filter(([at]) => Math.floor(at) === edge);
+    return of_edge.map(([at, , , said]) => `@${at.toFixed(6)} ${said}`);
   }
 
   line_at(edge) {
@@ -67,6 +77,7 @@ function lines_of_edge(lane, edge, { clock, log, scenario, ports, says = () => [
   const line = lane.line_at(edge), told = lane.told_at(edge), maker = lane.maker_of(edge), due = clock(edge);
   const none = `${edge} ${lane.reader}: not announced, no line in this log`;
   const lines = line < 0 ? [none] : [with_offsets(log(line), lane.seconds_at(edge), clock.at(edge)), ...says()];
+  lines.push(...lane.stamps_at(edge));
   const words = told < 0 ? "" : with_offsets(log(told), lane.lies_at(edge), clock.at(edge - 1));
   if (words) lines.push(words.replace(` ${edge} ${lane.reader}`, ports));
   if (!lines[0].includes(due)) lines.push(`edge ${edge} is ${due}`);
@@ -175,6 +186,7 @@ class Timeline {
         const middle = this.foot_of(lane, port) - PORT_HIGH / 2 + 0.5;
         write(brush, String(port), gutter - 8, middle, "right", this.colours.faint, SMALL_FONT);
       });
+      this.write_offs(lane);
     }
     brush.save();
     brush.beginPath();
@@ -183,6 +195,7 @@ class Timeline {
     for (const lane of this.lanes) {
       this.draw_bars(lane, this.top_of(lane) + HIGH);
       this.draw_ports(lane);
+      this.draw_offs(lane);
       this.draw_marks(lane, this.top_of(lane) + HIGH);
     }
     this.draw_cursor();
@@ -252,6 +265,45 @@ class Timeline {
         }
       });
     });
+  }
+
+  // ---- how far a device lay off: from each told edge on, in the band of its bound, and at stamps
+
+  middle_of(lane) { return this.top_of(lane) - 14 + lane.below_ports + OFF_HIGH / 2; }
+  height_at(lane, off) { return this.middle_of(lane) - off / lane.most_off * (OFF_HIGH / 2 - 2); }
+
+  write_offs(lane) {
+    if (lane.height === lane.below_ports) return;
+    for (const [off, text] of [[lane.most_off, `+${lane.most_off} us`], [0, "0"], [-lane.most_off, `-${lane.most_off} us`]]) {
+      write(this.brush, text, this.gutter - 8, this.height_at(lane, off), "right", this.colours.faint, SMALL_FONT);
+    }
+  }
+
+  draw_offs(lane) {
+    if (lane.height === lane.below_ports) return;
+    const { begins, offs } = lane;
+    this.box(this.gutter, this.middle_of(lane), this.width, 1, this.colours.rule);
+    for (let place = Math.max(first_after(begins, this.view.from) - 1, 0); place < offs.length; place++) {
+      if (begins[place] > this.view.to + 0.5) break;
+      this.draw_off(lane, offs[place], Math.min(begins[place + 1] || Infinity, begins[place] + 1));
+    }
+    for (const stamp of lane.stamps) this.draw_stamp(lane, stamp);
+  }
+
+  draw_off(lane, [at, off, bound], end) {
+    const left = this.x_of(at), wide = Math.max(this.x_of(end) - left, 1), is_told = bound !== null;
+    const half = (bound || 0) / lane.most_off * (OFF_HIGH / 2 - 2);
+    if (is_told) this.box(left, this.middle_of(lane) - half, wide, 2 * half, BAND);
+    const colour = is_told ? this.colours.text : this.colours.faint;
+    this.box(left, this.height_at(lane, off) - 1, wide, 2, is_told && Math.abs(off) > bound ? BEYOND : colour);
+  }
+
+  draw_stamp(lane, [at, off, bound]) { // a rhombus, hollow if no stamp was given
+    const x = this.x_of(at), y = this.height_at(lane, off || 0), { brush, colours } = this;
+    const is_beyond = bound !== null && (off === null || Math.abs(off) > bound);
+    brush.strokeStyle = is_beyond ? BEYOND : colours.text;
+    const corners = [[x - 4, y], [x, y - 4], [x + 4, y], [x, y + 4], [x - 4, y]];
+    stroke(brush, corners, bound === null ? colours.paper : brush.strokeStyle);
   }
 
   draw_found(lane, foot) { // a line below the runs of the cause that is looked for
@@ -366,6 +418,9 @@ class Timeline {
       "month end": "\u2506 the month ends", "premise broken": "\u2715 a premise broke",
     };
     for (const [kind, sign] of Object.entries(signs)) if (kinds.has(kind)) add(part("legend"), "span", sign);
+    const has_offs = this.lanes.some(({ offs }) => offs.length), has_stamps = this.lanes.some(({ stamps }) => stamps.length);
+    if (has_offs) add(part("legend"), "span", "\u2501 how late (+) or early (-) a second began, in the band of its bound");
+    if (has_stamps) add(part("legend"), "span", "\u25c6 the same by a stamp");
   }
 
   draw_legend() {

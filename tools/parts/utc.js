@@ -1,6 +1,15 @@
 // ---- UTC, as a scenario has it at its edges, and how far a second that was told is from it. A second is its day,
 // counted from 2000-01-01, and the second of that day, which is 86400 in 23:59:60
 
+const first_after = (values, wanted, from = 0) => { // the first place at which a rising list is not below it
+  let low = from, high = values.length;
+  while (low < high) {
+    const middle = (low + high) >> 1;
+    if (values[middle] < wanted) low = middle + 1; else high = middle;
+  }
+  return low;
+};
+
 function second_text([day, sod]) {
   const date = new Date(Date.UTC(2000, 0, 1 + day)).toISOString(), minute = Math.min(Math.floor(sod / 60), 1439);
   const clock = [Math.floor(minute / 60), minute % 60, sod - 60 * minute].map((part) => String(part).padStart(2, "0"));

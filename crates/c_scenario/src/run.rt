@@ -75,12 +75,12 @@ pub(crate) fn explain<T>(
     ensures number { result.number ≡ number_of answer.now }
 {
     match refused {
-        Some(line) => explain_line(alloc, answer, line, reason),
+        Some(line) => explain_line(alloc, answer, false, line, reason),
         None => refusal_with(answer, "", Parts::NONE, reason),
     }
 }
 
-/// The same whatever the plant has: of devices the reason is what the refusal means.
+/// The same whatever the plant has.
 pub(crate) fn explain_either<T>(
     alloc: Global,
     answer: &Result<T, SceneFault>,
@@ -91,7 +91,8 @@ pub(crate) fn explain_either<T>(
     ensures number { result.number ≡ number_of answer.now }
 {
     match refused {
-        Some(WhyRefused::Line(line)) => explain_line(alloc, answer, line, reason),
+        Some(WhyRefused::Line(line)) => explain_line(alloc, answer, false, line, reason),
+        Some(WhyRefused::OfDevices(line)) => explain_line(alloc, answer, true, line, reason),
         Some(WhyRefused::Cause(refusal)) => {
             refusal_with(answer, cause_of(refusal.number()), Parts::NONE, reason)
         }
@@ -102,13 +103,14 @@ pub(crate) fn explain_either<T>(
 fn explain_line<T>(
     alloc: Global,
     answer: &Result<T, SceneFault>,
+    has_devices: bool,
     refused: &RefusedLine,
     reason: &mut [u8],
 ) -> IrigRefusal
     ensures line { result.line ≡ line_of answer.now }
     ensures number { result.number ≡ number_of answer.now }
 {
-    match why(alloc, refused) {
+    match why(alloc, has_devices, refused) {
         Ok(why) => refusal_with(answer, why.text.as_str(), why.parts, reason),
         Err(_) => refusal_with(answer, "", Parts::NONE, reason),
     }
@@ -136,8 +138,9 @@ fn cause_of(number: u8) -> &'static str {
 }
 
 // Why a line is refused.
-fn why(alloc: Global, refused: &RefusedLine) -> Result<Reason, AllocError> {
+fn why(alloc: Global, has_devices: bool, refused: &RefusedLine) -> Result<Reason, AllocError> {
     let context = PlantContext {
+        has_devices,
         names: &refused.names,
         edges: refused.edges.as_slice(),
     };

@@ -33,17 +33,21 @@ fn refusal_text(
     let Some(meaning) = meaning_of(number) else {
         return Ok(String::new(alloc));
     };
-    match why {
-        WhyRefused::Line(refused) => {
-            let reason = reason_of(alloc, refused)?;
-            text_of(alloc, line, number, meaning.name, reason.text.as_str())
-        }
-        WhyRefused::Cause(_) => text_of(alloc, line, number, meaning.name, meaning.cause),
-    }
+    let reason = match why {
+        WhyRefused::Line(refused) => reason_of(alloc, false, refused)?,
+        WhyRefused::OfDevices(refused) => reason_of(alloc, true, refused)?,
+        WhyRefused::Cause(_) => return text_of(alloc, line, number, meaning.name, meaning.cause),
+    };
+    text_of(alloc, line, number, meaning.name, reason.text.as_str())
 }
 
-fn reason_of(alloc: Global, refused: &RefusedLine) -> Result<Reason, AllocError> {
+fn reason_of(
+    alloc: Global,
+    has_devices: bool,
+    refused: &RefusedLine,
+) -> Result<Reason, AllocError> {
     let context = PlantContext {
+        has_devices,
         names: &refused.names,
         edges: refused.edges.as_slice(),
     };

@@ -10,6 +10,7 @@ use Rattle.irig_scenario.specs.declared.refused.WhyRefused.TheVariants as why
 -- the refusal that it explains
 abbrev pub explained_by : WhyRefused → Refusal
 explained_by (why.Line line) = line.refusal
+explained_by (why.OfDevices line) = line.refusal
 explained_by (why.Cause refusal) = refusal
 
 -- the refusal of an answer, if it is one

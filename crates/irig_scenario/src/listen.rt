@@ -12,6 +12,7 @@ ghost use Rattle.irig_scenario.specs.AnyScenario.{AnyScene, HasHeard, any_texts}
 ghost use Rattle.irig_scenario.specs.WhyRefused.{IsExplainedAs, explained_by, refusal_answered};
 
 use crate::refused::WhyRefused;
+use indexmap::IndexSet;
 use irig_device::Watched;
 use irig_port::{FlowPort, Port};
 use irig_scene::{Listener, Outcome, Player, RefusedLine, SceneFault};
@@ -106,8 +107,9 @@ fn end_player<L: Listener, M: StationListener<Asked = L::Asked>, P: Port>(
             (Some(Either::First(listener)), why_of_line(line))
         }
         Some(Either::Second(player)) => {
-            let listener = player.into_listener();
-            (Some(Either::Second(listener)), why_of_cause(refusal))
+            let (listener, names, lines) = player.into_parts();
+            let why = why_of_devices(alloc, refusal, line, names, lines);
+            (Some(Either::Second(listener)), why)
         }
         None => (None, why_of_first(alloc, refusal, line)),
     }
@@ -122,12 +124,29 @@ fn why_of_line(line: Option<RefusedLine>) -> Option<WhyRefused>
     }
 }
 
-fn why_of_cause(refusal: Option<Refusal>) -> Option<WhyRefused>
+// What explains that a line is refused, if it is, of devices with these names and so many lines each.
+fn why_of_devices(
+    alloc: Global,
+    refusal: Option<Refusal>,
+    line: Vec<u8>,
+    names: IndexSet<String>,
+    lines: u8,
+) -> Option<WhyRefused>
     ensures { option_map explained_by result ≡ refusal }
 {
-    match refusal {
-        Some(refusal) => Some(WhyRefused::Cause(refusal)),
-        None => None,
+    Some(WhyRefused::OfDevices(RefusedLine {
+        refusal: refusal?,
+        line,
+        names,
+        edges: none_begun(alloc, lines),
+    }))
+}
+
+// An edge for each of so many generators; none without memory for them.
+fn none_begun(alloc: Global, lines: u8) -> Vec<u64> {
+    match vec![in alloc; 0; usize::from(lines)] {
+        Ok(edges) => edges,
+        Err(_) => Vec::new(alloc),
     }
 }
 
@@ -138,6 +157,7 @@ fn why_of_first(alloc: Global, refusal: Option<Refusal>, line: Vec<u8>) -> Optio
     let refusal = refusal?;
     match is_station_line(alloc, line.as_slice()) {
         Ok(false) => Some(WhyRefused::Line(RefusedLine::before_plant(alloc, refusal, line))),
-        _ => Some(WhyRefused::Cause(refusal)),
+        Ok(true) => Some(WhyRefused::OfDevices(RefusedLine::before_plant(alloc, refusal, line))),
+        Err(_) => Some(WhyRefused::Cause(refusal)),
     }
 }

@@ -8,6 +8,9 @@ use text_faults::Refusal;
 pub enum WhyRefused {
     /// The line of a plant of readers, and where the plant then stood.
     Line(RefusedLine),
-    /// The refusal alone: of a plant of devices, whose lines are not explained further.
+    /// The line of a plant of devices, which have these names. There are as many edges as generators;
+    /// their numbers say nothing.
+    OfDevices(RefusedLine),
+    /// The refusal alone, since there was no memory to see what the line is.
     Cause(Refusal),
 }

@@ -20,6 +20,8 @@ pub struct StationPlayer<L, P: Port> {
     listener: L,
     station: Station<P>,
     names: IndexSet<String>,
+    // How many lines lead to each device.
+    lines: u8,
     ghost few: { length names.keys ≤ 16 },
 }
 
@@ -69,6 +71,7 @@ impl<L: StationListener, P: Port> StationPlayer<L, P> {
                 listener,
                 station,
                 names,
+                lines,
             }),
             Err(_) => Err(Failure::Memory),
         }
@@ -163,6 +166,19 @@ impl<L: StationListener, P: Port> StationPlayer<L, P> {
         ensures { result ≡ self.listener }
     {
         self.listener
+    }
+
+    /// Who listened, the names of the devices, and how many lines lead to each.
+    pub fn into_parts(self) -> (L, IndexSet<String>, u8)
+        ensures { result.0 ≡ self.listener }
+    {
+        let StationPlayer {
+            listener,
+            names,
+            lines,
+            ..
+        } = self;
+        (listener, names, lines)
     }
 }
 

@@ -19,7 +19,7 @@ use text_faults::{LineFault, Refusal};
 
 /// What a device is to be made of.
 #[derive(Drop)]
-pub(crate) struct DeviceValues {
+pub struct DeviceValues {
     /// What it has as a reader.
     pub reader: ReaderValues,
     /// How many microseconds a second its counter may be wrong.
@@ -51,7 +51,7 @@ impl Model for DeviceValues {
 
 /// What a station is to be made of.
 #[derive(Drop)]
-pub(crate) struct StationValues {
+pub struct StationValues {
     /// All but its devices, as of a plant without readers.
     pub plant: PlantValues,
     /// The devices.
@@ -66,9 +66,11 @@ impl Model for StationValues {
     ghost view = { λ s. record { plant = s.plant; devices = s.devices.items } };
 }
 
-/// The values of a plant line of version 4.
+/// The values of a plant line of version 4, whose shape is right. `Value` if one of them is outside its
+/// range, or a device has not as many numbers at `late` as there are generators; `Memory` if there was
+/// none.
 #[tactic(auto, unfolding(crate::specs::StationValues::station_values))]
-pub(crate) fn station_values(alloc: Global, value: &Value) -> Result<StationValues, LineFault>
+pub fn station_values(alloc: Global, value: &Value) -> Result<StationValues, LineFault>
     ensures { FoundUnlessMemory (λ s. s) (station_values (view value.now)) result }
 {
     let plant = values_of(alloc, Version::Three, value)?;
@@ -78,7 +80,7 @@ pub(crate) fn station_values(alloc: Global, value: &Value) -> Result<StationValu
 
 /// The objects of a plant line's devices; none if it has no list of them.
 #[tactic(auto, unfolding(crate::specs::StationValues::devices_in))]
-pub(crate) fn devices_in(value: &Value) -> &[Value]
+pub fn devices_in(value: &Value) -> &[Value]
     ensures { map view result.now ≡ devices_in (view value.now) }
 {
     items_at(value, DEVICES.name).unwrap_or(&[])

@@ -8,5 +8,8 @@ mod station_form;
 mod station_line;
 mod station_shape;
 
+pub use device_values::{DeviceValues, StationValues, devices_in, station_values};
 pub use station_event::event_of_station_line;
-pub use station_line::{BuiltStation, is_station_line, station_of_line};
+pub use station_form::{STATION_ACTION_WORDS, station_event_keys};
+pub use station_line::{BuiltStation, has_version_four, is_station_line, station_of_line};
+pub use station_shape::{DEVICES, LATE, device_keys, station_keys};

@@ -1,7 +1,7 @@
 //! The forms of the lines after a plant line of version 4, as tables: which keys stand in each, and
 //! what may stand at a key.
 
-ghost use Rattle.std.specs.Prelude.{◌≡◌, map};
+ghost use Rattle.std.specs.Prelude.{◌≡◌, map, option_map};
 ghost use Rattle.serde_json.specs.View.{view};
 ghost use Rattle.scenario_json.specs.Keys.{key_value};
 ghost use Rattle.scenario_devices.specs.StationForms.{station_action_named, station_keys_of, station_action_of};
@@ -37,6 +37,11 @@ pub(crate) enum StationAction {
     /// A device is asked for a stamp.
     Stamp,
 }
+
+/// The words of `do`.
+pub const STATION_ACTION_WORDS: [&str; 11] = [
+    "pass", "seconds", "fault", "repair", "pull", "plug", "late", "pulse", "tick", "restart", "stamp",
+];
 
 fn station_action_named(word: &str) -> Option<StationAction>
     ensures { result ≡ station_action_named word.now }
@@ -80,6 +85,15 @@ pub(crate) fn station_keys_of(action: StationAction) -> &'static [Key]
         StationAction::Tick | StationAction::Restart => &[DO, R],
         StationAction::Stamp => &[DO, R, AGO],
     }
+}
+
+/// The keys of the line that has this value, each of which has to be there, and no other; none if its
+/// `do` or, of a fault, its `kind` is no word of docs/SCENARIOS.md.
+pub fn station_event_keys(value: &Value) -> Option<&'static [Key]>
+    ensures { option_map (λ keys. map key_value keys.now) result
+        ≡ option_map station_keys_of (station_action_of (view value.now)) }
+{
+    Some(station_keys_of(station_action_of(value)?))
 }
 
 /// What a line asks for, by its `do` and, of a fault, its `kind`; none of other words.

@@ -57,7 +57,8 @@ pub fn is_station_line(alloc: Global, line: &[u8]) -> Result<bool, AllocError>
     }
 }
 
-fn has_version_four(value: &Value) -> bool
+/// Whether the `version` of a plant line is that of one with devices.
+pub fn has_version_four(value: &Value) -> bool
     ensures { result ≡ has_version_four (view value.now) }
 {
     matches!(whole_at(value, VERSION.name), Some(number) if is_four(number))

@@ -18,7 +18,8 @@ use serde_json::Value;
 
 pub(crate) const MOST_LATE: u32 = 1999;
 
-pub(crate) const DEVICES: Key = key!("devices": Kind::List);
+/// `devices`: the devices, in place of `readers`.
+pub const DEVICES: Key = key!("devices": Kind::List);
 
 pub(crate) const DRIFT: Key = key!("drift": Kind::Natural(0, 100));
 
@@ -26,11 +27,13 @@ pub(crate) const GAIN: Key = optional_key!("gain": Kind::Integer(-1000, 1000));
 
 pub(crate) const COUNTER: Key = optional_key!("counter": Kind::Natural(0, u32::MAX as u64));
 
-pub(crate) const LATE: Key = optional_key!("late": Kind::Naturals(5, MOST_LATE));
+/// `late`: how many microseconds late the line of each generator is, 0 to 1999.
+pub const LATE: Key = optional_key!("late": Kind::Naturals(5, MOST_LATE));
 
 pub(crate) const POLL: Key = optional_key!("poll": Kind::Natural(0, 1_740_000_000));
 
-fn station_keys() -> &'static [Key]
+/// The keys of a plant line of version 4.
+pub fn station_keys() -> &'static [Key]
     ensures { map key_value result.now ≡ station_keys }
 {
     &[
@@ -38,7 +41,8 @@ fn station_keys() -> &'static [Key]
     ]
 }
 
-fn device_keys() -> &'static [Key]
+/// The keys of a device; those from `table` on but `drift` may be left out.
+pub fn device_keys() -> &'static [Key]
     ensures { map key_value result.now ≡ device_keys }
 {
     &[

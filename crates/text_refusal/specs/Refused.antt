@@ -12,11 +12,14 @@ use Rattle.irig_gen.specs.declared.zone.Zone.{Zone}
 use Rattle.irig_gen.specs.declared.zone.Change.{Change as ZoneChange}
 use Rattle.irig_gen.specs.Zones.{fits, is_change_time}
 use Rattle.text_faults.specs.declared.refusal.Refusal.{Refusal}
-use Rattle.text_faults.specs.declared.refusal.Refusal.TheVariants.{Offset, Changes, TableEnd, TableLong}
+use Rattle.text_faults.specs.declared.refusal.Refusal.TheVariants.{Offset, Changes, TableEnd, TableLong, Drift}
 use Rattle.text_faults.specs.declared.refusal.LineFault.{LineFault}
 use Rattle.text_faults.specs.declared.refusal.LineFault.TheVariants.{Refused, Memory}
 use Rattle.text_faults.specs.Refusals.{of_timeline, of_table}
 use Rattle.scenario_values.specs.PlantValues.{PlantValues, GeneratorValues, ReaderValues}
+use Rattle.irig_lines.specs.Refusals.{clock_fault}
+use Rattle.scenario_devices.specs.StationLine.{of_clock}
+use Rattle.scenario_devices.specs.StationValues.{DeviceValues, StationValues}
 use Rattle.text_words.specs.declared.path.JsonPath.{JsonPath}
 use Rattle.text_words.specs.declared.path.JsonPath.TheVariants.{Line, Leap, Generator, Change, Reader, Table, TableLeap}
 
@@ -76,6 +79,20 @@ entry_refusal i reader =
     if nat_lt LAST_DAY reader.until then None
     else option_map of_table (entry_fault_at reader.until reader.leaps i)
 
+-- ---- the devices
+
+-- a counter that could not count to the end of the holdover
+abbrev pub drift_refusal : DeviceValues → Option Refusal
+drift_refusal device = option_map of_clock (clock_fault device.reader.rules device.drift 0)
+
+-- the table of a device
+abbrev pub device_table_refusal : DeviceValues → Option Refusal
+device_table_refusal device = table_refusal device.reader
+
+-- a leap of it
+abbrev pub device_entry_refusal : ℕ → DeviceValues → Option Refusal
+device_entry_refusal i device = entry_refusal i device.reader
+
 -- ---- the places
 
 -- as what the values are refused at a place, if they are
@@ -88,3 +105,14 @@ refusal_at v (Change g i) = option_and_then (change_refusal_at i) (slice_get v.g
 refusal_at v (Reader r) = None
 refusal_at v (Table r) = option_and_then table_refusal (slice_get v.readers r)
 refusal_at v (TableLeap r i) = option_and_then (entry_refusal i) (slice_get v.readers r)
+
+-- the same of a line with devices
+unfoldable pub station_refusal_at : StationValues → JsonPath → Option Refusal
+station_refusal_at v (Reader r) = option_and_then drift_refusal (slice_get v.devices r)
+station_refusal_at v (Table r) = option_and_then device_table_refusal (slice_get v.devices r)
+station_refusal_at v (TableLeap r i) =
+    option_and_then (device_entry_refusal i) (slice_get v.devices r)
+station_refusal_at v Line = None
+station_refusal_at v (Leap i) = refusal_at v.plant (Leap i)
+station_refusal_at v (Generator g) = refusal_at v.plant (Generator g)
+station_refusal_at v (Change g i) = refusal_at v.plant (Change g i)

@@ -1,18 +1,19 @@
 //! What is wrong with a line after the plant line.
 
-ghost use Rattle.std.specs.Prelude.{◌≡◌, ◌≤◌, IfSome, false, is_some, length, true};
+ghost use Rattle.std.specs.Prelude.{◌≡◌, ◌≤◌, IfSome, false, is_some, length, map, option_map, true};
 ghost use Rattle.serde_json.specs.View.{view};
 ghost use Rattle.scenario_json.specs.Fields.{reader_at};
-ghost use Rattle.scenario_json.specs.Keys.{texts_of};
+ghost use Rattle.scenario_json.specs.Keys.{key_value, texts_of};
 ghost use Rattle.scenario_values.specs.Forms.{r};
-ghost use Rattle.text_refusal.specs.Lines.{has_event_form, has_event_values, has_generator, has_reached, is_event_refused};
+ghost use Rattle.text_refusal.specs.Lines.{event_keys, has_event_form, has_event_values, has_generator, has_reached, is_event_refused};
 
 use crate::place::in_line;
 use crate::refused::PlantContext;
 use crate::shape::find_in_shape;
 use crate::value::find_in_values;
 use indexmap::IndexSet;
-use scenario_json::{natural_at, reader_at, text_at};
+use scenario_devices::{STATION_ACTION_WORDS, station_event_keys};
+use scenario_json::{Key, natural_at, reader_at, text_at};
 use scenario_values::{ACTION_WORDS, EDGE, FAULT_WORDS, G, R, event_keys};
 use serde_json::Value;
 use text_faults::Refusal;
@@ -25,13 +26,13 @@ pub(crate) fn find_in_event<'a>(
     context: &PlantContext<'a>,
 ) -> Option<Misfit<'a>>
     requires { length context.now.names.now.keys ≤ 16 }
-    ensures refused { IfSome result (λ misfit. is_event_refused refusal
+    ensures refused { IfSome result (λ misfit. is_event_refused context.now.has_devices refusal
         (texts_of context.now.names.now.keys) context.now.edges.now (view value.now) ≡ true) }
     ensures place { IfSome result (λ misfit. misfit.place ≡ JsonPath.Line) }
 {
     match refusal {
-        Refusal::Shape => find_shape(value),
-        Refusal::Value => find_value(value),
+        Refusal::Shape => find_shape(context.has_devices, value),
+        Refusal::Value => find_value(context.has_devices, value),
         Refusal::NoSuchReader => find_reader(value, context.names),
         Refusal::NoSuchGenerator => find_generator(value, context.edges),
         Refusal::FutureReplay => find_replay(value, context.edges),
@@ -39,19 +40,32 @@ pub(crate) fn find_in_event<'a>(
     }
 }
 
-#[tactic(auto, unfolding(crate::specs::Lines::has_event_form))]
-fn find_shape(value: &Value) -> Option<Misfit<'_>>
-    ensures refused { IfSome result (λ misfit. has_event_form (view value.now) ≡ false) }
-    ensures place { IfSome result (λ misfit. misfit.place ≡ JsonPath.Line) }
+// The keys of a line, by what it asks for, if it asks for something.
+fn keys_of(has_devices: bool, value: &Value) -> Option<&'static [Key]>
+    ensures { option_map (λ keys. map key_value keys.now) result
+        ≡ event_keys has_devices (view value.now) }
 {
-    match event_keys(value) {
-        Some(keys) => find_in_shape(JsonPath::Line, keys, value),
-        None if !value.is_object() => find_in_shape(JsonPath::Line, &[], value),
-        None => Some(other_action(value)),
+    if has_devices {
+        station_event_keys(value)
+    } else {
+        event_keys(value)
     }
 }
 
-fn other_action(value: &Value) -> Misfit<'_>
+#[tactic(auto, unfolding(crate::specs::Lines::has_event_form))]
+fn find_shape(has_devices: bool, value: &Value) -> Option<Misfit<'_>>
+    ensures refused { IfSome result (λ misfit.
+        has_event_form has_devices (view value.now) ≡ false) }
+    ensures place { IfSome result (λ misfit. misfit.place ≡ JsonPath.Line) }
+{
+    match keys_of(has_devices, value) {
+        Some(keys) => find_in_shape(JsonPath::Line, keys, value),
+        None if !value.is_object() => find_in_shape(JsonPath::Line, &[], value),
+        None => Some(other_action(has_devices, value)),
+    }
+}
+
+fn other_action(has_devices: bool, value: &Value) -> Misfit<'_>
     ensures { result.place ≡ JsonPath.Line }
 {
     match text_at(value, "do") {
@@ -59,16 +73,18 @@ fn other_action(value: &Value) -> Misfit<'_>
         None if value.get("version").is_some() => {
             Misfit::new(JsonPath::Line, Found::SecondPlant, Expected::Nothing)
         }
+        _ if has_devices => in_line(value, "do", Expected::Words(&STATION_ACTION_WORDS)),
         _ => in_line(value, "do", Expected::Words(&ACTION_WORDS)),
     }
 }
 
 #[tactic(auto, unfolding(crate::specs::Lines::has_event_values))]
-fn find_value(value: &Value) -> Option<Misfit<'_>>
-    ensures refused { IfSome result (λ misfit. has_event_values (view value.now) ≡ false) }
+fn find_value(has_devices: bool, value: &Value) -> Option<Misfit<'_>>
+    ensures refused { IfSome result (λ misfit.
+        has_event_values has_devices (view value.now) ≡ false) }
     ensures place { IfSome result (λ misfit. misfit.place ≡ JsonPath.Line) }
 {
-    find_in_values(JsonPath::Line, event_keys(value)?, value)
+    find_in_values(JsonPath::Line, keys_of(has_devices, value)?, value)
 }
 
 fn find_reader<'a>(value: &'a Value, names: &'a IndexSet<String>) -> Option<Misfit<'a>>

@@ -1,4 +1,4 @@
-//! What is wrong with the names of a plant line's readers.
+//! What is wrong with the names of a plant line's readers or devices.
 
 ghost use Rattle.std.specs.Prelude.{◌≡◌, ◌≤◌, IfSome, length, map, take, true};
 ghost use Rattle.std.specs.List.{list_any, slice_get};
@@ -8,22 +8,26 @@ ghost use Rattle.serde_json.specs.View.{view};
 ghost use Rattle.scenario_values.specs.Names.{name_in};
 ghost use Rattle.text_refusal.specs.Places.{is_misnamed, is_unnamed};
 
-use crate::place::in_line;
-use scenario_values::{NAME, is_name, name_in, readers_in};
+use crate::place::{Plant, in_line};
+use scenario_values::{NAME, is_name, name_in};
 use serde_json::Value;
 use text_words::{Expected, JsonPath, Misfit};
 
-/// The first reader whose name is none that it may have, or the list of readers if there are none
-/// or too many.
+/// The first reader or device whose name is none that it may have, or the list of them if there are
+/// none or too many.
 #[tactic(auto, unfolding(crate::specs::Places::is_misnamed))]
-pub(crate) fn find_name(value: &Value) -> Option<Misfit<'_>>
-    ensures { IfSome result (λ misfit. is_misnamed misfit.place (view value.now) ≡ true) }
+pub(crate) fn find_name(plant: Plant, value: &Value) -> Option<Misfit<'_>>
+    ensures { IfSome result (λ misfit. is_misnamed plant misfit.place (view value.now) ≡ true) }
 {
-    let readers = readers_in(value);
+    let readers = plant.owners_in(value);
     if !(1 <= readers.len() && readers.len() <= 16) {
-        return Some(in_line(value, "readers", Expected::Text("1 to 16")));
+        return Some(in_line(value, plant.owners_key(), Expected::Text("1 to 16")));
     }
-    misnamed_at(readers, first_other(readers).or(first_twice(readers))?)
+    misnamed_at(
+        plant,
+        readers,
+        first_other(readers).or(first_twice(readers))?,
+    )
 }
 
 fn first_other(readers: &[Value]) -> Option<usize> {
@@ -45,7 +49,7 @@ fn first_twice(readers: &[Value]) -> Option<usize> {
 }
 
 #[tactic(auto, using(crate::proofs::PlaceLaws::viewed_item))]
-fn misnamed_at(readers: &[Value], at: usize) -> Option<Misfit<'_>>
+fn misnamed_at(plant: Plant, readers: &[Value], at: usize) -> Option<Misfit<'_>>
     ensures place { IfSome result (λ misfit. misfit.place ≡ JsonPath.Reader at) }
     ensures wrong { IfSome result (λ misfit.
         is_there (λ reader. is_unnamed (map view readers.now) at reader)
@@ -53,17 +57,22 @@ fn misnamed_at(readers: &[Value], at: usize) -> Option<Misfit<'_>>
 {
     match readers.get(at) {
         Some(reader) if is_unnamed(readers, at, reader) => {
-            Some(Misfit::at(JsonPath::Reader(at), NAME.name, reader, rule_for(reader)))
+            Some(Misfit::at(
+                JsonPath::Reader(at),
+                NAME.name,
+                reader,
+                rule_for(plant, reader),
+            ))
         }
         _ => None,
     }
 }
 
-fn rule_for(reader: &Value) -> Expected<'static> {
-    if is_name(name_in(reader)) {
-        Expected::Text("a name that no reader before it has")
-    } else {
-        Expected::Ranged(NAME)
+fn rule_for(plant: Plant, reader: &Value) -> Expected<'static> {
+    match plant {
+        _ if !is_name(name_in(reader)) => Expected::Ranged(NAME),
+        Plant::Readers(_) => Expected::Text("a name that no reader before it has"),
+        Plant::Devices => Expected::Text("a name that no device before it has"),
     }
 }
 

@@ -1,16 +1,18 @@
 //! What is wrong with a plant line.
 
-ghost use Rattle.std.specs.Prelude.{◌≡◌, IfOk, IfSome, false, true};
+ghost use Rattle.std.specs.Prelude.{◌≡◌, IfOk, IfSome, codes, false, true};
+ghost use Rattle.scenario_json.specs.Json.{is_there};
 ghost use Rattle.serde_json.specs.View.{view};
 ghost use Rattle.text_refusal.specs.Lines.{IsPlantRefusedAt};
-ghost use Rattle.text_refusal.specs.Places.{has_count, is_beyond, is_misformed, is_misvalued};
+ghost use Rattle.text_refusal.specs.Places.{generators_in, has_count, has_other_lates, is_beyond, item_at, is_misformed, is_mislate, is_misvalued};
 
 use crate::names::find_name;
-use crate::place::{in_line, keys_at, object_at, version_of_line};
+use crate::place::{Plant, in_line, item_at, keys_at, object_at};
 use crate::plan::find_in_plan;
 use crate::shape::find_in_shape;
 use crate::value::find_in_values;
 use crate::walk::{Wrong, first_place};
+use scenario_devices::{DEVICES, LATE};
 use scenario_json::{items_at, whole_at};
 use scenario_values::{Version, is_count};
 use serde_json::Value;
@@ -27,18 +29,18 @@ pub(crate) fn find_in_plant(
     ensures { IfOk result (λ found. IfSome found
         (λ misfit. IsPlantRefusedAt refusal (view value.now) misfit.place)) }
 {
-    let version = version_of_line(value);
-    match refusal {
-        Refusal::Shape => Ok(find_misformed(version, value)),
-        Refusal::Value => Ok(find_beyond(version, value)),
-        Refusal::Names => Ok(find_name(value)),
-        Refusal::Version => Ok(Some(in_line(
-            value,
-            "version",
-            Expected::Text(known_versions(value)),
-        ))),
-        Refusal::BadStart => Ok(Some(in_line(value, "start", Expected::Start))),
-        _ => find_in_plan(alloc, refusal, value),
+    let plant = Plant::of_line(value);
+    let found = match refusal {
+        Refusal::Shape => find_misformed(plant, value),
+        Refusal::Value => find_beyond(plant, value),
+        Refusal::Names => find_name(plant, value),
+        Refusal::Version => Some(in_line(value, "version", Expected::Text(known_versions(value)))),
+        Refusal::BadStart => Some(in_line(value, "start", Expected::Start)),
+        _ => find_in_plan(alloc, plant, refusal, value)?,
+    };
+    match found {
+        Some(misfit) => Ok(Some(misfit.of(plant.owners_key()))),
+        None => Ok(None),
     }
 }
 
@@ -50,22 +52,22 @@ fn known_versions(value: &Value) -> &'static str {
     }
 }
 
-fn find_misformed(version: Version, value: &Value) -> Option<Misfit<'_>>
+fn find_misformed(plant: Plant, value: &Value) -> Option<Misfit<'_>>
     ensures { IfSome result (λ misfit.
-        is_misformed version misfit.place (view value.now) ≡ true) }
+        is_misformed plant misfit.place (view value.now) ≡ true) }
 {
-    misformed_at(version, first_place(Wrong::Form, value)?, value)
+    misformed_at(plant, first_place(plant, Wrong::Form, value)?, value)
 }
 
 /// What keeps the object at a place from its form.
 #[tactic(auto, unfolding(crate::specs::Places::is_misformed))]
-pub(crate) fn misformed_at(version: Version, place: JsonPath, value: &Value) -> Option<Misfit<'_>>
+pub(crate) fn misformed_at(plant: Plant, place: JsonPath, value: &Value) -> Option<Misfit<'_>>
     ensures place { IfSome result (λ misfit. misfit.place ≡ place) }
-    ensures wrong { IfSome result (λ misfit. is_misformed version place (view value.now) ≡ true) }
+    ensures wrong { IfSome result (λ misfit. is_misformed plant place (view value.now) ≡ true) }
 {
-    let object = object_at(value, place)?;
-    let misfit = find_in_shape(place, keys_at(version, place), object)?;
-    let found = if has_early_table(version, place, object) {
+    let object = object_at(plant, value, place)?;
+    let misfit = find_in_shape(place, keys_at(plant, place), object)?;
+    let found = if has_early_table(plant, place, object) {
         Found::EarlyTable
     } else if is_early_event(place, object) {
         Found::EarlyEvent
@@ -76,8 +78,10 @@ pub(crate) fn misformed_at(version: Version, place: JsonPath, value: &Value) -> 
 }
 
 // Whether it is a reader's, with a table in version 1, which has none.
-fn has_early_table(version: Version, place: JsonPath, object: &Value) -> bool {
-    version == Version::One && matches!(place, JsonPath::Reader(_)) && object.get("table").is_some()
+fn has_early_table(plant: Plant, place: JsonPath, object: &Value) -> bool {
+    matches!(plant, Plant::Readers(Version::One))
+        && matches!(place, JsonPath::Reader(_))
+        && object.get("table").is_some()
 }
 
 // Whether it is an event's, in place of the plant line.
@@ -86,30 +90,38 @@ fn is_early_event(place: JsonPath, object: &Value) -> bool {
 }
 
 #[tactic(auto, unfolding(crate::specs::Places::is_beyond))]
-fn find_beyond(version: Version, value: &Value) -> Option<Misfit<'_>>
+fn find_beyond(plant: Plant, value: &Value) -> Option<Misfit<'_>>
     ensures { IfSome result (λ misfit.
-        is_beyond version misfit.place (view value.now) ≡ true) }
+        is_beyond plant misfit.place (view value.now) ≡ true) }
 {
-    match first_place(Wrong::Range, value) {
-        Some(place) => misvalued_at(version, place, value),
-        None => miscounted(version, value),
+    match first_place(plant, Wrong::Range, value) {
+        Some(place) => misvalued_at(plant, place, value),
+        None => match miscounted(plant, value) {
+            Some(misfit) => Some(misfit),
+            None => mislate_at(first_place(plant, Wrong::Lates, value)?, value),
+        },
     }
 }
 
 /// Which value of the object at a place is outside its range.
 #[tactic(auto, unfolding(crate::specs::Places::is_misvalued))]
-pub(crate) fn misvalued_at(version: Version, place: JsonPath, value: &Value) -> Option<Misfit<'_>>
+pub(crate) fn misvalued_at(plant: Plant, place: JsonPath, value: &Value) -> Option<Misfit<'_>>
     ensures place { IfSome result (λ misfit. misfit.place ≡ place) }
-    ensures wrong { IfSome result (λ misfit. is_misvalued version place (view value.now) ≡ true) }
+    ensures wrong { IfSome result (λ misfit. is_misvalued plant place (view value.now) ≡ true) }
 {
-    find_in_values(place, keys_at(version, place), object_at(value, place)?)
+    find_in_values(
+        place,
+        keys_at(plant, place),
+        object_at(plant, value, place)?,
+    )
 }
 
 #[tactic(auto, unfolding(crate::specs::Places::has_count))]
-fn miscounted(version: Version, value: &Value) -> Option<Misfit<'_>>
+fn miscounted(plant: Plant, value: &Value) -> Option<Misfit<'_>>
     ensures place { IfSome result (λ misfit. misfit.place ≡ JsonPath.Line) }
-    ensures wrong { IfSome result (λ misfit. has_count version (view value.now) ≡ false) }
+    ensures wrong { IfSome result (λ misfit. has_count plant (view value.now) ≡ false) }
 {
+    let version = plant.counted_as();
     let (counts, note) = match version {
         Version::One => (
             "3",
@@ -124,5 +136,47 @@ fn miscounted(version: Version, value: &Value) -> Option<Misfit<'_>>
     match items_at(value, "generators") {
         Some(generators) if is_count(version, generators.len()) => None,
         _ => Some(in_line(value, "generators", Expected::Text(counts)).with(note)),
+    }
+}
+
+/// The list `late` of the device at a place, if it has not a number for each generator.
+#[tactic(auto, unfolding(crate::specs::Places::is_mislate))]
+pub(crate) fn mislate_at(place: JsonPath, value: &Value) -> Option<Misfit<'_>>
+    ensures place { IfSome result (λ misfit. misfit.place ≡ place) }
+    ensures wrong { IfSome result (λ misfit. is_mislate place (view value.now) ≡ true) }
+{
+    match place {
+        JsonPath::Reader(at) => mislate_device(at, value),
+        _ => None,
+    }
+}
+
+fn mislate_device(at: usize, value: &Value) -> Option<Misfit<'_>>
+    ensures place { IfSome result (λ misfit. misfit.place ≡ JsonPath.Reader at) }
+    ensures wrong { IfSome result (λ misfit. is_there (has_other_lates (generators_in (view value.now)))
+        (item_at (codes "devices") at (view value.now)) ≡ true) }
+{
+    let device = item_at(value, DEVICES.name, at)?;
+    if !has_other_lates(generators_in(value), device) {
+        return None;
+    }
+    let each = Expected::Text("as many as there are generators");
+    Some(Misfit::at(JsonPath::Reader(at), LATE.name, device, each))
+}
+
+#[tactic(auto, unfolding(crate::specs::Places::generators_in))]
+fn generators_in(value: &Value) -> usize
+    ensures { result ≡ generators_in (view value.now) }
+{
+    items_at(value, "generators").unwrap_or(&[]).len()
+}
+
+#[tactic(auto, unfolding(crate::specs::Places::has_other_lates))]
+fn has_other_lates(generators: usize, device: &Value) -> bool
+    ensures { result ≡ has_other_lates generators (view device.now) }
+{
+    match items_at(device, LATE.name) {
+        Some(items) => items.len() != generators,
+        None => false,
     }
 }

@@ -16,9 +16,11 @@ use text_words::{Reason, reason_of_cause, reason_of_json, reason_of_long_line};
 /// Where a plant stands as a line is refused.
 #[derive(Clone, Copy)]
 pub struct PlantContext<'a> {
-    /// The names of its readers, in order; none before the plant line.
+    /// Whether it has devices in place of readers.
+    pub has_devices: bool,
+    /// The names of its readers or devices, in order; none before the plant line.
     pub names: &'a IndexSet<String>,
-    /// The edge at which each generator stands.
+    /// The edge at which each generator stands; of devices any.
     pub edges: &'a [u64],
 }
 
@@ -31,7 +33,7 @@ pub fn why_refused(
     context: &PlantContext<'_>,
 ) -> Result<Reason, AllocError>
     // the place that it names is one at which the line is refused so
-    ensures { IfOk result (λ reason. IfSome reason.place (NamesPlace refusal
+    ensures { IfOk result (λ reason. IfSome reason.place (NamesPlace context.now.has_devices refusal
         (texts_of context.now.names.now.keys) context.now.edges.now line.now)) }
 {
     match refusal {
@@ -58,7 +60,7 @@ fn reason_in_line(
     line: &[u8],
     context: &PlantContext<'_>,
 ) -> Result<Reason, AllocError>
-    ensures { IfOk result (λ reason. IfSome reason.place (NamesPlace refusal
+    ensures { IfOk result (λ reason. IfSome reason.place (NamesPlace context.now.has_devices refusal
         (texts_of context.now.names.now.keys) context.now.edges.now line.now)) }
 {
     match Value::from_slice(alloc, line) {
@@ -74,7 +76,7 @@ fn reason_in_value(
     value: &Value,
     context: &PlantContext<'_>,
 ) -> Result<Reason, AllocError>
-    ensures { IfOk result (λ reason. IfSome reason.place (IsRefusedAt refusal
+    ensures { IfOk result (λ reason. IfSome reason.place (IsRefusedAt context.now.has_devices refusal
         (texts_of context.now.names.now.keys) context.now.edges.now (view value.now))) }
 {
     let misfit = match context.names.len() {

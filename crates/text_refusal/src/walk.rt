@@ -1,8 +1,9 @@
 //! The first place of a plant line at which something is wrong, in the order of the line.
 
-use crate::place::{object_at, version_of_line};
-use crate::plan::refusal_at;
-use crate::plant::{misformed_at, misvalued_at};
+use crate::place::{Plant, object_at};
+use crate::plan::{refusal_at, station_refusal_at};
+use crate::plant::{misformed_at, mislate_at, misvalued_at};
+use scenario_devices::StationValues;
 use scenario_json::items_at;
 use scenario_values::{PlantValues, Version};
 use serde_json::Value;
@@ -16,17 +17,21 @@ pub(crate) enum Wrong<'a> {
     Form,
     /// A value in it is not in its range.
     Range,
+    /// It is a device that has not a lateness for each generator.
+    Lates,
     /// These values are refused so.
     Values(Refusal, &'a PlantValues),
+    /// So are these, of a plant of devices.
+    Station(Refusal, &'a StationValues),
 }
 
 /// The first such place of the plant line that has this value: the line's own object, then those of
-/// its leaps, generators and readers. Behind a generator come its changes; before a reader come its
-/// table and the leaps of that.
-pub(crate) fn first_place(wrong: Wrong<'_>, value: &Value) -> Option<JsonPath> {
+/// its leaps, generators and readers or devices. Behind a generator come its changes; before a reader
+/// come its table and the leaps of that.
+pub(crate) fn first_place(plant: Plant, wrong: Wrong<'_>, value: &Value) -> Option<JsonPath> {
     let search = Search {
         wrong,
-        version: version_of_line(value),
+        plant,
         value,
     };
     search
@@ -38,7 +43,7 @@ pub(crate) fn first_place(wrong: Wrong<'_>, value: &Value) -> Option<JsonPath> {
 #[derive(Clone, Copy)]
 struct Search<'a> {
     wrong: Wrong<'a>,
-    version: Version,
+    plant: Plant,
     value: &'a Value,
 }
 
@@ -54,7 +59,7 @@ impl Search<'_> {
     }
 
     fn first_in_readers(self) -> Option<JsonPath> {
-        for at in 0..count(self.value, "readers") {
+        for at in 0..count(self.value, self.plant.owners_key()) {
             let place = self.first_in_reader(at);
             if place.is_some() {
                 return place;
@@ -66,9 +71,9 @@ impl Search<'_> {
     // In version 1 a table is a key that the reader does not have.
     fn first_in_reader(self, at: usize) -> Option<JsonPath> {
         let reader = self.wrong_at(JsonPath::Reader(at));
-        match self.version {
-            Version::One => reader,
-            Version::Two | Version::Three => self.first_from(JsonPath::Table(at)).or(reader),
+        match self.plant {
+            Plant::Readers(Version::One) => reader,
+            _ => self.first_from(JsonPath::Table(at)).or(reader),
         }
     }
 
@@ -90,13 +95,15 @@ impl Search<'_> {
     fn wrong_at(self, place: JsonPath) -> Option<JsonPath> {
         let Search {
             wrong,
-            version,
+            plant,
             value,
         } = self;
         let is_wrong = match wrong {
-            Wrong::Form => misformed_at(version, place, value).is_some(),
-            Wrong::Range => misvalued_at(version, place, value).is_some(),
+            Wrong::Form => misformed_at(plant, place, value).is_some(),
+            Wrong::Range => misvalued_at(plant, place, value).is_some(),
+            Wrong::Lates => mislate_at(place, value).is_some(),
             Wrong::Values(refusal, values) => refusal_at(values, place) == Some(refusal),
+            Wrong::Station(refusal, values) => station_refusal_at(values, place) == Some(refusal),
         };
         if is_wrong { Some(place) } else { None }
     }
@@ -106,7 +113,7 @@ impl Search<'_> {
             JsonPath::Generator(_) => "changes",
             _ => "leaps",
         };
-        match object_at(self.value, above) {
+        match object_at(self.plant, self.value, above) {
             Some(object) => count(object, list),
             None => 0,
         }

@@ -77,6 +77,8 @@ pub struct Misfit<'a> {
     pub expected: Expected<'a>,
     /// What is said besides.
     pub note: Note,
+    /// The list of a plant line in which its readers stand, `readers`, or its devices, `devices`.
+    pub owners: &'static str,
 }
 
 impl<'a> Misfit<'a> {
@@ -89,6 +91,7 @@ impl<'a> Misfit<'a> {
             found,
             expected,
             note: Note::Nothing,
+            owners: "readers",
         }
     }
 
@@ -113,5 +116,12 @@ impl<'a> Misfit<'a> {
         ensures { result.place ≡ self.entry.place }
     {
         Misfit { note, ..self }
+    }
+
+    /// The same misfit, in a line whose readers or devices stand in this list.
+    pub fn of(self, owners: &'static str) -> Misfit<'a>
+        ensures { result.place ≡ self.entry.place }
+    {
+        Misfit { owners, ..self }
     }
 }

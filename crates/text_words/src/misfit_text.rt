@@ -22,7 +22,7 @@ impl Misfit<'_> {
 
 impl Draft {
     fn misfit(&mut self, misfit: &Misfit<'_>) {
-        self.place(misfit.place);
+        self.place(misfit.place, misfit.owners);
         self.found(misfit.found);
         self.expected(misfit.expected);
         match misfit.note {
@@ -41,7 +41,7 @@ impl Draft {
     }
 
     // The place of an object, with a colon behind it; of the line's own nothing.
-    fn place(&mut self, place: JsonPath) {
+    fn place(&mut self, place: JsonPath, owners: &str) {
         let start = self.mark();
         match place {
             JsonPath::Line => return,
@@ -51,13 +51,13 @@ impl Draft {
                 self.item("generators", above);
                 self.item(".changes", at);
             }
-            JsonPath::Reader(at) => self.item("readers", at),
+            JsonPath::Reader(at) => self.item(owners, at),
             JsonPath::Table(at) => {
-                self.item("readers", at);
+                self.item(owners, at);
                 self.push(".table");
             }
             JsonPath::TableLeap(above, at) => {
-                self.item("readers", above);
+                self.item(owners, above);
                 self.item(".table.leaps", at);
             }
         }

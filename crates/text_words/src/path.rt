@@ -11,10 +11,10 @@ pub enum JsonPath {
     Generator(usize),
     /// A change of a generator's zone, after the generator.
     Change(usize, usize),
-    /// A reader.
+    /// A reader, or a device.
     Reader(usize),
-    /// The table of a reader.
+    /// The table of one.
     Table(usize),
-    /// A leap of a reader's table, after the reader.
+    /// A leap of the table of one, after it.
     TableLeap(usize, usize),
 }
