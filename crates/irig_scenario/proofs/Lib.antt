@@ -4,3 +4,4 @@ pub mod DeviceReadLaws
 pub mod DeviceLogLaws
 pub mod ScenarioLaws
 pub mod ListenLaws
+pub mod StationLogFacts
