@@ -21,6 +21,10 @@ uint8_t irig_scene_c_run_lanes(const uint8_t *text, size_t count, irig_lane *lan
                                size_t *whole, irig_verdict *verdict, uint8_t *reason,
                                size_t reason_room, irig_refusal *refusal);
 
+uint8_t irig_scene_c_run_told(const uint8_t *text, size_t count, irig_device_entry *entries,
+                              size_t room, size_t *whole, irig_verdict *verdict, uint8_t *reason,
+                              size_t reason_room, irig_refusal *refusal);
+
 uint8_t irig_scene_c_frame_text(const char *time, size_t count, const irig_frame_options *options,
                                 char text[110]);
 
@@ -106,6 +110,22 @@ uint8_t irig_run_lanes(const uint8_t *text, size_t count, irig_lane *lanes, size
                                              (lanes != NULL) ? lanes : &no_lane, room, whole,
                                              verdict, (reason != NULL) ? reason : &no_reason,
                                              reason_room, refusal)
+                    : refused;
+}
+
+uint8_t irig_run_told(const uint8_t *text, size_t count, irig_device_entry *entries, size_t room,
+                      size_t *whole, irig_verdict *verdict, uint8_t *reason, size_t reason_room,
+                      irig_refusal *refusal) {
+    static const uint8_t refused = IRIG_RUN_NULL;
+    const uint8_t no_text = 0U;
+    irig_device_entry no_entry = {0};
+    uint8_t no_reason = 0U;
+    bool is_there = (whole != NULL) && (verdict != NULL) && (refusal != NULL) &&
+                    leads(text, count) && leads(entries, room) && leads(reason, reason_room);
+    return is_there ? irig_scene_c_run_told((text != NULL) ? text : &no_text, count,
+                                            (entries != NULL) ? entries : &no_entry, room, whole,
+                                            verdict, (reason != NULL) ? reason : &no_reason,
+                                            reason_room, refusal)
                     : refused;
 }
 

@@ -35,6 +35,7 @@ extern "C" {
 #define irig_run_entries IRIG_NAME(irig_run_entries, IRIG_LAYOUT)
 #define irig_run_stretches IRIG_NAME(irig_run_stretches, IRIG_LAYOUT)
 #define irig_run_lanes IRIG_NAME(irig_run_lanes, IRIG_LAYOUT)
+#define irig_run_told IRIG_NAME(irig_run_told, IRIG_LAYOUT)
 #define irig_frame_text IRIG_NAME(irig_frame_text, IRIG_LAYOUT)
 #define irig_frame_lines IRIG_NAME(irig_frame_lines, IRIG_LAYOUT)
 
@@ -119,7 +120,8 @@ enum {
     IRIG_VERDICT_KEPT = 1,       /* the premises held: each second that is announced is true */
     IRIG_VERDICT_BROKEN = 2,     /* they were broken first at this edge of this reader: each second that
                                   * is announced before its entry is true */
-    IRIG_VERDICT_FALSE_TABLE = 3 /* the leap table of this reader is false */
+    IRIG_VERDICT_FALSE_TABLE = 3, /* the leap table of this reader is false */
+    IRIG_VERDICT_DRIFT = 4       /* the counter of this device drifts more than its setting says */
 };
 
 /* Whether the premises of a run held. */
@@ -131,8 +133,8 @@ typedef struct irig_verdict {
 IRIG_ASSERT((sizeof(irig_verdict) == 16u) && (offsetof(irig_verdict, kind) == 8u) &&
             (offsetof(irig_verdict, reader) == 9u));
 
-/* The same run, whose log is written as numbers, silent edges too. A plant of devices is refused here
- * and by the calls below, by number 27. As many of the entries are written as `room` holds; those
+/* The same run, whose log is written as numbers, silent edges too. A plant of devices is refused here,
+ * by number 27: `irig_run_told` is of devices. As many of the entries are written as `room` holds; those
  * of `entries` after that stay as they were. `*whole` is how many entries the log has. If that is more
  * than `room`, call again with so many. `verdict`, `refusal` and `reason` are always written. After
  * IRIG_RUN_NO_LOG (here: no memory for the text of a refusal) and IRIG_RUN_NO_MEMORY `*whole` is 0,
@@ -161,7 +163,11 @@ enum {
 
 /* A longest run of a reader's edges at which one of its ports told no truth in one way, or at which
  * the reader announced nothing for one cause, or untrue seconds: what `irig blame` has a line of.
- * What is of another kind of stretch is 0. */
+ * What is of another kind of stretch is 0.
+ *
+ * Of a plant of devices a device is the reader, its lines are the ports, and its edges are the true
+ * ones to which those of the seconds that it told lie nearest. Edges that it did not tell may lie
+ * between two that follow one another, and behind a restart one may come again. So it is with lanes. */
 typedef struct irig_stretch {
     uint64_t first_edge;
     uint64_t last_edge;
@@ -189,7 +195,8 @@ IRIG_ASSERT((sizeof(irig_stretch) == 120u) && (offsetof(irig_stretch, first_offs
             (offsetof(irig_stretch, told) == 88u) && (offsetof(irig_stretch, kind) == 108u) &&
             (offsetof(irig_stretch, carriers) == 114u));
 
-/* The same run, of which the stretches are written, in the order of the lines of `irig blame`: as many
+/* A run of readers or of devices, of which the stretches are written, in the order of the lines of
+ * `irig blame`: as many
  * as `room` holds; those of `stretches` after that stay as they were. `*whole` is how many there are.
  * If that is more than `room`, call again with so many. All else is as with `irig_run_entries`. */
 uint8_t irig_run_stretches(const uint8_t *text, size_t count, irig_stretch *stretches, size_t room,
@@ -232,6 +239,43 @@ IRIG_ASSERT((sizeof(irig_lane) == 24u) && (offsetof(irig_lane, kind) == 16u) &&
 uint8_t irig_run_lanes(const uint8_t *text, size_t count, irig_lane *lanes, size_t room,
                        size_t *whole, irig_verdict *verdict, uint8_t *reason, size_t reason_room,
                        irig_refusal *refusal);
+
+enum {
+    IRIG_DEVICE_TOLD = 1, /* a second that a device told */
+    IRIG_DEVICE_STAMP = 2 /* an instant of which it was asked for a stamp */
+};
+
+/* What a device told of a second, or of an instant. What is of the other kind is 0. */
+typedef struct irig_device_entry {
+    uint64_t edge;       /* the true edge to which the told one lies nearest, by the device's counter */
+    uint64_t instant_us; /* of IRIG_DEVICE_STAMP: the instant, in true time behind edge 0 */
+    uint64_t behind_us;  /* how far the told edge lies behind that true edge, by the counter */
+    uint64_t before_us;  /* or how far before it */
+    uint32_t lock_count; /* votes while acquiring, edges in holdover, else 0 */
+    uint32_t day;        /* the second that is announced, or that of the stamp, or zeros */
+    uint32_t sod;
+    uint32_t offset_us;  /* of a stamp that is given: how long behind the told edge, by the counter */
+    uint32_t bound_us;   /* how far off the announced edge, or the stamp, may lie; 0 without one */
+    uint8_t device;      /* its place in the plant line, 0 to 15 */
+    uint8_t kind;        /* IRIG_DEVICE_TOLD .. */
+    uint8_t names;       /* 1 if a second is announced, or a stamp given; else 0 */
+    uint8_t lock;        /* IRIG_LOCK_UNLOCKED .. */
+    uint8_t cause;       /* IRIG_CAUSE_VOTED .. */
+} irig_device_entry;
+IRIG_ASSERT((sizeof(irig_device_entry) == 64u) && (offsetof(irig_device_entry, instant_us) == 8u) &&
+            (offsetof(irig_device_entry, before_us) == 24u) &&
+            (offsetof(irig_device_entry, lock_count) == 32u) &&
+            (offsetof(irig_device_entry, offset_us) == 44u) &&
+            (offsetof(irig_device_entry, device) == 52u) &&
+            (offsetof(irig_device_entry, cause) == 56u));
+
+/* A run of a plant of devices, whose log is written as numbers: what they told, in its order, silent
+ * seconds too. A plant of readers is refused, by number 27. As many are written as `room` holds; those
+ * of `entries` after that stay as they were. `*whole` is how many there are. If that is more than
+ * `room`, call again with so many. All else is as with `irig_run_entries`. */
+uint8_t irig_run_told(const uint8_t *text, size_t count, irig_device_entry *entries, size_t room,
+                      size_t *whole, irig_verdict *verdict, uint8_t *reason, size_t reason_room,
+                      irig_refusal *refusal);
 
 /* ---- the texts of frames */
 

@@ -5,3 +5,4 @@ pub mod TrueEntryLaws
 mod WrittenLaws
 mod StretchLaws
 mod LaneLaws
+mod ToldLaws

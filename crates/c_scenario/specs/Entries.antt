@@ -12,10 +12,18 @@ use Rattle.irig_plant.specs.Schedule.{log_of}
 use Rattle.c_numbers.specs.declared.claim.IrigClaim.{IrigClaim}
 use Rattle.c_numbers.specs.Numbers.{claim_for}
 use Rattle.c_numbers.specs.Reports.{no_claim, told_in, number_of_lock, count_of_lock, number_of_cause}
+use mathlib.Core.Logic.{inl, inr}
 use Rattle.irig_scene.specs.declared.outcome.Outcome.{Outcome}
+use Rattle.irig_station.specs.declared.audit.Audit.{Audit as StationAudit}
+use Rattle.irig_station.specs.declared.audit.Audit.TheVariants as station
 use Rattle.report_run.specs.declared.fault.SceneFault.{SceneFault}
 use Rattle.report_run.specs.Lines.{lines}
-use Rattle.irig_scene.specs.Scene.{scenario, entries_in, Scene, meaning_of}
+use Rattle.irig_scene.specs.Scene.{scenario, audit_in, entries_in, Scene, meaning_of}
+use Rattle.irig_station_scene.specs.declared.outcome.StationOutcome.{StationOutcome}
+use Rattle.irig_station_scene.specs.StationScenes.{station_audit}
+use Rattle.irig_scenario.specs.AnyScenario.{AnyScene}
+use Rattle.irig_scenario.specs.Scenarios.{ScenarioEnd}
+use Rattle.report_either.specs.declared.either.EitherOutcome.TheVariants.{First, Second}
 use Rattle.report_run.specs.Starts.{starts_from}
 use Rattle.c_scenario.specs.declared.entry.IrigEntry.{IrigEntry}
 use Rattle.c_scenario.specs.declared.entry.IrigVerdict.{IrigVerdict}
@@ -91,3 +99,30 @@ verdict_by (FalseTable r) = record { edge = 0; kind = 3; reader = r }
 abbrev pub verdict_of : Result Outcome SceneFault → IrigVerdict
 verdict_of (Ok o) = verdict_by o.audit
 verdict_of (Err fault) = record { edge = 0; kind = 0; reader = 0 }
+
+-- on devices
+abbrev pub verdict_on_devices : StationAudit → IrigVerdict
+verdict_on_devices station.Kept = record { edge = 0; kind = 1; reader = 0 }
+verdict_on_devices (station.Broken r e) = record { edge = e; kind = 2; reader = r }
+verdict_on_devices (station.FalseTable r) = record { edge = 0; kind = 3; reader = r }
+verdict_on_devices (station.Drift r) = record { edge = 0; kind = 4; reader = r }
+
+-- on a scene, whatever its plant has
+abbrev pub verdict_in : AnyScene → IrigVerdict
+verdict_in (inl x) = verdict_by (audit_in x)
+verdict_in (inr x) = verdict_on_devices (station_audit x)
+
+-- on how a run ended without a refusal
+abbrev pub verdict_on : ScenarioEnd → IrigVerdict
+verdict_on (First o) = verdict_by o.audit
+verdict_on (Second o) = verdict_on_devices o.audit
+
+-- on any run
+abbrev pub any_verdict_of : Result ScenarioEnd SceneFault → IrigVerdict
+any_verdict_of (Ok o) = verdict_on o
+any_verdict_of (Err fault) = record { edge = 0; kind = 0; reader = 0 }
+
+-- on a run of devices
+abbrev pub station_verdict_of : Result StationOutcome SceneFault → IrigVerdict
+station_verdict_of (Ok o) = verdict_on_devices o.audit
+station_verdict_of (Err fault) = record { edge = 0; kind = 0; reader = 0 }

@@ -1,14 +1,18 @@
 //! An entry of a log in numbers.
 
 ghost use Rattle.std.specs.Prelude.{◌≡◌};
-ghost use Rattle.c_scenario.specs.Entries.{claim_or_zeros, entry_for, verdict_of};
+ghost use Rattle.c_scenario.specs.Entries.{any_verdict_of, claim_or_zeros, entry_for, station_verdict_of, verdict_by, verdict_of, verdict_on_devices};
 
 use c_numbers::{
     IrigClaim, IrigTold, NO_CLAIM, cause_number, claim_for_c, lock_count, lock_number, told_for_c,
 };
 use irig_plant::{Audit, Entry};
+use irig_scenario::ScenarioOutcome;
 use irig_scene::{Outcome, SceneFault};
+use irig_station::Audit as StationAudit;
+use irig_station_scene::StationOutcome;
 use irig_time::{Claim, UtcSecond};
+use report_either::EitherOutcome;
 
 /// What a reader said at an edge, and what its ports told.
 #[repr(C)]
@@ -48,9 +52,10 @@ pub struct IrigEntry {
 pub struct IrigVerdict {
     /// The first edge at which the premises did not hold, or 0.
     pub edge: u64,
-    /// 0 none, 1 they held, 2 they were broken at an edge, 3 a reader's leap table is false.
+    /// 0 none, 1 they held, 2 they were broken at an edge, 3 a leap table is false, 4 a device's
+    /// counter drifts more than its setting says.
     pub kind: u8,
-    /// The reader whose edge or table that is, or 0.
+    /// The reader or device whose edge, table or counter that is, or 0.
     pub reader: u8,
 }
 
@@ -95,17 +100,62 @@ fn claim_or_zeros(claim: &Option<Claim>) -> IrigClaim
     }
 }
 
-/// The verdict on a run that ended so.
+/// The verdict on a run of readers that ended so.
 pub(crate) fn verdict_for_c(answer: &Result<Outcome, SceneFault>) -> IrigVerdict
     ensures { result ≡ verdict_of answer.now }
 {
-    let (kind, reader, edge) = match answer {
-        Err(_) => (0, 0, 0),
-        Ok(outcome) => match outcome.audit {
-            Audit::Kept => (1, 0, 0),
-            Audit::Broken { reader, edge } => (2, reader, edge),
-            Audit::FalseTable { reader } => (3, reader, 0),
-        },
+    match answer {
+        Err(_) => NO_VERDICT,
+        Ok(outcome) => verdict_by(outcome.audit),
+    }
+}
+
+/// The verdict on a run that ended so, whatever its plant has.
+pub(crate) fn verdict_on_any(answer: &Result<ScenarioOutcome, SceneFault>) -> IrigVerdict
+    ensures { result ≡ any_verdict_of answer.now }
+{
+    match answer {
+        Err(_) => NO_VERDICT,
+        Ok(EitherOutcome::First(outcome)) => verdict_by(outcome.audit),
+        Ok(EitherOutcome::Second(outcome)) => verdict_on_devices(outcome.audit),
+    }
+}
+
+/// The verdict on a run of devices that ended so.
+pub(crate) fn verdict_on_station(answer: &Result<StationOutcome, SceneFault>) -> IrigVerdict
+    ensures { result ≡ station_verdict_of answer.now }
+{
+    match answer {
+        Err(_) => NO_VERDICT,
+        Ok(outcome) => verdict_on_devices(outcome.audit),
+    }
+}
+
+const NO_VERDICT: IrigVerdict = IrigVerdict {
+    edge: 0,
+    kind: 0,
+    reader: 0,
+};
+
+fn verdict_by(audit: Audit) -> IrigVerdict
+    ensures { result ≡ verdict_by audit }
+{
+    let (kind, reader, edge) = match audit {
+        Audit::Kept => (1, 0, 0),
+        Audit::Broken { reader, edge } => (2, reader, edge),
+        Audit::FalseTable { reader } => (3, reader, 0),
+    };
+    IrigVerdict { edge, kind, reader }
+}
+
+fn verdict_on_devices(audit: StationAudit) -> IrigVerdict
+    ensures { result ≡ verdict_on_devices audit }
+{
+    let (kind, reader, edge) = match audit {
+        StationAudit::Kept => (1, 0, 0),
+        StationAudit::Broken { device, edge } => (2, device, edge),
+        StationAudit::FalseTable { device } => (3, device, 0),
+        StationAudit::Drift { device } => (4, device, 0),
     };
     IrigVerdict { edge, kind, reader }
 }

@@ -20,7 +20,12 @@ ghost use Rattle.irig_scenario.specs.DeviceLogs.{VouchesForDevices};
 ghost use Rattle.irig_scenario.specs.Scenarios.{has_devices};
 ghost use Rattle.irig_scene.specs.VouchedByPorts.{VouchesByPorts};
 ghost use Rattle.irig_scene.specs.VouchedLines.{VouchesByPlantLine};
-ghost use Rattle.c_scenario.specs.Entries.{entries_of, verdict_by};
+ghost use Rattle.irig_scenario.specs.AnyScenario.{AnyScene, any_meaning};
+ghost use Rattle.irig_station.specs.StationPromise.{IsTrueEntry};
+ghost use Rattle.irig_station_scene.specs.StationScenes.{StationScene, station_audit, station_log, station_scenario};
+ghost use Rattle.report_run.specs.Meanings.{meaning_of as lines_mean};
+ghost use Rattle.c_scenario.specs.Entries.{entries_of, verdict_by, verdict_in, verdict_on_devices};
+ghost use Rattle.c_scenario.specs.Told.{told_of};
 ghost use Rattle.c_scenario.specs.Frames.{are_options, are_rules, options_in, rules_in};
 ghost use Rattle.c_scenario.specs.TrueEntries.{AreTrueBefore};
 ghost use Rattle.c_scenario.specs.Stretches.{stretches_of};
@@ -35,8 +40,10 @@ mod lane;
 mod refusal;
 mod run;
 mod stretch;
+mod told;
+mod told_log;
 
-use entry::verdict_for_c;
+use entry::{verdict_for_c, verdict_on_any, verdict_on_station};
 pub use entry::{IrigEntry, IrigVerdict};
 use entry_log::{hear_text, write_entries};
 pub use frame::IrigFrameOptions;
@@ -50,6 +57,8 @@ use std::alloc::Global;
 use stretch::write_stretches;
 pub use stretch::{IrigOffset, IrigStretch};
 use text_frame::{FrameText, ReadingFault, frame_lines, frame_text};
+pub use told::IrigDeviceEntry;
+use told_log::{hear_devices, write_told};
 
 // Of the texts of frames: written; and not, for a text that is none of a second or of a frame, or a
 // number without a meaning; and for lack of memory.
@@ -196,9 +205,11 @@ pub extern "C" fn irig_scene_c_run_entries(
     run::status_of(&run.answer)
 }
 
-/// The same run, of which is written into `stretches` who lied and what it cost, as many as it has
-/// room for: of each line of `irig blame` but the totals and the last one a stretch, in their order.
-/// `whole` is then how many there are, and `verdict` says whether the premises held.
+/// A run of a plant of readers or of devices, of which is written into `stretches` who lied and what
+/// it cost, as many as it has room for: of a plant of readers for each line of `irig blame` but the
+/// totals and the last one a stretch, in their order. Of a plant of devices a device is a reader, its
+/// lines are the ports, and each second that it told is a tick at the true edge to which it lies
+/// nearest. `whole` is then how many there are, and `verdict` says whether the premises held.
 ///
 /// 0 if the run was done, and 3 if a line is refused, as `refusal` and `reason` say. 6 if there was no
 /// memory for the run, and 5 if there was none to say what is refused: nothing is written into
@@ -214,25 +225,25 @@ pub extern "C" fn irig_scene_c_run_stretches(
     refusal: &mut IrigRefusal,
 ) -> u8
     ensures status { IsStatus result }
-    ensures done { result ≡ 0 → (meaning_of text.now).refused ≡ None }
-    ensures refused { result ≡ 3 → IsSome (meaning_of text.now).refused }
+    ensures done { result ≡ 0 → (any_meaning text.now).refused ≡ None }
+    ensures refused { result ≡ 3 → IsSome (any_meaning text.now).refused }
     ensures refusal { HasWholeLog result
-        → IsRefusalOf (meaning_of text.now).refused refusal.new.line refusal.new.number }
+        → IsRefusalOf (any_meaning text.now).refused refusal.new.line refusal.new.number }
     // each finding of which blame writes a line, in its order, as far as there is room
     ensures stretches { HasWholeLog result
         → stretches.new ≡ written_over stretches.old (stretches_of text.now) }
     ensures whole { HasWholeLog result → whole.new ≡ length (stretches_of text.now) }
     ensures unchanged { 4 ≤ result → stretches.new ≡ stretches.old }
     ensures none { 4 ≤ result → whole.new ≡ 0 }
-    ensures verdict { result ≡ 0 → (at : Scene) → (meaning_of text.now).scene ≡ Some at
-        → verdict.new ≡ verdict_by (audit_in at) }
+    ensures verdict { result ≡ 0 → (at : AnyScene) → (any_meaning text.now).scene ≡ Some at
+        → verdict.new ≡ verdict_in at }
     ensures no_verdict { result ≢ 0 → verdict.new.kind ≡ 0 }
 {
     let found = find(alloc, text);
-    *verdict = verdict_for_c(&found.answer);
+    *verdict = verdict_on_any(&found.answer);
     write_stretches(stretches, &found.findings);
     *whole = found.findings.len();
-    *refusal = run::explain(alloc, &found.answer, &found.refused, reason);
+    *refusal = run::explain_either(alloc, &found.answer, &found.refused, reason);
     run::status_of(&found.answer)
 }
 
@@ -255,26 +266,72 @@ pub extern "C" fn irig_scene_c_run_lanes(
     refusal: &mut IrigRefusal,
 ) -> u8
     ensures status { IsStatus result }
-    ensures done { result ≡ 0 → (meaning_of text.now).refused ≡ None }
-    ensures refused { result ≡ 3 → IsSome (meaning_of text.now).refused }
+    ensures done { result ≡ 0 → (any_meaning text.now).refused ≡ None }
+    ensures refused { result ≡ 3 → IsSome (any_meaning text.now).refused }
     ensures refusal { HasWholeLog result
-        → IsRefusalOf (meaning_of text.now).refused refusal.new.line refusal.new.number }
+        → IsRefusalOf (any_meaning text.now).refused refusal.new.line refusal.new.number }
     // each lane and mark, in their order, as far as there is room
     ensures lanes { HasWholeLog result
         → lanes.new ≡ written_over lanes.old (lanes_of text.now) }
     ensures whole { HasWholeLog result → whole.new ≡ length (lanes_of text.now) }
     ensures unchanged { 4 ≤ result → lanes.new ≡ lanes.old }
     ensures none { 4 ≤ result → whole.new ≡ 0 }
-    ensures verdict { result ≡ 0 → (at : Scene) → (meaning_of text.now).scene ≡ Some at
-        → verdict.new ≡ verdict_by (audit_in at) }
+    ensures verdict { result ≡ 0 → (at : AnyScene) → (any_meaning text.now).scene ≡ Some at
+        → verdict.new ≡ verdict_in at }
     ensures no_verdict { result ≢ 0 → verdict.new.kind ≡ 0 }
 {
     let drawn = draw(alloc, text);
-    *verdict = verdict_for_c(&drawn.answer);
+    *verdict = verdict_on_any(&drawn.answer);
     write_lanes(lanes, &drawn.lanes);
     *whole = drawn.lanes.len();
-    *refusal = run::explain(alloc, &drawn.answer, &drawn.refused, reason);
+    *refusal = run::explain_either(alloc, &drawn.answer, &drawn.refused, reason);
     run::status_of(&drawn.answer)
+}
+
+/// A run of a plant of devices, whose log is written into `entries` as numbers: what they told, silent
+/// seconds too, and stamps, as many as it has room for. `whole` is then how many there are, and
+/// `verdict` says whether the premises held. A plant of readers is refused.
+///
+/// 0 if the run was done, and 3 if a line is refused, as `refusal` and `reason` say. 6 if there was no
+/// memory for the run, and 5 if there was none to say what is refused: nothing is written into
+/// `entries` then, and `whole` is 0.
+#[unsafe(no_mangle)]
+pub extern "C" fn irig_scene_c_run_told(
+    alloc: Global,
+    text: &[u8],
+    entries: &mut [IrigDeviceEntry],
+    whole: &mut usize,
+    verdict: &mut IrigVerdict,
+    reason: &mut [u8],
+    refusal: &mut IrigRefusal,
+) -> u8
+    ensures status { IsStatus result }
+    ensures done { result ≡ 0 → (lines_mean station_scenario text.now).refused ≡ None }
+    ensures refused { result ≡ 3 → IsSome (lines_mean station_scenario text.now).refused }
+    ensures refusal { HasWholeLog result
+        → IsRefusalOf (lines_mean station_scenario text.now).refused refusal.new.line
+        refusal.new.number }
+    // each entry of the log, in its order, as far as there is room
+    ensures entries { HasWholeLog result
+        → entries.new ≡ written_over entries.old (told_of text.now) }
+    ensures whole { HasWholeLog result → whole.new ≡ length (told_of text.now) }
+    ensures unchanged { 4 ≤ result → entries.new ≡ entries.old }
+    ensures none { 4 ≤ result → whole.new ≡ 0 }
+    ensures verdict { result ≡ 0 → (at : StationScene)
+        → (lines_mean station_scenario text.now).scene ≡ Some at
+        → verdict.new ≡ verdict_on_devices (station_audit at) }
+    ensures no_verdict { result ≢ 0 → verdict.new.kind ≡ 0 }
+    // if the premises held, each entry of the log is true: an announced second is T of its edge, to
+    // its bound, and a stamp names its instant
+    ensures truth { result ≡ 0 → verdict.new.kind ≡ 1 → (at : StationScene)
+        → (lines_mean station_scenario text.now).scene ≡ Some at
+        → All (IsTrueEntry at.plan.setup) (station_log at) }
+{
+    let run = hear_devices(alloc, text);
+    *verdict = verdict_on_station(&run.answer);
+    *whole = write_told(entries, &run);
+    *refusal = run::explain_cause(&run.answer, reason);
+    run::status_of(&run.answer)
 }
 
 /// Writes the frame of the UTC second whose text this is, as `irig frame` prints it: ten groups of

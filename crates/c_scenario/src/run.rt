@@ -100,6 +100,14 @@ pub(crate) fn explain_either<T>(
     }
 }
 
+/// The same of a plant of devices, by the answer alone.
+pub(crate) fn explain_cause<T>(answer: &Result<T, SceneFault>, reason: &mut [u8]) -> IrigRefusal
+    ensures line { result.line ≡ line_of answer.now }
+    ensures number { result.number ≡ number_of answer.now }
+{
+    refusal_with(answer, cause_of(number_of(answer)), Parts::NONE, reason)
+}
+
 fn explain_line<T>(
     alloc: Global,
     answer: &Result<T, SceneFault>,

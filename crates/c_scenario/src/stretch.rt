@@ -190,7 +190,7 @@ fn offset_of(offset: Option<Offset>) -> IrigOffset
     }
 }
 
-fn second_of(second: Option<UtcSecond>) -> UtcSecond
+pub(crate) fn second_of(second: Option<UtcSecond>) -> UtcSecond
     ensures { result ≡ second_or_zeros second }
 {
     match second {

@@ -1,57 +1,53 @@
 -- The ticks of readers, and their accounts.
-use Rattle.std.proofs.Common.{◌≡◌, ◌≢◌, ℕ, ◌+◌, ◌<◌, true, false, cond, List, [], ◌∷◌, length, get_or, set, Option, Some, None, refl, sym, ap, ◌∙◌, arith, inl, inr}
+use Rattle.std.proofs.Common.{◌≡◌, ◌≢◌, ℕ, ◌<◌, Bool, true, false, cond, List, [], ◌∷◌, length, get_or, set, Option, Some, None, refl, sym, ap, ◌∙◌, arith, inl, inr}
 use Rattle.std.specs.Prelude.{◌==◌}
 use Rattle.std.proofs.lemmas.Option.{same_Some, none-some}
-use Rattle.std.proofs.lemmas.Bool.{eq-eqb, cases_lt}
+use Rattle.std.proofs.lemmas.Bool.{eq-eqb, eqb-true, cases_lt}
 use Rattle.irig_plant.specs.declared.event.Event.{Event}
 use Rattle.irig_plant.specs.declared.event.Event.TheVariants.{GenEdge, Tick, Carry, Damage, Replay, Raw, Fault, Repair, Restart}
 use Rattle.irig_plant.specs.declared.fault.PlantFault.{PlantFault}
 use Rattle.irig_plant.specs.declared.fault.PlantFault.TheVariants.{NoSuchReader}
 use Rattle.irig_plant.specs.Refusals.{unless_second, refusal}
-use Rattle.irig_plant.specs.Schedule.{Setup, ticks_of, entry_of}
+use Rattle.irig_plant.specs.Schedule.{Setup, ticks_of}
 use Rattle.irig_plant.proofs.ListLaws.{apart, each_set}
 use Rattle.irig_plant.proofs.StepLaws.{no_reader}
 use Rattle.irig_scene.specs.Listening.{entries_by}
 use Rattle.report_found.specs.declared.account.Account.{Account}
+use Rattle.report_found.specs.declared.book.Book.{Book}
 use Rattle.report_found.specs.declared.tick.Tick.{Tick as TickOf}
 use Rattle.report_found.specs.Accounts.{account_of}
-use Rattle.report_found.specs.Books.{tick_of, ticks_at, account_at, first_tick}
+use Rattle.report_found.specs.Books.{HasTicks, tick_of, ticks_at, with_tick, first_tick}
 
--- ---- the ticks of a reader
+-- ---- the ticks of readers
 
--- there are as many as its edge says
-pub ticks_length : (s : Setup) (r : ℕ) (ev : List Event) → length (ticks_at s r ev) ≡ ticks_of r ev
-ticks_length s r [] = refl
-ticks_length s r (Tick x ∷ ev) =
-    elim (x == r) as (λ b. length (cond b (tick_of s r ev ∷ ticks_at s r ev) (ticks_at s r ev)) ≡ cond b (ticks_of r ev + 1) (ticks_of r ev)) [
-      | true ↦ let h : length (ticks_at s r ev) ≡ ticks_of r ev = ticks_length s r ev in omega (arith, h)
-      | false ↦ ticks_length s r ev
-    ]
-ticks_length s r (GenEdge g ∷ ev) = ticks_length s r ev
-ticks_length s r (Carry g x ∷ ev) = ticks_length s r ev
-ticks_length s r (Damage g x at width ∷ ev) = ticks_length s r ev
-ticks_length s r (Replay g x edge ∷ ev) = ticks_length s r ev
-ticks_length s r (Raw g x widths ∷ ev) = ticks_length s r ev
-ticks_length s r (Fault g kind ∷ ev) = ticks_length s r ev
-ticks_length s r (Repair g ∷ ev) = ticks_length s r ev
-ticks_length s r (Restart x ∷ ev) = ticks_length s r ev
+-- a tick of a reader that comes now is one more of its ticks
+pub one_more : (s : Setup) (x : ℕ) (ev : List Event) (r : ℕ) → with_tick (tick_of s x ev) (λ r. ticks_at s r ev) r ≡ ticks_at s r (Tick x ∷ ev)
+one_more s x ev r = by_test (x == r) refl
+  where
+    by_test : (b : Bool) → (x == r) ≡ b → cond b (tick_of s x ev ∷ ticks_at s r ev) (ticks_at s r ev) ≡ cond b (tick_of s r ev ∷ ticks_at s r ev) (ticks_at s r ev)
+    by_test true is = ap (λ k. tick_of s k ev ∷ ticks_at s r ev) (eqb-true x r is)
+    by_test false is = refl
 
-other_account : (s : Setup) (ev : List Event) (i r : ℕ) → r ≢ i → account_at s (Tick i ∷ ev) r ≡ account_at s ev r
-other_account s ev i r q = rw (apart i r (λ e. q (sym e))) refl
+-- a book of some ticks is one of the same ticks
+pub same_ticks : (b : Book) (n : ℕ) (f g : ℕ → List TickOf) → ((r : ℕ) → f r ≡ g r) → HasTicks b n f → HasTicks b n g
+same_ticks b n f g same h = record { count = h.count; each = λ r d lt. h.each r d lt ∙ ap account_of (same r) }
 
-own_account : (s : Setup) (ev : List Event) (r : ℕ) → account_at s (Tick r ∷ ev) r ≡ account_of (tick_of s r ev ∷ ticks_at s r ev)
-own_account s ev r = rw (eq-eqb r r refl) refl
+pub other_ticks : (t : TickOf) (ticks : ℕ → List TickOf) (r : ℕ) → r ≢ t.entry.reader → with_tick t ticks r ≡ ticks r
+other_ticks t ticks r q = rw (apart t.entry.reader r (λ e. q (sym e))) refl
+
+pub own_ticks : (t : TickOf) (ticks : ℕ → List TickOf) → with_tick t ticks t.entry.reader ≡ t ∷ ticks t.entry.reader
+own_ticks t ticks = rw (eq-eqb t.entry.reader t.entry.reader refl) refl
 
 -- one account is another
-pub each_added : (s : Setup) (r : ℕ) (ev : List Event) (xs : List Account) (x y : Account) → length xs ≡ length s.readers → r < length s.readers
-    → ((k : ℕ) (d : Account) → k < length s.readers → get_or xs k d ≡ account_at s ev k) → x ≡ get_or xs r x
-    → (x ≡ account_of (ticks_at s r ev) → length (ticks_at s r ev) + 1 ≡ (tick_of s r ev).entry.edge → y ≡ account_of (tick_of s r ev ∷ ticks_at s r ev))
-    → (k : ℕ) (d : Account) → k < length s.readers → get_or (set xs r y) k d ≡ account_at s (Tick r ∷ ev) k
-each_added s r ev xs x y n low h is exact =
-    let edge : length (ticks_at s r ev) + 1 ≡ ticks_of r ev + 1 = ap (λ n. n + 1) (ticks_length s r ev) in
-    each_set (λ k z. z ≡ account_at s ev k) (λ k z. z ≡ account_at s (Tick r ∷ ev) k) (length s.readers) xs r y (omega (arith, n, low)) h
-    (λ k z q e. e ∙ sym (other_account s ev r k q))
-    (exact (is ∙ h r x low) edge ∙ sym (own_account s ev r))
+pub each_added : (n : ℕ) (ticks : ℕ → List TickOf) (t : TickOf) (xs : List Account) (x y : Account) → length xs ≡ n → t.entry.reader < n
+    → ((k : ℕ) (d : Account) → k < n → get_or xs k d ≡ account_of (ticks k)) → x ≡ get_or xs t.entry.reader x
+    → (x ≡ account_of (ticks t.entry.reader) → y ≡ account_of (t ∷ ticks t.entry.reader))
+    → (k : ℕ) (d : Account) → k < n → get_or (set xs t.entry.reader y) k d ≡ account_of (with_tick t ticks k)
+each_added n ticks t xs x y size low h is exact =
+    let r = t.entry.reader in
+    each_set (λ k z. z ≡ account_of (ticks k)) (λ k z. z ≡ account_of (with_tick t ticks k)) n xs r y (omega (arith, size, low)) h
+    (λ k z q e. e ∙ sym (ap account_of (other_ticks t ticks k q)))
+    (exact (is ∙ h r x low) ∙ sym (ap account_of (own_ticks t ticks)))
 
 -- ---- the tick that an event is
 

@@ -1,6 +1,6 @@
 -- What a book makes of an event that the plant has taken.
-use Rattle.std.proofs.Common.{◌≡◌, ℕ, ◌<◌, List, [], ◌∷◌, ◌++◌, length, Option, Some, None, refl, sym, ap, ◌∙◌, subst, arith, append-nil}
-use Rattle.std.specs.Prelude.{All, slice_index_or, vec_len}
+use Rattle.std.proofs.Common.{◌≡◌, ℕ, ◌<◌, List, [], ◌∷◌, ◌++◌, length, Option, Some, None, Result, Ok, Err, refl, sym, ap, ◌∙◌, subst, arith, append-nil}
+use Rattle.std.specs.Prelude.{All, OnOk, slice_index_or, vec_len}
 use Rattle.irig_plant.specs.declared.event.Event.{Event}
 use Rattle.irig_plant.specs.declared.event.Event.TheVariants.{GenEdge, Tick, Carry, Damage, Replay, Raw, Fault, Repair, Restart}
 use Rattle.irig_plant.specs.Refusals.{refusal}
@@ -11,12 +11,30 @@ use Rattle.report_found.specs.declared.book.Book.{Book}
 use Rattle.report_found.specs.declared.finding.Finding.{Finding}
 use Rattle.report_found.specs.declared.tick.Tick.{Tick as TickOf}
 use Rattle.report_found.specs.Accounts.{account_of}
-use Rattle.report_found.specs.Books.{tick_of, account_at, IsBookOf}
+use Rattle.report_found.specs.Books.{HasTicks, tick_of, ticks_at, account_at, with_tick, IsBookOf}
 use Rattle.report_found.specs.Scenes.{ended_by_event, all_ended, all_open}
 use Rattle.report_found.specs.Runs.{IsBookAt}
 use Rattle.report_found.specs.Findings.{lists_below, ended_found, open_found}
 use Rattle.report_found.proofs.GrowLaws.{lists_alike}
-use Rattle.report_found.proofs.BookLaws.{latest, the_tick, no_tick, known_reader}
+use Rattle.report_found.proofs.BookLaws.{latest, the_tick, no_tick, known_reader, one_more, same_ticks}
+
+-- ---- what is so if there was memory
+
+pub on_one : {A E : Type 0} (r : Result A E) (P Q : Type 0) → (P → Q) → OnOk r P → OnOk r Q
+on_one (Ok a) P Q f p = f p
+on_one (Err e) P Q f p = tt
+
+pub on_both : {A E : Type 0} (r : Result A E) (P Q R : Type 0) → (P → Q → R) → OnOk r P → OnOk r Q → OnOk r R
+on_both (Ok a) P Q R f p q = f p q
+on_both (Err e) P Q R f p q = tt
+
+pub on_all : {A E : Type 0} (r : Result A E) (P Q R S : Type 0) → (P → Q → R → S) → OnOk r P → OnOk r Q → OnOk r R → OnOk r S
+on_all (Ok a) P Q R S f p q s = f p q s
+on_all (Err e) P Q R S f p q s = tt
+
+pub on_any : {A E : Type 0} (r : Result A E) (P : Type 0) → P → OnOk r P
+on_any (Ok a) P p = p
+on_any (Err e) P p = tt
 
 -- ---- a new plant
 
@@ -60,37 +78,38 @@ module _ (b : Book) (x : Scene) (e : Event) (at : IsBookAt b x) where
 
   -- ---- a tick
 
-  -- its reader has an account
-  pub has_account : (t : TickOf) → refusal x.plan.setup e x.events ≡ None → Some t ≡ latest x.plan.setup e x.events → t.entry.reader < vec_len b.accounts
-  has_account t accepted some =
+  -- it is of a reader of the plant
+  pub has_reader : (t : TickOf) → refusal x.plan.setup e x.events ≡ None → Some t ≡ latest x.plan.setup e x.events → t.entry.reader < length x.plan.setup.readers
+  has_reader t accepted some =
       let is = the_tick x.plan.setup e x.events t some in
       let known = known_reader x.plan.setup is.reader x.events (ap (λ e. refusal x.plan.setup e x.events) (sym is.is) ∙ accepted) in
       let reader : t.entry.reader ≡ is.reader = ap (λ (t : TickOf). t.entry.reader) is.same in
-      omega (arith, known, reader, at.book.count)
+      omega (arith, known, reader)
 
   -- what is pushed is what the event ends
-  pub ended_is : (t : TickOf) → refusal x.plan.setup e x.events ≡ None → Some t ≡ latest x.plan.setup e x.events
-      → ended_found t.entry.reader b.ports (slice_index_or b.accounts.items t.entry.reader (account_of [])) t ≡ ended_by_event x.plan.setup e x.events
-  ended_is t accepted some =
+  pub ended_is : (t : TickOf) → Some t ≡ latest x.plan.setup e x.events
+      → ended_found t.entry.reader b.ports (account_of (ticks_at x.plan.setup t.entry.reader x.events)) t ≡ ended_by_event x.plan.setup e x.events
+  ended_is t some =
       let s = x.plan.setup in
       let is = the_tick s e x.events t some in
       let r = is.reader in
-      let known = known_reader s r x.events (ap (λ e. refusal s e x.events) (sym is.is) ∙ accepted) in
-      ap (λ (t : TickOf). ended_found t.entry.reader b.ports (slice_index_or b.accounts.items t.entry.reader (account_of [])) t) is.same
-      ∙ ap (λ ports. ended_found r ports (slice_index_or b.accounts.items r (account_of [])) (tick_of s r x.events)) at.ports
-      ∙ ap (λ (a : Account). ended_found r (length s.generators) a (tick_of s r x.events)) (at.book.each r (account_of []) known)
+      ap (λ (t : TickOf). ended_found t.entry.reader b.ports (account_of (ticks_at s t.entry.reader x.events)) t) is.same
+      ∙ ap (λ ports. ended_found r ports (account_at s x.events r) (tick_of s r x.events)) at.ports
       ∙ ap (λ e. ended_by_event s e x.events) (sym is.is)
 
   -- and the book has the tick
   pub stands_after : (q : Book) (t : TickOf) → refusal x.plan.setup e x.events ≡ None → Some t ≡ latest x.plan.setup e x.events → q.ports ≡ b.ports
-      → ((s : Setup) (r : ℕ) (ev : List Event) → IsBookOf b s ev → r < vec_len b.accounts → t ≡ tick_of s r ev → IsBookOf q s (Tick r ∷ ev))
+      → ((n : ℕ) (ticks : ℕ → List TickOf) → HasTicks b n ticks → t.entry.reader < n → HasTicks q n (with_tick t ticks))
       → IsBookAt q (scene x.plan (e ∷ x.events))
   stands_after q t accepted some ports added =
       let s = x.plan.setup in
       let is = the_tick s e x.events t some in
-      let known = known_reader s is.reader x.events (ap (λ e. refusal s e x.events) (sym is.is) ∙ accepted) in
+      let before : ℕ → List TickOf = λ r. ticks_at s r x.events in
       record {
-        book = subst (λ e. IsBookOf q s (e ∷ x.events)) (sym is.is) (added s is.reader x.events at.book (omega (arith, known, at.book.count)) is.same);
+        book = subst (λ e. IsBookOf q s (e ∷ x.events)) (sym is.is)
+            (same_ticks q (length s.readers) (with_tick t before) (λ r. ticks_at s r (Tick is.reader ∷ x.events))
+            (λ r. ap (λ (t : TickOf). with_tick t before r) is.same ∙ one_more s is.reader x.events r)
+            (added (length s.readers) before at.book (has_reader t accepted some)));
         ports = ports ∙ at.ports;
       }
 

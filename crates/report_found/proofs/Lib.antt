@@ -4,6 +4,7 @@ pub mod CountLaws
 pub mod GrowLaws
 pub mod BookLaws
 pub mod EventLaws
+pub mod DeviceLaws
 pub mod KindLaws
 pub mod SilenceLaws
 pub mod TruthLaws

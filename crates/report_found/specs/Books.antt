@@ -28,11 +28,19 @@ ticks_at s r (_ ∷ ev) = ticks_at s r ev
 abbrev pub account_at : Setup → List Event → ℕ → Account
 account_at s ev r = account_of (ticks_at s r ev)
 
--- the book has the account of each reader
-pub record IsBookOf (book : Book) (s : Setup) (ev : List Event) : Type 0 where
-  pub count : vec_len book.accounts ≡ length s.readers
-  pub each : (r : ℕ) (d : Account) → r < length s.readers
-      → slice_index_or book.accounts.items r d ≡ account_at s ev r
+-- what each reader had of ticks, with one more
+abbrev pub with_tick : Tick → ((r : ℕ) → List Tick) → (r : ℕ) → List Tick
+with_tick t ticks r = if t.entry.reader == r then t ∷ ticks r else ticks r
+
+-- the book has the account of each of so many readers, which had these ticks
+pub record HasTicks (book : Book) (readers : ℕ) (ticks : (r : ℕ) → List Tick) : Type 0 where
+  pub count : vec_len book.accounts ≡ readers
+  pub each : (r : ℕ) (d : Account) → r < readers
+      → slice_index_or book.accounts.items r d ≡ account_of (ticks r)
+
+-- so of the readers of a plant
+abbrev pub IsBookOf : Book → Setup → List Event → Type 0
+IsBookOf book s ev = HasTicks book (length s.readers) (λ r. ticks_at s r ev)
 
 -- by the first of some entries
 abbrev pub first_tick : List Entry → Option Tick

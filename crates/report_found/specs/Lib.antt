@@ -5,6 +5,9 @@ pub mod Soundness
 pub mod Accounts
 pub mod Findings
 pub mod Books
+pub mod DeviceTicks
+pub mod DeviceScenes
+pub mod DeviceRuns
 pub mod Scenes
 pub mod Runs
 pub mod LongestRuns

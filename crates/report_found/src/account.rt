@@ -44,23 +44,23 @@ impl PortAccount {
         }
     }
 
-    fn after(&self, port: u8, tick: &Tick) -> PortAccount
+    // After a tick more, which is that of this number, from 1.
+    fn after(&self, port: u8, tick: &Tick, number: u64) -> PortAccount
         requires stretch { IsSoundOpen self.now.stretch }
         requires tick { IsSoundTick tick.now }
         ensures exact { (ts : List TickOf) → self.now ≡ port_account port ts
-            → length ts < tick.now.entry.edge → result ≡ port_account port (tick.now ∷ ts) }
+            → length ts < number → result ≡ port_account port (tick.now ∷ ts) }
         ensures sound { IsSoundOpen result.stretch }
     {
         let kind = tick.kind(port);
-        let edge = tick.entry.edge;
         PortAccount {
-            agreed: counted(self.agreed, kind.is(Kind::Agreed), edge),
-            silent: counted(self.silent, kind.is(Kind::Silent), edge),
-            faulty: counted(self.faulty, kind.is(Kind::Faulty), edge),
-            poor: counted(self.poor, kind.is(Kind::Poor), edge),
-            another_second: counted(self.another_second, kind.is(Kind::AnotherSecond), edge),
-            another_mark: counted(self.another_mark, kind.is(Kind::AnotherMark), edge),
-            stretch: stretch_after(self.stretch, port, tick),
+            agreed: counted(self.agreed, kind.is(Kind::Agreed), number),
+            silent: counted(self.silent, kind.is(Kind::Silent), number),
+            faulty: counted(self.faulty, kind.is(Kind::Faulty), number),
+            poor: counted(self.poor, kind.is(Kind::Poor), number),
+            another_second: counted(self.another_second, kind.is(Kind::AnotherSecond), number),
+            another_mark: counted(self.another_mark, kind.is(Kind::AnotherMark), number),
+            stretch: stretch_after(self.stretch, port, tick, number),
         }
     }
 }
@@ -107,25 +107,24 @@ impl Account {
         }
     }
 
-    /// The account after one tick more.
-    pub(crate) fn after(&self, tick: &Tick) -> Account
+    /// The account after one tick more, which is that of this number, from 1.
+    pub(crate) fn after(&self, tick: &Tick, number: u64) -> Account
         requires account { IsSoundAccount self.now }
         requires tick { IsSoundTick tick.now }
         ensures exact { (ts : List TickOf) → self.now ≡ account_of ts
-            → length ts + 1 ≡ tick.now.entry.edge → result ≡ account_of (tick.now ∷ ts) }
+            → length ts + 1 ≡ number → result ≡ account_of (tick.now ∷ ts) }
         ensures sound { IsSoundAccount result }
     {
-        let edge = tick.entry.edge;
         let vote = vote_after(self.vote, tick);
         Account {
-            a: self.a.after(0, tick),
-            b: self.b.after(1, tick),
-            c: self.c.after(2, tick),
-            d: self.d.after(3, tick),
-            e: self.e.after(4, tick),
-            edges: edge,
-            announced: counted(self.announced, tick.is_announced(), edge),
-            untrue: counted(self.untrue, tick.is_untrue(), edge),
+            a: self.a.after(0, tick, number),
+            b: self.b.after(1, tick, number),
+            c: self.c.after(2, tick, number),
+            d: self.d.after(3, tick, number),
+            e: self.e.after(4, tick, number),
+            edges: number,
+            announced: counted(self.announced, tick.is_announced(), number),
+            untrue: counted(self.untrue, tick.is_untrue(), number),
             silence: silence_after(self.silence, tick),
             vote,
             misled: misled_after(self.misled, vote, tick),

@@ -2,12 +2,11 @@
 
 ghost use Rattle.std.specs.Prelude.{◌≡◌, ◌++◌, ◌<◌, ◌≤◌, ◌∷◌, [], All, ℕ, List, IfOk, OnOk, None, vec_len, slice_index_or};
 ghost use Rattle.irig_plant.specs.Sound.{IsToldSoundly};
-ghost use Rattle.irig_plant.specs.Schedule.{Setup};
 ghost use Rattle.irig_plant.specs.Refusals.{refusal};
 ghost use Rattle.irig_plant.specs.declared.event.Event.{Event as EventOf};
-ghost use Rattle.irig_plant.specs.declared.event.Event.TheVariants.{Tick as TickOfReader};
 ghost use Rattle.irig_scene.specs.Listening.{Gave};
 ghost use Rattle.irig_scene.specs.Scene.{Scene, scene};
+ghost use Rattle.report_found.specs.declared.tick.Tick.{Tick as TickOf};
 ghost use Rattle.report_found.specs.Accounts.{account_of};
 ghost use Rattle.report_found.specs.Findings.{lists_below, ended_found, open_found};
 ghost use Rattle.report_found.specs.Soundness.{IsSoundTick, IsSoundAccount, IsSoundFinding};
@@ -31,7 +30,7 @@ pub struct Book {
 impl Book {
     ghost use Rattle.report_found.specs.Scenes.{ended_by_event};
     ghost use Rattle.report_found.specs.Runs.{IsBookAt};
-    ghost use Rattle.report_found.specs.Books.{tick_of, IsBookOf};
+    ghost use Rattle.report_found.specs.Books.{HasTicks, with_tick};
 
     /// The book of so many readers that have not ticked, 16 at most.
     pub fn new(alloc: Global, readers: usize, ports: u8) -> Result<Book, AllocError>
@@ -57,27 +56,49 @@ impl Book {
         ensures sound { OnOk result (All IsSoundFinding findings.old.items
             → All IsSoundFinding findings.new.items) }
     {
-        let Some(tick) = first_tick(entries) else {
-            return Ok(());
-        };
-        self.push_ended(findings, &tick)?;
-        self.add(&tick);
-        Ok(())
+        match first_tick(entries) {
+            Some(tick) => self.take_tick(findings, &tick),
+            None => Ok(()),
+        }
     }
 
-    // Takes a tick into the account of its reader.
-    fn add(&mut self, tick: &Tick)
+    /// Takes a tick into the account of its reader, and pushes all that it ends.
+    pub fn take_tick(&mut self, findings: &mut Vec<Finding>, tick: &Tick) -> Result<(), AllocError>
+        requires { IsSoundTick tick.now }
+        ensures ports { OnOk result (self.new.ports ≡ self.old.ports) }
+        ensures found { OnOk result ((readers : ℕ) (ticks : ℕ → List TickOf)
+            → HasTicks self.old readers ticks → tick.now.entry.reader < readers
+            → findings.new.items ≡ findings.old.items
+            ++ ended_found tick.now.entry.reader self.old.ports
+            (account_of (ticks tick.now.entry.reader)) tick.now) }
+        ensures added { OnOk result ((readers : ℕ) (ticks : ℕ → List TickOf)
+            → HasTicks self.old readers ticks → tick.now.entry.reader < readers
+            → HasTicks self.new readers (with_tick tick.now ticks)) }
+        ensures sound { OnOk result (All IsSoundFinding findings.old.items
+            → All IsSoundFinding findings.new.items) }
+    {
+        self.push_ended(findings, tick)?;
+        self.add(tick)
+    }
+
+    // Takes a tick into the account of its reader. A count of 2^64 ticks has no room.
+    fn add(&mut self, tick: &Tick) -> Result<(), AllocError>
         requires { IsSoundTick tick.now }
         ensures ports { self.new.ports ≡ self.old.ports }
-        ensures added { (s : Setup) (r : ℕ) (ev : List EventOf) → IsBookOf self.old s ev
-            → r < vec_len self.old.accounts → tick.now ≡ tick_of s r ev
-            → IsBookOf self.new s (TickOfReader r ∷ ev) }
+        ensures added { OnOk result ((readers : ℕ) (ticks : ℕ → List TickOf)
+            → HasTicks self.old readers ticks → tick.now.entry.reader < readers
+            → HasTicks self.new readers (with_tick tick.now ticks)) }
     {
         let reader = tick.entry.reader as usize;
-        if reader < self.accounts.len() {
-            let account = self.accounts[reader].after(tick);
-            self.accounts[reader] = account;
+        if reader >= self.accounts.len() {
+            return Ok(());
         }
+        let Some(number) = self.accounts[reader].edges.checked_add(1) else {
+            return Err(AllocError);
+        };
+        let account = self.accounts[reader].after(tick, number);
+        self.accounts[reader] = account;
+        Ok(())
     }
 
     // Pushes all that a tick ends.

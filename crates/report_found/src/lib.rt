@@ -14,6 +14,7 @@ mod misled;
 mod run;
 mod stretch;
 mod tick;
+mod told;
 
 pub use account::{Account, PortAccount};
 pub use book::Book;
@@ -26,3 +27,4 @@ pub use laws::{
 pub use run::{Found, find};
 pub use stretch::same_cause;
 pub use tick::{Tick, first_tick};
+pub use told::tick_of_told;

@@ -47,34 +47,38 @@ impl Stretch {
         same_offset(self.first.offset(port), tick.offset(port)) && self.steady
     }
 
-    fn more(&self, port: u8, tick: &Tick) -> Stretch
-        ensures exact { IsBelow tick.now.entry.edge self.now → result ≡ more port self.now tick.now }
+    fn more(&self, port: u8, tick: &Tick, number: u64) -> Stretch
+        ensures exact { IsBelow number self.now → result ≡ more port self.now tick.now }
         ensures first { result.first ≡ self.now.first }
     {
-        let edge = tick.entry.edge;
         Stretch {
             kind: self.kind,
             first: self.first,
             last: *tick,
             steady: self.is_steady_at(port, tick),
-            announced: counted(self.announced, tick.is_announced(), edge),
-            untrue: counted(self.untrue, tick.is_untrue(), edge),
+            announced: counted(self.announced, tick.is_announced(), number),
+            untrue: counted(self.untrue, tick.is_untrue(), number),
         }
     }
 }
 
-/// One more, if it is counted. No count passes the edge, which is the number of ticks.
-pub(crate) fn counted(count: u64, is_counted: bool, edge: u64) -> u64
-    ensures { count < edge → result ≡ count + one_if is_counted }
+/// One more, if it is counted. No count passes the number of ticks.
+pub(crate) fn counted(count: u64, is_counted: bool, ticks: u64) -> u64
+    ensures { count < ticks → result ≡ count + one_if is_counted }
 {
-    count.saturating_add(u64::from(is_counted)).min(edge)
+    count.saturating_add(u64::from(is_counted)).min(ticks)
 }
 
-/// The stretch of a port that is open after a tick.
-pub(crate) fn stretch_after(before: Option<Stretch>, port: u8, tick: &Tick) -> Option<Stretch>
+/// The stretch of a port that is open after a tick, which is that of this number, from 1.
+pub(crate) fn stretch_after(
+    before: Option<Stretch>,
+    port: u8,
+    tick: &Tick,
+    number: u64,
+) -> Option<Stretch>
     requires before { IsSoundOpen before }
     requires tick { IsSoundTick tick.now }
-    ensures exact { IfSome before (IsBelow tick.now.entry.edge)
+    ensures exact { IfSome before (IsBelow number)
         → result ≡ stretch_after port before tick.now }
     ensures sound { IsSoundOpen result }
 {
@@ -83,7 +87,7 @@ pub(crate) fn stretch_after(before: Option<Stretch>, port: u8, tick: &Tick) -> O
         return None;
     }
     match before {
-        Some(stretch) if stretch.kind.is(kind) => Some(stretch.more(port, tick)),
+        Some(stretch) if stretch.kind.is(kind) => Some(stretch.more(port, tick, number)),
         _ => Some(Stretch::begun(kind, tick)),
     }
 }

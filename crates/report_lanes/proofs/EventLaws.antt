@@ -1,25 +1,23 @@
 -- What a drawer makes of an event that the plant has taken.
-use Rattle.std.proofs.Common.{◌≡◌, ℕ, ◌<◌, List, [], ◌∷◌, ◌++◌, length, Some, None, Result, Ok, Err, refl, sym, ap, ◌∙◌, subst, arith, append-nil}
-use Rattle.std.specs.Prelude.{All, OnOk, slice_index_or, vec_len}
+use Rattle.std.proofs.Common.{◌≡◌, ℕ, ◌<◌, List, [], ◌∷◌, ◌++◌, length, Some, None, refl, sym, ap, ◌∙◌, subst, arith, append-nil}
+use Rattle.std.specs.Prelude.{All, slice_index_or, vec_len}
 use Rattle.irig_plant.specs.declared.event.Event.{Event}
 use Rattle.irig_plant.specs.declared.event.Event.TheVariants.{GenEdge, Tick, Carry, Damage, Replay, Raw, Fault, Repair, Restart}
 use Rattle.irig_plant.specs.Refusals.{refusal}
 use Rattle.irig_plant.specs.Schedule.{Setup}
 use Rattle.irig_scene.specs.Scene.{Scene, scene}
 use Rattle.report_found.specs.declared.tick.Tick.{Tick as TickOf}
-use Rattle.report_found.specs.Books.{tick_of}
+use Rattle.report_found.specs.Books.{ticks_at, with_tick}
 use Rattle.report_found.specs.Findings.{lists_below}
-use Rattle.report_found.proofs.BookLaws.{latest, the_tick, no_tick, known_reader}
+use Rattle.report_found.proofs.BookLaws.{latest, the_tick, no_tick, known_reader, one_more}
 use Rattle.report_found.proofs.GrowLaws.{lists_alike}
 use Rattle.report_lanes.specs.declared.drawer.Drawer.{Drawer}
 use Rattle.report_lanes.specs.declared.reader.ReaderLanes.{ReaderLanes}
-use Rattle.report_lanes.specs.Lanes.{open_of, open_lanes}
+use Rattle.report_lanes.specs.Lanes.{open_of, ended_lanes, open_lanes}
+use Rattle.report_lanes.specs.OpenLanes.{AreOpen}
 use Rattle.report_lanes.specs.Runs.{AreOpenAt, IsDrawerAt}
 use Rattle.report_lanes.specs.Scenes.{open_at, ended_at, ended_by_event, all_ended, all_open}
-
-pub on_both : {A E : Type 0} (r : Result A E) (P Q R : Type 0) → (P → Q → R) → OnOk r P → OnOk r Q → OnOk r R
-on_both (Ok a) P Q R f p q = f p q
-on_both (Err e) P Q R f p q = tt
+use Rattle.report_lanes.proofs.LaneLaws.{same_lanes}
 
 -- ---- a new plant
 
@@ -62,20 +60,26 @@ module _ (d : Drawer) (x : Scene) (e : Event) (at : IsDrawerAt d x) where
   -- ---- a tick
 
   pub stands_after : (q : Drawer) (t : TickOf) → refusal x.plan.setup e x.events ≡ None → Some t ≡ latest x.plan.setup e x.events → q.ports ≡ d.ports
-      → ((s : Setup) (r : ℕ) (ev : List Event) → AreOpenAt d s ev → r < vec_len d.readers → t ≡ tick_of s r ev
-      → q.lanes.items ≡ d.lanes.items ++ ended_at s d.ports r ev)
-      → ((s : Setup) (r : ℕ) (ev : List Event) → AreOpenAt d s ev → r < vec_len d.readers → t ≡ tick_of s r ev → AreOpenAt q s (Tick r ∷ ev))
+      → ((n : ℕ) (ticks : ℕ → List TickOf) → AreOpen d n ticks → t.entry.reader < n
+      → q.lanes.items ≡ d.lanes.items ++ ended_lanes d.ports (open_of (ticks t.entry.reader)) t)
+      → ((n : ℕ) (ticks : ℕ → List TickOf) → AreOpen d n ticks → t.entry.reader < n → AreOpen q n (with_tick t ticks))
       → IsDrawerAt q (scene x.plan (e ∷ x.events))
   stands_after q t accepted some ports lanes stays =
       let s = x.plan.setup in
       let is = the_tick s e x.events t some in
       let r = is.reader in
       let known = known_reader s r x.events (ap (λ e. refusal s e x.events) (sym is.is) ∙ accepted) in
-      let low : r < vec_len d.readers = omega (arith, known, at.readers.count) in
+      let before : ℕ → List TickOf = λ r. ticks_at s r x.events in
+      let low : t.entry.reader < length s.readers = omega (arith, known, ap (λ (t : TickOf). t.entry.reader) is.same) in
       record {
-        readers = subst (λ e. AreOpenAt q s (e ∷ x.events)) (sym is.is) (stays s r x.events at.readers low is.same);
+        readers = subst (λ e. AreOpenAt q s (e ∷ x.events)) (sym is.is)
+            (same_lanes q (length s.readers) (with_tick t before) (λ r. ticks_at s r (Tick is.reader ∷ x.events))
+            (λ r. ap (λ (t : TickOf). with_tick t before r) is.same ∙ one_more s is.reader x.events r)
+            (stays (length s.readers) before at.readers low));
         ports = ports ∙ at.ports;
-        ended = lanes s r x.events at.readers low is.same ∙ ap (λ l. l ++ ended_at s d.ports r x.events) at.ended
+        ended = lanes (length s.readers) before at.readers low
+            ∙ ap (λ (t : TickOf). d.lanes.items ++ ended_lanes d.ports (open_of (ticks_at s t.entry.reader x.events)) t) is.same
+            ∙ ap (λ l. l ++ ended_at s d.ports r x.events) at.ended
             ∙ ap (λ n. all_ended s x.events ++ ended_at s n r x.events) at.ports
             ∙ ap (λ e. all_ended s x.events ++ ended_by_event s e x.events) (sym is.is);
       }

@@ -1,16 +1,14 @@
 -- What one tick more does to the open lanes of a reader, and of all readers.
-use Rattle.std.proofs.Common.{◌≡◌, ◌≢◌, ℕ, ◌<◌, List, ◌∷◌, length, get_or, set, Option, Some, refl, sym, ◌∙◌, arith}
-use Rattle.std.proofs.lemmas.Bool.{eq-eqb}
-use Rattle.irig_plant.specs.declared.event.Event.{Event}
-use Rattle.irig_plant.specs.declared.event.Event.TheVariants.{Tick}
-use Rattle.irig_plant.specs.Schedule.{Setup}
-use Rattle.irig_plant.proofs.ListLaws.{apart, each_set}
+use Rattle.std.proofs.Common.{◌≡◌, ℕ, ◌<◌, List, ◌∷◌, length, get_or, set, Option, Some, refl, ap, sym, ◌∙◌, arith}
+use Rattle.irig_plant.proofs.ListLaws.{each_set}
 use Rattle.report_found.specs.declared.tick.Tick.{Tick as TickOf}
-use Rattle.report_found.specs.Books.{tick_of, ticks_at}
+use Rattle.report_found.specs.Books.{with_tick}
+use Rattle.report_found.proofs.BookLaws.{other_ticks, own_ticks}
+use Rattle.report_lanes.specs.declared.drawer.Drawer.{Drawer}
 use Rattle.report_lanes.specs.declared.lane.Lane.{Lane}
 use Rattle.report_lanes.specs.declared.reader.ReaderLanes.{ReaderLanes}
 use Rattle.report_lanes.specs.Lanes.{grown, lane_of, stood_at, told_at, open_of}
-use Rattle.report_lanes.specs.Scenes.{open_at}
+use Rattle.report_lanes.specs.OpenLanes.{AreOpen}
 
 -- ---- of a reader
 
@@ -27,18 +25,17 @@ same_open stood a b c d e ts h0 h1 h2 h3 h4 h5 = rw (h0, h1, h2, h3, h4, h5) ref
 
 -- ---- of all
 
-other_open : (s : Setup) (ev : List Event) (i r : ℕ) → r ≢ i → open_at s (Tick i ∷ ev) r ≡ open_at s ev r
-other_open s ev i r q = rw (apart i r (λ e. q (sym e))) refl
-
-own_open : (s : Setup) (ev : List Event) (r : ℕ) → open_at s (Tick r ∷ ev) r ≡ open_of (tick_of s r ev ∷ ticks_at s r ev)
-own_open s ev r = rw (eq-eqb r r refl) refl
-
 -- those of one reader are others
-pub each_grown : (s : Setup) (r : ℕ) (ev : List Event) (xs : List ReaderLanes) (x y : ReaderLanes) → length xs ≡ length s.readers → r < length s.readers
-    → ((k : ℕ) (d : ReaderLanes) → k < length s.readers → get_or xs k d ≡ open_at s ev k) → x ≡ get_or xs r x
-    → (x ≡ open_of (ticks_at s r ev) → y ≡ open_of (tick_of s r ev ∷ ticks_at s r ev))
-    → (k : ℕ) (d : ReaderLanes) → k < length s.readers → get_or (set xs r y) k d ≡ open_at s (Tick r ∷ ev) k
-each_grown s r ev xs x y n low h is exact =
-    each_set (λ k z. z ≡ open_at s ev k) (λ k z. z ≡ open_at s (Tick r ∷ ev) k) (length s.readers) xs r y (omega (arith, n, low)) h
-    (λ k z q e. e ∙ sym (other_open s ev r k q))
-    (exact (is ∙ h r x low) ∙ sym (own_open s ev r))
+pub each_grown : (n : ℕ) (ticks : ℕ → List TickOf) (t : TickOf) (xs : List ReaderLanes) (x y : ReaderLanes) → length xs ≡ n → t.entry.reader < n
+    → ((k : ℕ) (d : ReaderLanes) → k < n → get_or xs k d ≡ open_of (ticks k)) → x ≡ get_or xs t.entry.reader x
+    → (x ≡ open_of (ticks t.entry.reader) → y ≡ open_of (t ∷ ticks t.entry.reader))
+    → (k : ℕ) (d : ReaderLanes) → k < n → get_or (set xs t.entry.reader y) k d ≡ open_of (with_tick t ticks k)
+each_grown n ticks t xs x y size low h is exact =
+    let r = t.entry.reader in
+    each_set (λ k z. z ≡ open_of (ticks k)) (λ k z. z ≡ open_of (with_tick t ticks k)) n xs r y (omega (arith, size, low)) h
+    (λ k z q e. e ∙ sym (ap open_of (other_ticks t ticks k q)))
+    (exact (is ∙ h r x low) ∙ sym (ap open_of (own_ticks t ticks)))
+
+-- lanes of some ticks are those of the same ticks
+pub same_lanes : (d : Drawer) (n : ℕ) (f g : ℕ → List TickOf) → ((r : ℕ) → f r ≡ g r) → AreOpen d n f → AreOpen d n g
+same_lanes d n f g same h = record { count = h.count; each = λ r o lt. h.each r o lt ∙ ap open_of (same r) }

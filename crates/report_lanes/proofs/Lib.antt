@@ -1,5 +1,6 @@
 pub mod LaneLaws
 pub mod EventLaws
+pub mod DeviceLaws
 pub mod LongestLaws
 pub mod StretchLaws
 pub mod StandardFacts

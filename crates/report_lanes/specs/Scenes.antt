@@ -1,14 +1,17 @@
 -- All that is to be seen of a scenario.
 -- Source: docs/C.md.
 use Rattle.std.specs.Prelude.{ℕ, List, [], ◌∷◌, ◌++◌, length, Option, Some, None}
+use mathlib.Core.Logic.{inl, inr}
 use Rattle.irig_plant.specs.declared.event.Event.{Event}
 use Rattle.irig_plant.specs.declared.event.Event.TheVariants as event
 use Rattle.irig_plant.specs.Schedule.{Setup}
-use Rattle.irig_scene.specs.Scene.{scenario, Scene, meaning_of}
+use Rattle.irig_scene.specs.Scene.{Scene}
+use Rattle.irig_scenario.specs.AnyScenario.{AnyScene, any_meaning}
 use Rattle.report_found.specs.Books.{tick_of, ticks_at}
 use Rattle.report_found.specs.Findings.{lists_below}
 use Rattle.report_lanes.specs.declared.lane.Lane.{Lane}
 use Rattle.report_lanes.specs.declared.reader.ReaderLanes.{ReaderLanes}
+use Rattle.report_lanes.specs.DeviceScenes.{lanes_in_station}
 use Rattle.report_lanes.specs.Lanes.{open_of, ended_lanes, open_lanes}
 
 -- what is open of reader r
@@ -38,11 +41,12 @@ all_open s ev =
 abbrev pub lanes_in : Scene → List Lane
 lanes_in x = all_ended x.plan.setup x.events ++ all_open x.plan.setup x.events
 
--- nothing before there is a plant
-abbrev pub lanes_at : Option Scene → List Lane
+-- nothing before there is a plant; of devices what is to be seen there
+abbrev pub lanes_at : Option AnyScene → List Lane
 lanes_at None = []
-lanes_at (Some x) = lanes_in x
+lanes_at (Some (inl x)) = lanes_in x
+lanes_at (Some (inr x)) = lanes_in_station x
 
 -- all that is to be seen in what the bytes x mean
 abbrev pub lanes_of : List ℕ → List Lane
-lanes_of x = lanes_at (meaning_of x).scene
+lanes_of x = lanes_at (any_meaning x).scene

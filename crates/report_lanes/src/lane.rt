@@ -28,10 +28,12 @@ pub enum Mark {
     MonthEnd,
 }
 
-/// Edges of a reader, one after another, at which something is alike.
+/// Edges of a reader, one after another, at which something is alike. Of a device these are the edges
+/// of seconds that it told one after another: an edge between them that it did not tell belongs to
+/// the lane, and behind a restart one may come again.
 #[derive(Clone, Copy)]
 pub struct Lane {
-    /// The reader, by its place in the plant line, 0 to 15.
+    /// The reader or device, by its place in the plant line, 0 to 15.
     pub reader: u8,
     /// The first edge.
     pub first: u64,

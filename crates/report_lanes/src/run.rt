@@ -1,53 +1,60 @@
 //! A scenario from its first line to its last.
 
 ghost use Rattle.std.specs.Prelude.{◌≡◌, ℕ, List, None, IfOk};
-ghost use Rattle.irig_scene.specs.Explained.{IsExplained};
+ghost use Rattle.irig_scenario.specs.WhyRefused.{IsExplainedAs};
 ghost use Rattle.report_lanes.specs.Runs.{DrawnIn, HasDrawn};
 
 use crate::drawer::Drawer;
 use crate::lane::Lane;
 use irig_device::Watched;
-use irig_port::FlowPort;
-use irig_scene::{Outcome, RefusedLine, Run, SceneFault, run_listening};
+use irig_scenario::{ScenarioOutcome, ScenarioRun, WhyRefused, listen_to_scenario};
+use irig_scene::SceneFault;
+use report_either::Either;
 use std::alloc::{AllocError, Global};
 
 /// What a scenario shows.
 #[derive(Drop)]
 pub struct Drawn {
     /// How its run ended.
-    pub answer: Result<Outcome, SceneFault>,
+    pub answer: Result<ScenarioOutcome, SceneFault>,
     /// All that is to be seen, up to a refusal: each lane where its reader's next tick ends it, and
     /// each mark at its tick, and then the lanes that are open, reader by reader; nothing if the run
     /// failed.
     pub lanes: Vec<Lane>,
     /// What explains the refusal, if a line is refused.
-    pub refused: Option<RefusedLine>,
+    pub refused: Option<WhyRefused>,
 }
 
 /// Plays the lines of a text as a run does, and answers, in place of its log, what a picture of it
 /// shows: how readers stood and what their ports told, as runs of edges, and marks where a month
-/// ended or a leap second came. `Write` or `Memory` if there was no memory.
+/// ended or a leap second came. Of a plant of devices a device is a reader, its lines are the ports,
+/// and its edges are the true ones to which those of the seconds that it told lie nearest. `Write` or
+/// `Memory` if there was no memory.
 pub fn draw(alloc: Global, text: &[u8]) -> Drawn
     ensures drawn { DrawnIn result.answer result.lanes.items text.now }
-    ensures refused { IsExplained result.answer None result.refused }
+    ensures refused { IsExplainedAs result.answer None result.refused }
 {
     let mut input = Watched::new(text);
     let mut output = Watched::new(Vec::new(alloc));
-    let run = run_listening::<Drawer, FlowPort, &[u8], Vec<u8>>(alloc, (), &mut input, &mut output);
+    let run = listen_to_scenario::<Drawer, Drawer, &[u8], Vec<u8>>(
+        alloc,
+        (),
+        &mut input,
+        &mut output,
+    );
     drawn_by(alloc, run)
 }
 
-fn drawn_by(alloc: Global, run: Run<Drawer>) -> Drawn
+fn drawn_by(alloc: Global, run: ScenarioRun<Drawer, Drawer>) -> Drawn
     ensures drawn { (text : List ℕ) → HasDrawn text run
         → DrawnIn result.answer result.lanes.items text }
-    ensures refused { IsExplained run.answer None run.refused
-        → IsExplained result.answer None result.refused }
+    ensures refused { IsExplainedAs run.answer None run.refused
+        → IsExplainedAs result.answer None result.refused }
 {
-    let Run {
+    let ScenarioRun {
         answer,
         listener,
         refused,
-        ..
     } = run;
     match lanes_of(alloc, &answer, listener) {
         Ok(lanes) => Drawn {
@@ -66,14 +73,19 @@ fn drawn_by(alloc: Global, run: Run<Drawer>) -> Drawn
 // What a listener drew; nothing if the run failed.
 fn lanes_of(
     alloc: Global,
-    answer: &Result<Outcome, SceneFault>,
-    listener: Option<Drawer>,
+    answer: &Result<ScenarioOutcome, SceneFault>,
+    listener: Option<Either<Drawer, Drawer>>,
 ) -> Result<Vec<Lane>, AllocError>
-    ensures { (text : List ℕ) (run : Run Drawer) → HasDrawn text run → run.answer ≡ answer.now
+    ensures { (text : List ℕ) (run : ScenarioRun Drawer Drawer) → HasDrawn text run → run.answer ≡ answer.now
         → run.listener ≡ listener → IfOk result (λ lanes. DrawnIn answer.now lanes.items text) }
 {
     match (answer, listener) {
-        (Ok(_) | Err(SceneFault::Refused { .. }), Some(drawer)) => drawer.into_lanes(),
+        (Ok(_) | Err(SceneFault::Refused { .. }), Some(Either::First(drawer))) => {
+            drawer.into_lanes()
+        }
+        (Ok(_) | Err(SceneFault::Refused { .. }), Some(Either::Second(drawer))) => {
+            drawer.into_lanes()
+        }
         _ => Ok(Vec::new(alloc)),
     }
 }

@@ -9,8 +9,8 @@ pub returns-clause-exact : goal.returns-clause-exact
 returns-clause-exact c = λ ts was edge.
     let x = c.args.self.now in
     let t = c.args.tick.now in
-    let few : length ts < t.entry.edge = omega (arith, edge) in
-    let edges : t.entry.edge ≡ length (t ∷ ts) = omega (arith, edge) in
+    let few : length ts < c.args.number = omega (arith, edge) in
+    let edges : c.args.number ≡ length (t ∷ ts) = omega (arith, edge) in
     let vote = c.vote_after-vote.ensures ∙ ap (λ (x : Account). vote_after x.vote t) was in
     same_account _ _ _ _ _ _ _ _ _ _ _ (t ∷ ts)
     (c.after.ensures.exact ts (ap (λ (x : Account). x.a) was) few)
@@ -19,8 +19,8 @@ returns-clause-exact c = λ ts was edge.
     (c.after-4.ensures.exact ts (ap (λ (x : Account). x.d) was) few)
     (c.after-5.ensures.exact ts (ap (λ (x : Account). x.e) was) few)
     edges
-    (counted_more is_announced t ts _ x.announced t.entry.edge _ c.counted.ensures (ap (λ (x : Account). x.announced) was) c.is_announced.ensures few)
-    (counted_more is_untrue t ts _ x.untrue t.entry.edge _ c.counted-2.ensures (ap (λ (x : Account). x.untrue) was) c.is_untrue.ensures few)
+    (counted_more is_announced t ts _ x.announced c.args.number _ c.counted.ensures (ap (λ (x : Account). x.announced) was) c.is_announced.ensures few)
+    (counted_more is_untrue t ts _ x.untrue c.args.number _ c.counted-2.ensures (ap (λ (x : Account). x.untrue) was) c.is_untrue.ensures few)
     (c.silence_after.ensures ∙ ap (λ (x : Account). silence_after x.silence t) was)
     vote
     (c.misled_after.ensures ∙ ap (λ (x : Account). misled_after x.misled c.vote_after-vote.result t) was ∙ ap (λ v. misled_after (misled_of ts) v t) vote)

@@ -13,7 +13,7 @@ returns-clause-exact c = λ ts was few.
     let x = c.args.self.now in
     let i = c.args.port in
     let t = c.args.tick.now in
-    let edge = t.entry.edge in
+    let edge = c.args.number in
     same_port _ _ _ _ _ _ _ i (t ∷ ts)
     (counted_more (λ (t : Tick). same_kind (kind_at i t) Agreed) t ts _ x.agreed edge _ c.counted.ensures (ap (λ (x : PortAccount). x.agreed) was) (c.is.ensures ∙ ap (λ (k : Kind). same_kind k Agreed) c.kind-kind.ensures) few)
     (counted_more (λ (t : Tick). same_kind (kind_at i t) Silent) t ts _ x.silent edge _ c.counted-2.ensures (ap (λ (x : PortAccount). x.silent) was) (c.is-2.ensures ∙ ap (λ (k : Kind). same_kind k Silent) c.kind-kind.ensures) few)

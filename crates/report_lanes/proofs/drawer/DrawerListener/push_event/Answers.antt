@@ -1,6 +1,7 @@
 use Rattle.std.proofs.Common.{◌∙◌, ap, sym}
 use Rattle.report_found.specs.Books.{first_tick}
-use Rattle.report_lanes.proofs.EventLaws.{on_both, stands_after}
+use Rattle.report_found.proofs.EventLaws.{on_both}
+use Rattle.report_lanes.proofs.EventLaws.{stands_after}
 use Rattle.report_lanes.proofs.drawer.DrawerListener.push_event.Goals as goal
 
 pub returns-in-Some-clause-stands : goal.returns-in-Some-clause-stands

@@ -1,0 +1,104 @@
+-- What a book makes of entries of devices.
+use Rattle.std.proofs.Common.{◌≡◌, ℕ, ◌<◌, List, [], ◌∷◌, ◌++◌, All, length, get_or, take, ◌+◌, Option, Some, None, refl, sym, ap, ◌∙◌, subst, arith, append-nil}
+use Rattle.std.specs.Prelude.{reverse, slice_index_or, vec_len}
+use Rattle.std.proofs.lemmas.List.{reverse-append, take_more}
+use Rattle.std.proofs.lemmas.Option.{same_Some, none-some}
+use Rattle.irig_station.specs.declared.entry.Entry.{Entry}
+use Rattle.irig_station.specs.declared.entry.Entry.TheVariants.{Told, Stamped}
+use Rattle.irig_station.specs.StationSetups.{StationSetup}
+use Rattle.irig_station.specs.ValidEntries.{IsOfDevice}
+use Rattle.irig_station_scene.specs.StationScenes.{StationScene, newest_first}
+use Rattle.report_found.specs.declared.account.Account.{Account}
+use Rattle.report_found.specs.declared.book.Book.{Book}
+use Rattle.report_found.specs.declared.finder.Finder.{Finder}
+use Rattle.report_found.specs.declared.tick.Tick.{Tick}
+use Rattle.report_found.specs.Accounts.{account_of}
+use Rattle.report_found.specs.Books.{HasTicks, tick, with_tick}
+use Rattle.report_found.specs.DeviceRuns.{HasFoundSoFar, IsBookOfDevices, IsFinderAtStation}
+use Rattle.report_found.specs.DeviceScenes.{ended_by_entries, ended_by_tick, open_of_devices}
+use Rattle.report_found.specs.DeviceTicks.{device_ticks, entry_of_told, tick_of_told, with_told}
+use Rattle.report_found.specs.Findings.{lists_below, ended_found, open_found}
+use Rattle.report_found.proofs.BookLaws.{same_ticks}
+use Rattle.report_found.proofs.GrowLaws.{lists_alike}
+
+-- ---- nothing has happened
+
+pub begins_with : (f : Finder) (x : StationScene) → x.events ≡ [] → vec_len f.book.accounts ≡ length x.plan.setup.devices → All (λ (a : Account). a ≡ account_of []) f.book.accounts.items
+    → f.book.ports ≡ length x.plan.setup.generators → f.findings.items ≡ [] → IsFinderAtStation f x
+begins_with f x begun count new ports none =
+    let nothing : newest_first x ≡ [] = ap (λ ev. newest_first (record { plan = x.plan; events = ev })) begun in
+    subst (HasFoundSoFar f x.plan.setup) (sym nothing) (record {
+      book = record {
+        book = record { count = count; each = λ r d lt. new r d (omega (arith, lt, count, f.book.accounts.ok.0)) };
+        ports = ports;
+      };
+      found = none;
+    })
+
+-- ---- an entry
+
+-- the tick of an entry is of its device
+pub tick_known : (s : StationSetup) (e : Entry) (t : Tick) → tick_of_told s e ≡ Some t → IsOfDevice (length s.devices) e → t.entry.reader < length s.devices
+tick_known s (Told r told) t is known =
+    let same : t.entry.reader ≡ r = ap (λ (t : Tick). t.entry.reader) (same_Some t (tick (entry_of_told s r told)) (sym is)) in
+    omega (arith, known, same)
+tick_known s (Stamped r time stamp) t is known = absurd (none-some t is)
+
+-- one more tick is one of its device
+pub ticks_more : (s : StationSetup) (e : Entry) (before : List Entry) (t : Tick) → tick_of_told s e ≡ Some t → (r : ℕ) → with_tick t (λ r. device_ticks s r before) r ≡ device_ticks s r (e ∷ before)
+ticks_more s e before t is r = sym (ap (λ o. with_told r o (device_ticks s r before)) is)
+
+pub ticks_stay : (s : StationSetup) (e : Entry) (before : List Entry) → tick_of_told s e ≡ None → (r : ℕ) → device_ticks s r before ≡ device_ticks s r (e ∷ before)
+ticks_stay s e before is r = sym (ap (λ o. with_told r o (device_ticks s r before)) is)
+
+module _ (f : Finder) (s : StationSetup) (e : Entry) (before : List Entry) (at : HasFoundSoFar f s before) where
+  -- a stamp
+  pub goes_on_so : tick_of_told s e ≡ None → HasFoundSoFar f s (e ∷ before)
+  goes_on_so none = record {
+    book = record {
+      book = same_ticks f.book (length s.devices) (λ r. device_ticks s r before) (λ r. device_ticks s r (e ∷ before)) (ticks_stay s e before none) at.book.book;
+      ports = at.book.ports;
+    };
+    found = at.found ∙ sym (append-nil (ended_by_entries s before)) ∙ ap (λ o. ended_by_entries s before ++ ended_by_tick s before o) (sym none);
+  }
+
+  -- a told second
+  pub goes_on_by : (q : Finder) (t : Tick) → tick_of_told s e ≡ Some t → IsOfDevice (length s.devices) e → q.book.ports ≡ f.book.ports
+      → ((n : ℕ) (ticks : ℕ → List Tick) → HasTicks f.book n ticks → t.entry.reader < n
+      → q.findings.items ≡ f.findings.items ++ ended_found t.entry.reader f.book.ports (account_of (ticks t.entry.reader)) t)
+      → ((n : ℕ) (ticks : ℕ → List Tick) → HasTicks f.book n ticks → t.entry.reader < n → HasTicks q.book n (with_tick t ticks))
+      → HasFoundSoFar q s (e ∷ before)
+  goes_on_by q t is known ports found added =
+      let n = length s.devices in
+      let ticks : ℕ → List Tick = λ r. device_ticks s r before in
+      let low = tick_known s e t is known in
+      record {
+        book = record {
+          book = same_ticks q.book n (with_tick t ticks) (λ r. device_ticks s r (e ∷ before)) (ticks_more s e before t is) (added n ticks at.book.book low);
+          ports = ports ∙ at.book.ports;
+        };
+        found = found n ticks at.book.book low
+            ∙ ap (λ l. l ++ ended_found t.entry.reader f.book.ports (account_of (ticks t.entry.reader)) t) at.found
+            ∙ ap (λ ports. ended_by_entries s before ++ ended_found t.entry.reader ports (account_of (ticks t.entry.reader)) t) at.book.ports
+            ∙ ap (λ o. ended_by_entries s before ++ ended_by_tick s before o) (sym is);
+      }
+
+-- ---- what is left
+
+-- all that is open
+pub open_is_of_devices : (b : Book) (s : StationSetup) (before : List Entry) → IsBookOfDevices b s before
+    → lists_below (λ r. open_found r b.ports (slice_index_or b.accounts.items r (account_of []))) (vec_len b.accounts) ≡ open_of_devices s before
+open_is_of_devices b s before at =
+    ap (lists_below (λ r. open_found r b.ports (slice_index_or b.accounts.items r (account_of [])))) at.book.count
+    ∙ lists_alike (λ r. open_found r b.ports (slice_index_or b.accounts.items r (account_of [])))
+    (λ r. open_found r (length s.generators) (account_of (device_ticks s r before))) (length s.devices)
+    (λ r lt.
+    ap (λ ports. open_found r ports (slice_index_or b.accounts.items r (account_of []))) at.ports
+    ∙ ap (λ (a : Account). open_found r (length s.generators) a) (at.book.each r (account_of []) lt))
+
+-- ---- entries one after another
+
+-- one more of them
+pub entries_more : (es : List Entry) (i : ℕ) (d : Entry) (before : List Entry) → i < length es → get_or es i d ∷ (reverse (take i es) ++ before) ≡ reverse (take (i + 1) es) ++ before
+entries_more es i d before lt =
+    sym (ap (λ l. reverse l ++ before) (take_more es i d lt) ∙ ap (λ l. l ++ before) (reverse-append (take i es) (get_or es i d ∷ [])))
