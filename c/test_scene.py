@@ -19,10 +19,15 @@ sys.path[:0] = [str(ROOT / "tests"), str(ROOT / "python")]
 from case_files import Case, all_cases, answer, has_devices, scenarios  # noqa: E402
 from model.lines import lines as lines_of  # noqa: E402
 from model.meaning import Plant  # noqa: E402
-from model.times import Timeline, is_month_end, second_at  # noqa: E402
+from model.reader import said_of  # noqa: E402
+from model.scenario import port_word  # noqa: E402
+from model.simulated import ToldSecond  # noqa: E402
+from model.station import Station  # noqa: E402
+from model.station_lines import StationPlan  # noqa: E402
+from model.times import Timeline, is_month_end, second_at, truth_at  # noqa: E402
 import irig  # noqa: E402
 from irig import _library, scenes  # noqa: E402
-from irig._library import Entry, FrameOptions, Lane, Refusal, Stretch, Verdict  # noqa: E402
+from irig._library import DeviceEntry, Entry, FrameOptions, Lane, Refusal, Stretch, Verdict  # noqa: E402
 from irig.stretches import stretches_of  # noqa: E402
 from irig.words import CAUSES, LOCKS, MARKS  # noqa: E402
 
@@ -42,8 +47,8 @@ def typed(name: str) -> Callable[..., int]:
     return call
 
 
-RUN_STRETCHES, RUN_LANES = typed("run_stretches"), typed("run_lanes")
-for of_package in ("run_entries", "run_shown", "run_stretches"):  # which the package calls then
+RUN_STRETCHES, RUN_LANES, RUN_TOLD = typed("run_stretches"), typed("run_lanes"), typed("run_told")
+for of_package in ("run_entries", "run_shown", "run_stretches", "run_told"):  # which the package calls then
     setattr(_library, of_package, typed(of_package))
 
 
@@ -66,7 +71,7 @@ class Room:
         front = text[: self.size]
         return self.bytes.raw == front + UNTOUCHED * (len(self.bytes) - len(front))
 
-    def holds(self, wanted: Sequence[Entry] | Sequence[Stretch] | Sequence[Lane]) -> bool:
+    def holds(self, wanted: Sequence[Entry] | Sequence[Stretch] | Sequence[Lane] | Sequence[DeviceEntry]) -> bool:
         """Whether as many of these stand there as there is room for, and behind them nothing else. What lies
         between their numbers says nothing."""
         size = ctypes.sizeof(wanted[0])
@@ -142,15 +147,50 @@ class Devices(unittest.TestCase):
                 self.assertEqual(refusal.whole > 0, status == REFUSED)
         self.assertGreater(count, 150)
 
-    def test_calls_of_readers(self) -> None:
-        """They refuse the plant, and have nothing of it."""
+    def test_call_of_readers(self) -> None:
+        """It refuses the plant, and has nothing of it."""
         for case, text in with_devices():
-            for name, kind in (("run_entries", Entry), ("run_stretches", Stretch), ("run_lanes", Lane)):
-                ran = scenes.played(typed(name), kind, text)
-                with self.subTest(case.name, call=name):
-                    self.assertEqual((ran.status, ran.whole, ran.verdict.kind), (REFUSED, 0, 0))
-                    is_json = not case.stdout.startswith(b"refused: line 1: 24 ")
-                    self.assertEqual(ran.refusal.number, VERSION if is_json else 24)
+            ran = scenes.played(typed("run_entries"), Entry, text)
+            with self.subTest(case.name):
+                self.assertEqual((ran.status, ran.whole, ran.verdict.kind), (REFUSED, 0, 0))
+                is_json = not case.stdout.startswith(b"refused: line 1: 24 ")
+                self.assertEqual(ran.refusal.number, VERSION if is_json else 24)
+
+    def test_entries(self) -> None:
+        """The package has by their numbers what it reads in the program's lines; a plant of readers is refused."""
+        for case, text in with_devices():
+            for has_all in (False, True):
+                lines = printed("run", "-", *["--all"] * has_all, given=text)[1].decode()
+                with self.subTest(case.name, all=has_all):
+                    ran, read = log_of(irig.run, text, has_all), log_of(irig.read_log, lines)
+                    self.assertEqual(ran, read)
+                    self.assertTrue(lines.startswith(ran[0].text))
+        for name, text in scenarios((0,)).items():
+            ran = scenes.played(typed("run_told"), DeviceEntry, text)
+            with self.subTest(name):
+                self.assertEqual((ran.status, ran.whole, ran.refusal.number), (REFUSED, 0, VERSION))
+
+    def test_lanes(self) -> None:
+        """Of runs that end without a refusal: what tests/model has of each told second, and no more."""
+        states = set()
+        for case, text in with_devices():
+            if case.status == 0:
+                ran = scenes.played(RUN_LANES, Lane, text)
+                found = [numbers_of(lane) for lane in ran.found]
+                states |= {(lane.kind, lane.state) for lane in ran.found}
+                with self.subTest(case.name):
+                    self.assertEqual((ran.status, found), (DONE, ToldByDevices(heard_in(text)).lanes()))
+        self.assertLessEqual({(TOLD, state) for state in range(6)} | {(STOOD, lock) for lock in (1, 2, 3)}, states)
+
+    def test_room(self) -> None:
+        text, size = (ROOT / "examples/leap_stamped.jsonl").read_bytes(), ctypes.sizeof(DeviceEntry)
+        every = scenes.played(RUN_TOLD, DeviceEntry, text)
+        for count in (0, 1, every.whole - 1, every.whole, every.whole + 1):
+            room, whole, verdict, refusal = Room(count * size), c_size_t(), Verdict(), Refusal()
+            entries = ctypes.cast(room.bytes, ctypes.POINTER(DeviceEntry))
+            answer = RUN_TOLD(text, len(text), entries, count, whole, verdict, None, 0, refusal)
+            self.assertEqual((answer, whole.value, verdict.kind), (DONE, every.whole, every.verdict.kind))
+            self.assertTrue(room.holds(every.found), f"{count} entries of room")
 
 
 def log_of(source: Callable[..., irig.Log], *words: object) -> tuple[irig.Log, object]:
@@ -290,6 +330,75 @@ class Told:
         return (len(self.ticks), reader, own) if ended is None else (ended, own)
 
 
+class Heard(Station):
+    """A plant of devices that tests/model plays: what was told, by the place of the device, in order."""
+
+    def __init__(self, plan: StationPlan) -> None:
+        super().__init__(plan, "all")
+        self.heard: list[tuple[int, ToldSecond]] = []
+
+    def told(self, name: str, seconds: Iterator[ToldSecond]) -> Iterator[str]:
+        self.heard += [(list(self.devices).index(name), second) for second in seconds]
+        self.look(name)
+        return iter(())
+
+
+def heard_in(text: bytes) -> Heard:
+    """A scenario of devices in which no line is refused, played to its end."""
+    station: Heard | None = None
+    for _, said in lines_of(text):
+        if isinstance(said, StationPlan):
+            station = Heard(said)
+        else:
+            list(station.lines_of(said))
+    return station
+
+
+class ToldByDevices(Told):
+    """The same of devices: a lane goes on from one told second to the next, whatever edges lie between them."""
+
+    def __init__(self, station: Heard) -> None:
+        self.timeline, self.tracks = station.plan.timeline, {}
+        self.heard = [(device, second.edge) for device, second in station.heard]
+        for tick, (device, second) in enumerate(station.heard):
+            report = second.beat.report
+            lock, cause = said_of(report).split()[1:]
+            self.put((device, STOOD, 0), tick, LOCKS.index(lock.split(":")[0]), CAUSES.index(cause))
+            truth = truth_at(self.timeline, second.edge - 1) if second.edge else None
+            for line, word in enumerate(second.beat.told[: len(station.plan.generators)]):
+                told = WORDS.get(port_word(word, truth).split(":")[0], 4)
+                self.put((device, TOLD, line), tick, told, 0)
+
+    def runs(self) -> Iterator[Numbers]:
+        """Here the edges of a run are the places of what was told."""
+        for track, found in self.tracks.items():
+            for stood, ticks in groupby(found, key=lambda put: put[1:]):
+                first, *more = (tick for tick, *_ in ticks)
+                yield *track, *stood, first, more[-1] if more else first
+
+    def marks(self) -> Iterator[Numbers]:
+        for tick, (device, edge) in enumerate(self.heard):
+            mark = mark_at(self.timeline, edge) if edge else 0
+            if mark:
+                yield device, MARK, 0, mark, 0, tick, tick
+
+    def place(self, lane: Numbers) -> Numbers:
+        device, kind, port, *_, last = lane
+        if kind == MARK:
+            return last, BEHIND_PORTS
+        own = 0 if kind == STOOD else 1 + port
+        behind = (tick for tick, (other, _) in enumerate(self.heard) if tick > last and other == device)
+        ended = next(behind, None)
+        return (len(self.heard), device, own) if ended is None else (ended, own)
+
+    def lanes(self) -> list[Numbers]:
+        return [(*lane, self.heard[first][1], self.heard[last][1]) for *lane, first, last in super().lanes()]
+
+
+def numbers_of(lane: Lane) -> Numbers:
+    return lane.reader, lane.kind, lane.port, lane.state, lane.cause, lane.first_edge, lane.last_edge
+
+
 def mark_at(timeline: Timeline, edge: int) -> int:
     """What begins at an edge: 1 a leap second, 2 a month behind a deleted second, 3 another month, else 0."""
     before, second = second_at(timeline, edge - 1), second_at(timeline, edge)
@@ -316,8 +425,7 @@ class Lanes(unittest.TestCase):
             answer, whole, lanes, verdict, refusal = self.ran(text, 5000)
             plant = next((said for _, said in lines_of(text) if isinstance(said, Plant)), None)
             wanted = Told(log.decode().splitlines()[:-1], plant).lanes() if plant else []
-            found = [(one.reader, one.kind, one.port, one.state, one.cause, one.first_edge, one.last_edge)
-                     for one in lanes]
+            found = list(map(numbers_of, lanes))
             states |= {(one.kind, one.state) for one in lanes}
             with self.subTest(name):
                 self.assertLess(whole, 5000)
@@ -413,6 +521,7 @@ class Null(unittest.TestCase):
             ("run_entries", b"x", one, Entry(), one, ctypes.byref(whole), Verdict(), (c_uint8 * 1)(), one, refusal),
             ("run_stretches", b"x", one, Stretch(), one, ctypes.byref(whole), Verdict(), (c_uint8 * 1)(), one, refusal),
             ("run_lanes", b"x", one, Lane(), one, ctypes.byref(whole), Verdict(), (c_uint8 * 1)(), one, refusal),
+            ("run_told", b"x", one, DeviceEntry(), one, ctypes.byref(whole), Verdict(), (c_uint8 * 1)(), one, refusal),
             ("frame_text", b"x", one, ctypes.byref(options), room.bytes),
             ("frame_lines", b"P", one, c_uint8(), c_uint8(), c_uint8(), *log),
         ):

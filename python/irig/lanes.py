@@ -6,7 +6,7 @@ from dataclasses import dataclass
 from typing import Dict, List, Literal, Optional, Sequence, Tuple, Union, get_args
 
 from . import _library as c
-from .scenarios import readers_in
+from .scenarios import names_in
 from .scenes import played
 from .words import CAUSES, LOCKS, Cause, Lock, PortKind
 
@@ -22,7 +22,9 @@ STATES: Dict[LaneKind, Sequence[LaneState]] = {"stood": LOCKS, "told": get_args(
 @dataclass(frozen=True)
 class Lane:
     """A longest run of ticks of a reader at which it stood alike, or one of its ports told alike; or a mark, of
-    one tick.
+    one tick. Of a plant of devices a device is the reader, its lines are the ports, and its ticks are the seconds
+    that it told, each at the true edge to which it lies nearest: an edge that it did not tell may lie between the
+    first and the last, and behind a restart an edge may come again.
 
     reader: its name
     port: the port; None of what is the reader's own
@@ -46,7 +48,7 @@ class Lane:
 def lanes_of(scenario: bytes) -> List[Lane]:
     """The lanes of a scenario, each at the edge that ends it, and at the end those that are open. Raises
     MemoryError if memory is out."""
-    names = readers_in(scenario)
+    names = names_in(scenario)
     return [_lane(held, names[held.reader]) for held in played(c.run_lanes, c.Lane, scenario).found]
 
 

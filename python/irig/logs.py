@@ -66,8 +66,9 @@ class InLog(Said):
 
     @property
     def asked(self) -> Optional[int]:
-        """The line of the scenario that asked for the tick, from 1; None of a log that was read."""
-        return None if isinstance(self._lines, str) else self._lines.asked[self._place]
+        """The line of the scenario that asked for the tick, from 1; None of a log that was read, and of devices,
+        which tick by themselves."""
+        return None if isinstance(self._lines, str) or not self._lines.asked else self._lines.asked[self._place]
 
     def __str__(self) -> str:
         return self.line
@@ -598,15 +599,15 @@ class Log(Sequence[Entry]):
         return list(rows(self.ticks()))
 
     def blame(self) -> List[Stretch]:
-        """Who lied, or told nothing, and what it cost: what `irig blame` prints of the scenario. Raises
-        ValueError of devices, and if a log was read without its scenario."""
+        """Who lied, or told nothing, and what it cost: what `irig blame` prints of the scenario. Of a plant of
+        devices a device is the reader (`Lane`). Raises ValueError if a log was read without its scenario."""
         from .stretches import stretches_of
 
         return stretches_of(self._known_scenario())
 
     def lanes(self) -> List[Lane]:
-        """What a picture of the run shows: how each reader stood, what its ports told, and where leap seconds and
-        months begin. Raises ValueError of devices, and if a log was read without its scenario."""
+        """What a picture of the run shows: how each reader or device stood, what its ports or lines told, and where
+        leap seconds and months begin. Raises ValueError if a log was read without its scenario."""
         from .lanes import lanes_of
 
         return lanes_of(self._known_scenario())
@@ -617,7 +618,6 @@ class Log(Sequence[Entry]):
             raise ValueError("this is asked of readers, and the scenario's plant has devices")
 
     def _known_scenario(self) -> bytes:
-        self._is_of_readers()
         if self.scenario is None:
             raise ValueError("what is true is said by the scenario, which read_log takes as its second argument")
         return self.scenario

@@ -370,6 +370,14 @@ def timeline_in(scenario: Union[str, bytes]) -> Timeline:
     return Timeline(plant["start"], [Leap(leap["day"], leap["kind"]) for leap in plant["leaps"]])
 
 
+def names_in(scenario: Union[str, bytes]) -> List[str]:
+    """The names of the readers, or of the devices, as of `readers_in`."""
+    try:
+        return [device["name"] for device in _plant_in(scenario)["devices"]]
+    except (TypeError, KeyError):
+        return readers_in(scenario)
+
+
 def _plant_in(scenario: Union[str, bytes]) -> Any:
     """The value of the first line that is not blank; None if it is no JSON."""
     text = scenario.decode(errors="replace") if isinstance(scenario, bytes) else scenario

@@ -11,10 +11,11 @@ from typing import Any, Iterator, NamedTuple, Optional, Sequence, Union
 
 from . import _library as c
 from .faults import MEANINGS
-from .logs import Announced, Entry, Lines, Log, Ports, PremiseBroken, PremisesKept, Refused, Silent
-from .logs import TableBroken, Verdict, read_log
-from .scenarios import Scenario, readers_in
+from .logs import Announced, DeviceBroken, DeviceTableBroken, DriftBroken, Entry, Lines, Log, Ports, PremiseBroken
+from .logs import PremisesKept, Refused, Silent, Stamped, TableBroken, ToldSecond, Verdict
+from .scenarios import Scenario, names_in
 from .seconds import Second
+from .timekeepers import Stamp
 from .words import CAUSES, LOCKS
 
 # Room for what a run has, and for the bytes of a log, at first: pages that are not written cost nothing.
@@ -22,8 +23,13 @@ ROOM = 1 << 18
 LOG_ROOM = 1 << 25
 REASON_ROOM = 1 << 12
 
-# As an unknown version a plant of devices is refused by the calls that are of readers.
+# As an unknown version a plant of devices is refused by the call of readers' entries, and one of readers by that
+# of devices.
 VERSION = 27
+DEVICE_FIELDS = (
+    "edge", "instant_us", "behind_us", "before_us", "lock_count", "day", "sod", "offset_us", "bound_us", "device",
+    "kind", "names", "lock", "cause",
+)
 
 ENDED = c.NUMBERS["RUN_DONE"], c.NUMBERS["RUN_REFUSED"]
 
@@ -108,23 +114,47 @@ def run(source: Source, all: bool = False, ports: bool = False) -> Log:
     is out.
     """
     text = _text_of(source)
-    ran, names = played(c.run_entries, c.Entry, text), readers_in(text)
-    if ran.refusal.number == VERSION:
-        return _of_devices(text, all)
+    ran, names = played(c.run_entries, c.Entry, text), names_in(text)
     lines = Lines(partial(_written, text, all, ports, LOG_ROOM))
+    if ran.refusal.number == VERSION:
+        told = played(c.run_told, c.DeviceEntry, text)
+        if told.refusal.number != VERSION:
+            return _logged(told, Log(tuple(_told(told, names, lines, all)), _verdict_on(told.verdict, names), text, lines))
     log = Log(tuple(_entries(ran, names, lines, all, ports)), _verdict(ran.verdict, names), text, lines)
+    return _logged(ran, log)
+
+
+def _logged(ran: _Ran, log: Log) -> Log:
+    """The log of a run, unless a line is refused."""
     if ran.refusal.line:
         raise _explained(ran, log)
     return log
 
 
-def _of_devices(text: bytes, all: bool) -> Log:
-    """The log of a scenario whose plant has no readers: what the library's words say."""
-    shown = _shown(text, all, False, LOG_ROOM, REASON_ROOM)
-    try:
-        return read_log(shown.log, text)
-    except Refused as refused:
-        raise _explained(shown, refused.log) from None
+def _told(ran: _Ran, names: Sequence[str], lines: Lines, all: bool) -> Iterator[Entry]:
+    """What the lines of a log of devices say, by the numbers of a run."""
+    size, place = ctypes.sizeof(c.DeviceEntry), -1
+    memory = memoryview(ran.held).cast("B")[: ran.whole * size]
+    for held in c.unpacked(c.DeviceEntry, memory, *DEVICE_FIELDS):
+        edge, instant, behind, before, turns, day, sod, offset, bound, device, kind, is_named, lock, cause = held
+        second, name = Second(day, sod) if is_named else None, names[device]
+        if kind == c.NUMBERS["DEVICE_STAMP"]:
+            place += 1
+            yield Stamped(instant, name, Stamp(second, offset, bound) if second else None, lines, place)
+        elif second or all:
+            place += 1
+            stood = LOCKS[lock], turns, CAUSES[cause], behind - before
+            yield ToldSecond(edge, name, second, *stood, bound if second else None, lines, place)
+
+
+def _verdict_on(held: c.Verdict, names: Sequence[str]) -> Optional[Verdict]:
+    """The last line of a log of devices, if it is no refusal."""
+    if held.kind < 2:
+        return PremisesKept() if held.kind else None
+    name = names[held.reader]
+    if held.kind == 2:
+        return DeviceBroken(held.edge, name)
+    return DeviceTableBroken(name) if held.kind == 3 else DriftBroken(name)
 
 
 def _entries(ran: _Ran, names: Sequence[str], lines: Lines, all: bool, ports: bool) -> Iterator[Entry]:

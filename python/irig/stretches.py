@@ -8,7 +8,7 @@ from typing import Dict, List, Literal, Optional, Sequence, Tuple, Union, get_ar
 from . import _library as c
 from .faults import detail_of, words_of
 from .logs import UNTRUE, Said
-from .scenarios import readers_in
+from .scenarios import names_in
 from .scenes import played
 from .seconds import DAY, Second
 from .words import CAUSES, MARKS, Cause, PortKind
@@ -59,7 +59,8 @@ class Stretch(Said):
     kind: how the port told no truth: "silent", "faulty", "poor", "another second" or "another
         mark"; of the reader "announced nothing" or "announced untrue seconds"
     first, last: its edges
-    announced: at how many of them the reader announced a second
+    announced: at how many of them the reader announced a second; of its own untrue seconds how many edges they span,
+        of which a device may have told fewer
     untrue: how many of those seconds are not true
     word: what the port told at the first edge, as a log has it; None of the reader
     cause: why the reader was silent; None if it was not
@@ -138,7 +139,7 @@ class Stretch(Said):
 def stretches_of(scenario: bytes) -> List[Stretch]:
     """The stretches of a scenario, each at the edge that ends it, and at the end those that are open: what
     `irig blame` has a line of. Raises MemoryError if memory is out."""
-    names = readers_in(scenario)
+    names = names_in(scenario)
     return [_stretch(held, names) for held in played(c.run_stretches, c.Stretch, scenario).found]
 
 

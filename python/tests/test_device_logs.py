@@ -94,15 +94,64 @@ class Logs(unittest.TestCase):
         self.assertEqual(pickle.loads(pickle.dumps(log)), log)
 
     def test_what_is_asked_of_readers(self) -> None:
-        """Nothing of it is answered, as if no reader had lied."""
+        """Nothing of it is answered, as if there were no ticks."""
         scenario = (ROOT / "examples/leap_stamped.jsonl").read_bytes()
         for log in (
             irig.read_log(LINES + KEPT), irig.read_log("premises broken: drift of device relay\n"),
             irig.read_log(KEPT, scenario), irig.run(scenario),
         ):
-            for call in (log.ticks, log.to_rows, log.blame, log.lanes):
+            for call in (log.ticks, log.to_rows):
                 with self.subTest(log, call=call.__name__), self.assertRaisesRegex(ValueError, "has devices$"):
                     call()
+
+    def test_what_its_scenario_says(self) -> None:
+        """It is asked for, if it is not there."""
+        log = irig.read_log(LINES + KEPT)
+        for call in (log.blame, log.lanes):
+            with self.subTest(call=call.__name__), self.assertRaisesRegex(ValueError, "is said by the scenario"):
+                call()
+
+
+# Generator 1 sends the frames of edges 4 and 5 with the time of five seconds later.
+LIAR = """\
+{"version":4,"start":"2016-06-15T12:00:00Z","leaps":[],"parity":"even","sense":"add","sbs":"check","generators":\
+[{"local":0},{"local":0},{"local":0}],"devices":[{"name":"relay","lock_after":2,"holdover":3600,"drift":10}]}
+{"do":"seconds","n":4}
+{"do":"fault","g":1,"kind":"skew","by":5}
+{"do":"seconds","n":2}
+{"do":"repair","g":1}
+{"do":"seconds","n":3}
+"""
+
+
+class Lanes(unittest.TestCase):
+    """What the lines of a device told, worked out by hand: c/test_scene.py has the lanes of all cases."""
+
+    def test_lanes(self) -> None:
+        lanes = irig.run(LIAR).lanes()
+        stood = [(it.first, it.last, it.state, it.cause) for it in lanes if it.kind == "stood"]
+        self.assertEqual(stood, [(1, 1, "acquiring", "acquiring"), (2, 8, "locked", "voted")])
+        lied = [(it.first, it.last, it.state) for it in lanes if it.port == 1]
+        self.assertEqual(lied, [(1, 4, "agreed"), (5, 6, "another second"), (7, 8, "agreed")])
+        for port in (0, 2):
+            self.assertEqual([(it.first, it.last, it.state) for it in lanes if it.port == port], [(1, 8, "agreed")])
+
+    def test_blame(self) -> None:
+        self.assertEqual([str(it) for it in irig.run(LIAR).blame()], [
+            "2016-06-15T12:00:01Z, edge 1: relay announced nothing: acquiring, not yet enough votes in a row",
+            "2016-06-15T12:00:04Z to 2016-06-15T12:00:05Z, edges 5 to 6: port 1 of relay told another second, 5 s"
+            " ahead, first 2016-06-15T12:00:09Z; relay announced 2 seconds",
+        ])
+
+    def test_ticked_seldom(self) -> None:
+        """A device that is ticked each three seconds tells each third second alone, and stands on."""
+        text = LIAR.replace('"drift":10', '"drift":10,"poll":3000000').replace('"n":3', '"n":10')
+        log = irig.run(text, all=True)
+        edges = [entry.edge for entry in log if isinstance(entry, ToldSecond)]
+        agreed = [(it.first, it.last) for it in log.lanes() if it.port == 0]
+        self.assertGreater(max(later - edge for edge, later in zip(edges, edges[1:])), 1)
+        self.assertEqual(sum(1 for _ in agreed), 1)
+        self.assertEqual(agreed[0], (edges[0], edges[-1]))
 
 
 class Runs(unittest.TestCase):
