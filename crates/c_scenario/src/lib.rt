@@ -48,6 +48,7 @@ pub use entry::{IrigEntry, IrigVerdict};
 use entry_log::{hear_text, write_entries};
 pub use frame::IrigFrameOptions;
 use irig_scene::Shown;
+use irig_station_scene::StationRun;
 pub use lane::IrigLane;
 use lane::write_lanes;
 pub use refusal::{IrigRefusal, IrigSpan};
@@ -330,8 +331,15 @@ pub extern "C" fn irig_scene_c_run_told(
     let run = hear_devices(alloc, text);
     *verdict = verdict_on_station(&run.answer);
     *whole = write_told(entries, &run);
-    *refusal = run::explain_cause(&run.answer, reason);
-    run::status_of(&run.answer)
+    let StationRun {
+        answer,
+        names,
+        lines,
+        line,
+        ..
+    } = run;
+    *refusal = run::explain_devices(alloc, &answer, line, names, lines, reason);
+    run::status_of(&answer)
 }
 
 /// Writes the frame of the UTC second whose text this is, as `irig frame` prints it: ten groups of

@@ -4,8 +4,9 @@ ghost use Rattle.std.specs.Prelude.{◌≡◌};
 ghost use Rattle.c_scenario.specs.Runs.{IsRun, line_of, number_of, status_of, written_over};
 
 use crate::refusal::IrigRefusal;
+use indexmap::IndexSet;
 use irig_device::Watched;
-use irig_scenario::{ScenarioOutcome, WhyRefused, run_scenario};
+use irig_scenario::{ScenarioOutcome, WhyRefused, refused_of_devices, run_scenario};
 use irig_scene::{RefusedLine, SceneFault, Shown};
 use std::alloc::{AllocError, Global};
 use text_faults::meaning_of;
@@ -100,12 +101,25 @@ pub(crate) fn explain_either<T>(
     }
 }
 
-/// The same of a plant of devices, by the answer alone.
-pub(crate) fn explain_cause<T>(answer: &Result<T, SceneFault>, reason: &mut [u8]) -> IrigRefusal
+/// The same of a plant of devices with these names, and so many lines to each.
+pub(crate) fn explain_devices<T>(
+    alloc: Global,
+    answer: &Result<T, SceneFault>,
+    line: Vec<u8>,
+    names: IndexSet<String>,
+    lines: u8,
+    reason: &mut [u8],
+) -> IrigRefusal
     ensures line { result.line ≡ line_of answer.now }
     ensures number { result.number ≡ number_of answer.now }
 {
-    refusal_with(answer, cause_of(number_of(answer)), Parts::NONE, reason)
+    match answer {
+        Err(SceneFault::Refused { refusal, .. }) => {
+            let refused = refused_of_devices(alloc, *refusal, line, names, lines);
+            explain_line(alloc, answer, true, &refused, reason)
+        }
+        _ => refusal_with(answer, "", Parts::NONE, reason),
+    }
 }
 
 fn explain_line<T>(

@@ -8,5 +8,5 @@ mod run;
 
 pub use laws::device_lines_read_one_way;
 pub use listen::{ScenarioOutcome, ScenarioRun, listen_to_scenario};
-pub use refused::WhyRefused;
+pub use refused::{WhyRefused, refused_of_devices};
 pub use run::run_scenario;

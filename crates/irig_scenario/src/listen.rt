@@ -11,7 +11,7 @@ ghost use Rattle.irig_station_scene.specs.StationRuns.{IsStationPlayerAt};
 ghost use Rattle.irig_scenario.specs.AnyScenario.{AnyScene, HasHeard, any_texts};
 ghost use Rattle.irig_scenario.specs.WhyRefused.{IsExplainedAs, explained_by, refusal_answered};
 
-use crate::refused::WhyRefused;
+use crate::refused::{WhyRefused, refused_of_devices};
 use indexmap::IndexSet;
 use irig_device::Watched;
 use irig_port::{FlowPort, Port};
@@ -134,20 +134,8 @@ fn why_of_devices(
 ) -> Option<WhyRefused>
     ensures { option_map explained_by result ≡ refusal }
 {
-    Some(WhyRefused::OfDevices(RefusedLine {
-        refusal: refusal?,
-        line,
-        names,
-        edges: none_begun(alloc, lines),
-    }))
-}
-
-// An edge for each of so many generators; none without memory for them.
-fn none_begun(alloc: Global, lines: u8) -> Vec<u64> {
-    match vec![in alloc; 0; usize::from(lines)] {
-        Ok(edges) => edges,
-        Err(_) => Vec::new(alloc),
-    }
+    let refusal = refusal?;
+    Some(WhyRefused::OfDevices(refused_of_devices(alloc, refusal, line, names, lines)))
 }
 
 // What explains that the first line is refused, if it is.

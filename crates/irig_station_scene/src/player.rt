@@ -161,13 +161,6 @@ impl<L: StationListener, P: Port> StationPlayer<L, P> {
         self.station.audit()
     }
 
-    /// Who listened.
-    pub fn into_listener(self) -> L
-        ensures { result ≡ self.listener }
-    {
-        self.listener
-    }
-
     /// Who listened, the names of the devices, and how many lines lead to each.
     pub fn into_parts(self) -> (L, IndexSet<String>, u8)
         ensures { result.0 ≡ self.listener }

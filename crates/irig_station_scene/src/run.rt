@@ -10,6 +10,7 @@ ghost use Rattle.irig_station_scene.specs.StationScenes.{StationScene};
 use crate::listener::StationListener;
 use crate::outcome::StationOutcome;
 use crate::player::StationPlayer;
+use indexmap::IndexSet;
 use irig_device::Watched;
 use irig_port::{FlowPort, Port};
 use report_run::{LinesRun, SceneFault, run_lines};
@@ -23,6 +24,12 @@ pub struct StationRun<L> {
     pub answer: Result<StationOutcome, SceneFault>,
     /// Who listened; none before the plant line.
     pub listener: Option<L>,
+    /// The names of the devices; none before the plant line.
+    pub names: IndexSet<String>,
+    /// How many lines lead to each; 0 before the plant line.
+    pub lines: u8,
+    /// If a line is refused: its bytes, as far as they were read.
+    pub line: Vec<u8>,
 }
 
 /// Plays the lines of the input as those of a plant of devices, and writes what this kind of listener
@@ -42,23 +49,36 @@ pub fn listen_to_station<L: StationListener, R: BufRead, W: Write>(
         (R.remaining (device_of input.old)) (R.remaining (device_of input.new))
         (W.contents (device_of output.old)) (W.contents (device_of output.new)) }
 {
-    let LinesRun { answer, player, .. } = run_lines::<StationPlayer<L, FlowPort>, R, W>(
-        alloc, asked, input, output,
-    );
+    let LinesRun {
+        answer,
+        player,
+        line,
+        ..
+    } = run_lines::<StationPlayer<L, FlowPort>, R, W>(alloc, asked, input, output);
+    let (listener, names, lines) = end_player(alloc, player);
     StationRun {
         answer,
-        listener: end_player(player),
+        listener,
+        names,
+        lines,
+        line,
     }
 }
 
-// Who listened to a player.
-fn end_player<L: StationListener, P: Port>(player: Option<StationPlayer<L, P>>) -> Option<L>
+// Who listened to a player, the names of its devices, and how many lines lead to each.
+fn end_player<L: StationListener, P: Port>(
+    alloc: Global,
+    player: Option<StationPlayer<L, P>>,
+) -> (Option<L>, IndexSet<String>, u8)
     ensures { (asked : L.Asked) (at : Option StationScene)
         → IsAt (IsStationPlayerAt (L.stands_for asked)) player at
-        → IsAt (L.stands_for asked) result at }
+        → IsAt (L.stands_for asked) result.0 at }
 {
     match player {
-        Some(player) => Some(player.into_listener()),
-        None => None,
+        Some(player) => {
+            let (listener, names, lines) = player.into_parts();
+            (Some(listener), names, lines)
+        }
+        None => (None, IndexSet::new(alloc), 0),
     }
 }
