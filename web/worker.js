@@ -292,8 +292,7 @@ function numbers_told(asked, expected, on_growth, on_end) {
   const is_told = of_devices && !(of_devices.refusal && of_devices.refusal.number === OTHER_VERSION);
   const entries = is_told ? of_devices : of_readers, { count } = entries;
   on_end(count);
-  // Devices have no entries there, and nothing of them is drawn.
-  const lanes = has_ended(entries) && count ? run_of(asked, LANES, room_for(count, LANE, asked)) : entries;
+  const lanes = has_ended(entries) ? run_of(asked, LANES, room_for(count, LANE, asked)) : entries;
   const { status, refusal } = lanes, drawing = has_ended(lanes) ? drawing_of(entries, lanes, asked) : NOTHING_DRAWN;
   return { ended: { status, refusal, memory: entries.view.buffer.byteLength }, count, drawing };
 }

@@ -16,8 +16,8 @@ from pathlib import Path
 from unittest import mock
 
 from loading import ROOT, compare_pictures, loaded
-from case_files import examples, of_readers
-from parts.log_lanes import PORT_STATES, STATES, Bars, Mark, ReaderLanes, bars_of, run_of
+from case_files import examples
+from parts.log_lanes import PORT_STATES, STATES, Bars, Mark, ReaderLanes, apart_of, bars_of, run_of
 from parts.command import DEBIAN
 from parts.layout import Label, Scale, chosen, rows_of, ways
 
@@ -214,6 +214,45 @@ class Seconds(unittest.TestCase):
         self.assertEqual(self.utc(plant, 2), ["2099-12-30T23:59:58Z", "2099-12-30T23:59:59Z", "None"])
 
 
+class Devices(unittest.TestCase):
+    """How far told seconds and stamps lay off: of leap_stamped lines lie 0, 350 and 700 us late, so that the middle
+    one is 350 us late by true time, and what is stamped is as much too early, but for the counters' gain."""
+
+    def lane(self, name: str, device: str) -> ReaderLanes:
+        return next(lane for lane in bars(example(name)).lanes if lane.reader == device)
+
+    def test_told_seconds(self) -> None:
+        relay = self.lane("leap_stamped", "relay")
+        self.assertEqual([(off.at, off.off_us, off.bound_us) for off in relay.told],
+                         [(1, 349, None), *((edge, 349, 450) for edge in range(2, 8))])
+        self.assertFalse(any(off.is_beyond for off in relay.told))
+
+    def test_stamps(self) -> None:
+        """Each of 23:59:60, which is edge 6: 6.3 s less 299,657 us behind it are 343 us."""
+        found = [(off.at, off.off_us, off.said) for off in self.lane("leap_stamped", "relay").stamps]
+        self.assertEqual(found, [(6.3, 343, "23:59:60 + 299657 us, 343 us early"),
+                                 (6.9999, 330, "23:59:60 + 999570 us, 330 us early")])
+        self.assertEqual(apart_of(bars(example("leap_stamped"))), 370 - 330)
+        with self.subTest("none is given behind a restart"):
+            given, gone, _ = self.lane("restart_in_leap", "relay").stamps
+            self.assertEqual((given.bound_us, gone.bound_us, gone.said), (450, None, "no stamp"))
+        with self.subTest("of another second"):
+            lied, _ = self.lane("majority_healed", "relay").stamps
+            self.assertEqual((lied.off_us, lied.is_beyond), (None, True))
+
+    def test_beyond_the_bound(self) -> None:
+        told = self.lane("late_lines", "relay").told
+        self.assertEqual([off.at for off in told if off.is_beyond], [5, 6, 7])
+
+    def test_marks_and_lines(self) -> None:
+        lane = self.lane("liar_outvoted", "relay")
+        self.assertEqual([(run.first, run.last, run.state) for run in lane.ports[1]],
+                         [(1, 4, "agreed"), (5, 7, "another second"), (8, 8, "agreed")])
+        self.assertEqual(self.lane("majority_healed", "relay").marks, [Mark(5, "premise broken")])
+        leap = [Mark(6, "leap second"), Mark(6.5, "month end")]
+        self.assertEqual(self.lane("leap_stamped", "recorder").marks, leap)
+
+
 class Look(unittest.TestCase):
     """Who sees no colours tells states apart."""
 
@@ -273,9 +312,9 @@ class Layout(unittest.TestCase):
 
 
 class Gallery(unittest.TestCase):
-    def test_each_example_with_readers_is_shown(self) -> None:
+    def test_each_example_is_shown(self) -> None:
         shown = re.findall(r"\]\(\.\./docs/gallery/(\w+)\.svg\)", (ROOT / "examples/README.md").read_text())
-        self.assertEqual(sorted(shown), [Path(case.name).stem for case in of_readers(examples())])
+        self.assertEqual(sorted(shown), [Path(case.name).stem for case in examples()])
 
 
 class Pictures(unittest.TestCase):
