@@ -367,6 +367,7 @@ def _devices_placed(log: irig.Log, timeline: Timeline) -> Callable[[ReaderLanes]
 
     def placed(lane: ReaderLanes) -> dict:
         told = [(number, one) for number, one in numbered if isinstance(one, ToldSecond) and one.device == lane.reader]
+        told.sort(key=lambda it: (it[1].edge, it[0]))
         offs, stamps = ([[off.at, off.off_us, off.bound_us, off.said] for off in found]
                         for found in offs_of(log, lane.reader, timeline))
         return {

@@ -87,6 +87,20 @@ class Page(InAFolder):
         empty = drawn(b"")
         self.assertEqual([empty[name] for name in ("lanes", "dues", "first", "last")], [[], [], 1, 1])
 
+    def test_devices(self) -> None:
+        """Which lines of the log are of which edges, as examples/leap_stamped.log has them below those of edge 1."""
+        found = drawn((ROOT / "examples/leap_stamped.jsonl").read_bytes())
+        relay, recorder = found["lanes"]
+        self.assertEqual((relay["reader"], recorder["reader"], found["last"]), ("relay", "recorder", 7))
+        self.assertEqual((relay["edges"], recorder["edges"]), ([*range(1, 8)],) * 2)
+        self.assertEqual((relay["lines"], recorder["lines"]), ([0, 2, 4, 6, 8, 10, 14], [1, 3, 5, 7, 9, 11, 17]))
+        self.assertEqual((relay["firsts"], relay["lasts"]), ([1, 2], [1, 7]))
+        self.assertEqual([(port["firsts"], port["lasts"]) for port in relay["ports"]], [([1], [7])] * 3)
+        self.assertEqual(relay["marks"], [[6, "leap second"], [6.5, "month end"]])
+        self.assertIsNone(found["broken"])
+        healed = drawn((ROOT / "examples/majority_healed.jsonl").read_bytes())
+        self.assertEqual(healed["broken"], {"edge": 5, "reader": "relay"})
+
     def test_nothing_ends_the_data(self) -> None:
         ran, page = run(self.folder, REFUSED + '{"x":"<!--<script></script>"}\n')
         self.assertEqual((ran.returncode, ran.stderr.count("\n")), (0, 1))
