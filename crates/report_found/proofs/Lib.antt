@@ -10,3 +10,4 @@ pub mod SilenceLaws
 pub mod TruthLaws
 pub mod LongestLaws
 pub mod StandardFacts
+pub mod DeviceFacts

@@ -96,6 +96,10 @@ module _ (any : Entry) where
   pub known_lane : lane_of stood_at (stood 4 (Holdover 2) Held ∷ stood 3 (Holdover 1) Held ∷ stood 2 Locked Voted ∷ []) ≡ Some (lane 3 4 (shows.Stood (Holdover 1) Held))
   known_lane = refl
 
+  -- of a device: over edges that it did not tell, and over one that comes again
+  pub known_gap : lane_of stood_at (stood 9 Locked Voted ∷ stood 9 Locked Voted ∷ stood 3 Locked Voted ∷ []) ≡ Some (lane 3 9 (shows.Stood Locked Voted))
+  known_gap = refl
+
   -- and so nothing ends
   pub known_same : ended (lane_of stood_at (stood 3 (Holdover 1) Held ∷ stood 2 Locked Voted ∷ [])) (stood_at (stood 4 (Holdover 2) Held)) ≡ None
   known_same = refl
