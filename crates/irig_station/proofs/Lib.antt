@@ -9,5 +9,6 @@ pub mod BeginLaws
 pub mod PassLaws
 pub mod GrowthLaws
 pub mod StationFacts
+pub mod KeptFacts
 pub mod UtcEntries
 pub mod DeviceEntries
