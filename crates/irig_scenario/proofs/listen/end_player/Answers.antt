@@ -8,4 +8,4 @@ returns-in-Some-First-clause-listener g c = λ asked at stands.
 
 pub returns-in-Some-Second-clause-listener : goal.returns-in-Some-Second-clause-listener
 returns-in-Some-Second-clause-listener g c = λ asked at stands.
-    of_devices {g = g.P.Port} (g.L.Listener.stands_for asked) (g.M.StationListener.stands_for asked) _ _ _ at (c.in-Some-Second.is ∙ ap Some c.in-Some-Second.field-0-is) c.into_parts.ensures stands
+    of_devices {g = g.P.Port} (g.L.Listener.stands_for asked) (g.M.StationListener.stands_for asked) _ _ _ at (c.in-Some-Second.is ∙ ap Some c.in-Some-Second.field-0-is) c.into_parts-listener.ensures stands
