@@ -11,7 +11,7 @@ use Rattle.report_run.specs.Meanings.{meaning_of}
 use Rattle.irig_station_scene.specs.StationScenes.{StationScene, event_in_scene, station_audit, station_log, station_scenario}
 use Rattle.irig_station_scene.specs.StationListening.{entries_by}
 use Rattle.irig_station_scene.proofs.EventLaws.{log_joins}
-use Rattle.irig_scenario.proofs.DeviceLogLaws.{scene_sound}
+use Rattle.irig_scenario.proofs.DeviceLogLaws.{plan_sound}
 use Rattle.c_scenario.specs.declared.entry.IrigVerdict.{IrigVerdict}
 use Rattle.c_scenario.specs.declared.told.IrigDeviceEntry.{IrigDeviceEntry}
 use Rattle.c_scenario.specs.Entries.{verdict_on_devices}
@@ -42,4 +42,4 @@ kept_by (Broken r edge) one = absurd (omega (arith, one))
 pub true_if_told_kept : (x : List ℕ) (verdict : IrigVerdict) (at : StationScene) → (meaning_of station_scenario x).scene ≡ Some at → verdict ≡ verdict_on_devices (station_audit at) → verdict.kind ≡ 1
     → All (IsTrueEntry at.plan.setup) (station_log at)
 true_if_told_kept x verdict at is same one =
-    kept_true at.plan.setup (scene_sound x at is).setup at.events (kept_by (station_audit at) (sym (ap (λ (v : IrigVerdict). v.kind) same) ∙ one))
+    kept_true at.plan.setup (plan_sound x at is).setup at.events (kept_by (station_audit at) (sym (ap (λ (v : IrigVerdict). v.kind) same) ∙ one))

@@ -59,6 +59,9 @@ scene_sound =
     (λ line at e. begun_sound line (station_in_line line) at (station_is_sound line) e)
     (λ at line h. next_sound at (event_in_station_line at.plan.names line) (asked_in_line at.plan.names line) h)
 
+pub plan_sound : (x : List ℕ) (at : StationScene) → (meaning_of station_scenario x).scene ≡ Some at → IsSoundStation at.plan
+plan_sound x at e = (scene_sound x at e).plan
+
 -- and its plan is that of the first line that is not blank
 begun_planned : (o : Result StationPlan Refusal) (x : StationScene) → station_begun o ≡ Ok x → o ≡ Ok x.plan
 begun_planned (Ok plan) x e = (let same : plan ≡ x.plan = cc in ap Ok same)

@@ -40,7 +40,8 @@ pub(crate) enum StationAction {
 
 /// The words of `do`.
 pub const STATION_ACTION_WORDS: [&str; 11] = [
-    "pass", "seconds", "fault", "repair", "pull", "plug", "late", "pulse", "tick", "restart", "stamp",
+    "pass", "seconds", "fault", "repair", "pull", "plug", "late", "pulse", "tick", "restart",
+    "stamp",
 ];
 
 fn station_action_named(word: &str) -> Option<StationAction>
