@@ -3,6 +3,7 @@ from __future__ import annotations
 
 import pickle
 import unittest
+from pathlib import Path
 from typing import Iterator, Tuple
 from unittest import mock
 
@@ -170,11 +171,18 @@ class Runs(unittest.TestCase):
                     why = caught.exception
                     last = f"refused: line {why.line}: {why.number} {why.name}\n"
                     self.assertEqual(why.log.text + last, case.printed)
-                    self.assertEqual((why.place, why.key, why.value, why.allowed), (None,) * 4)
+                    self.check_reason(why, ROOT / case.name / "stderr")
                     continue
                 log = irig.run(scenario, has_all, has_ports)
                 self.assertEqual((log.text, log), (case.printed, irig.read_log(case.printed)))
         self.assertGreater(count, 150)
+
+    def check_reason(self, why: irig.Refused, told: Path) -> None:
+        """That it is what the program writes on its standard error, and has its parts."""
+        if told.exists():
+            self.assertEqual(f"{why}\nmore: irig explain {why.number}\n", told.read_text())
+        for part in filter(None, (why.place, why.key, why.value, why.allowed)):
+            self.assertIn(part, str(why.reason))
 
     def test_all(self) -> None:
         """Seconds that were not announced are shown where all are, and nothing else is added."""
