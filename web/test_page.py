@@ -16,7 +16,7 @@ sys.path.insert(0, str(WEB.parent / "tools/tests"))
 
 import browser  # noqa: E402
 from loading import ROOT  # noqa: E402
-from case_files import examples, of_readers  # noqa: E402
+from case_files import examples  # noqa: E402
 from parts.log_lanes import STATES  # noqa: E402
 
 PAGE = WEB / "out/irig.html"
@@ -105,7 +105,7 @@ class InBrowser(browser.Driven):
 
     def test_each_example(self) -> None:
         names = self.page.ask("[...part('example').options].map((it) => it.value).filter((it) => it)")
-        cases = {Path(case.name).stem: case for case in of_readers(examples())}
+        cases = {Path(case.name).stem: case for case in examples()}
         self.assertEqual(set(names), set(cases))
         for name in names:
             with self.subTest(name):

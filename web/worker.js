@@ -265,14 +265,15 @@ function entered(lanes, entries, plant, shown) {
 
 // What is drawn, by the entries of a run and what the module draws; and where the premises broke, if they did.
 function drawing_of(entries, { view, items, count, verdict }, { text, shown }) {
-  const plant = entries.count ? plant_in(text) : { readers: [] }, names = names_of(plant);
+  const [kind, edge, reader] = ["kind", "edge", "reader"].map((name) => get(view, verdict, VERDICT[name]));
+  const is_begun = entries.count > 0 || kind !== NUMBERS.VERDICT_NONE;
+  const plant = is_begun ? plant_in(text) : { readers: [] }, names = names_of(plant);
   const lanes = names.map((name) => new Lane(name));
   for (let place = 0, at = items; place < count; place++, at += LANE.size) {
     lanes[get(view, at, LANE.reader)].take(view, at);
   }
   const [entering, dues] = entered(lanes, entries, plant, shown);
   const drawn = entering.map((lane) => lane.drawn(shown.ports || plant.devices));
-  const [kind, edge, reader] = ["kind", "edge", "reader"].map((name) => get(view, verdict, VERDICT[name]));
   const broken = kind === NUMBERS.VERDICT_BROKEN ? { edge, reader: names[reader] } : null;
   const place = broken ? entering.indexOf(lanes[reader]) : -1;
   if (place >= 0) drawn[place].marks.push([edge, "premise broken"]);

@@ -74,7 +74,7 @@ class Ran:
     def last_edge(self) -> int:
         """The last edge of which it says something: a stamp is of a time within a second."""
         edges = (entry.instant_us // 1_000_000 if isinstance(entry, Stamped) else entry.edge for entry in self.log)
-        return max(edges, default=1)
+        return max((1, *edges))
 
     @property
     def names(self) -> tuple[str, ...]:
@@ -328,7 +328,8 @@ def drawn(scenario: bytes) -> dict:
 def drawn_of(ran: Ran) -> dict:
     """The bars of a run for a page, by numbers, with which lines of its log and of its scenario are of which edges."""
     timeline = timeline_in(ran.log.scenario) if ran.log else None
-    placed = _devices_placed(ran.log, timeline) if ran.log.devices else _readers_placed(ran.log)
+    placed = _devices_placed if ran.log.devices else _readers_placed
+    of_lane = placed(ran.log, timeline) if timeline else dict
     lanes = [
         {
             "reader": lane.reader,
@@ -336,7 +337,7 @@ def drawn_of(ran: Ran) -> dict:
             **_columns(lane.runs, STATES),
             "causes": [CAUSES.index(run.cause) for run in lane.runs],
             "ports": [_columns(runs, PORT_STATES) for runs in lane.ports],
-            **placed(lane),
+            **of_lane(lane),
         }
         for lane in (readers_of(ran, ran.log.lanes()) if ran.log else [])
     ]
@@ -347,7 +348,7 @@ def drawn_of(ran: Ran) -> dict:
             "broken": broken, "refused": ran.refused and ran.refused.line, "dues": dues}
 
 
-def _readers_placed(log: irig.Log) -> Callable[[ReaderLanes], dict]:
+def _readers_placed(log: irig.Log, _: Timeline) -> Callable[[ReaderLanes], dict]:
     """What a page has of a reader beside its bars."""
     ticks: dict[str, list[tuple[int, Tick]]] = {}
     for number, tick in enumerate(log.ticks()):
