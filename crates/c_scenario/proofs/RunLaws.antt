@@ -18,8 +18,16 @@ use Rattle.report_either.specs.Alone.{AnswersAs}
 use Rattle.report_either.specs.Sides.{given_as}
 use Rattle.report_either.specs.declared.either.EitherOutcome.TheVariants.{First, Second}
 use Rattle.report_log.specs.declared.shown.Shown.{Shown}
+use Rattle.irig_scene.specs.BrokenLogs.{VouchesUntilBroken}
+use Rattle.irig_scene.specs.LogLines.{TellsTruth, VouchesForItself}
 use Rattle.irig_scene.specs.Run.{RanOn}
 use Rattle.irig_scene.specs.Scene.{output_shown, scenario}
+use Rattle.irig_scene.specs.VouchedByPorts.{VouchesByPorts}
+use Rattle.irig_scene.specs.VouchedLines.{VouchesByPlantLine}
+use Rattle.irig_scene.proofs.BrokenLogs.{vouches_until_broken}
+use Rattle.irig_scene.proofs.PlantLines.{vouches_by_plant_line}
+use Rattle.irig_scene.proofs.TrueLines.{tells_truth, vouches_for_itself}
+use Rattle.irig_scene.proofs.VouchedByPorts.{vouches_by_ports}
 use Rattle.irig_station_scene.specs.declared.outcome.StationOutcome.{StationOutcome}
 use Rattle.irig_station_scene.specs.StationRuns.{StationEnds}
 use Rattle.irig_station_scene.specs.StationScenes.{station_scenario}
@@ -28,6 +36,7 @@ use Rattle.irig_scenario.specs.DeviceLogs.{VouchesForDevices}
 use Rattle.irig_scenario.specs.Scenarios.{ScenarioEnd, has_devices}
 use Rattle.irig_scenario.proofs.DeviceLogLaws.{vouches_for_devices}
 use Rattle.c_scenario.specs.Runs.{HasWholeLog, IsRefusalOf, IsRun, IsStatus, line_of, number_of, scenario_log, scenario_refusal, status_of, written_over}
+use Rattle.c_scenario.specs.Vouched.{VouchesForReaders}
 
 -- a text begins with another
 pub record IsFront (front whole : List ℕ) : Type 0 where
@@ -188,8 +197,17 @@ abbrev pub FactOfPrefixes : Shown → List ℕ → (List ℕ → Type 0) → Typ
 FactOfPrefixes shown x fact = (written rest : List ℕ) → output_shown x shown ≡ written ++ rest → fact written
 
 module _ (x : List ℕ) (shown : Shown) (r : Result ScenarioEnd SceneFault) (log : List ℕ) (run : IsRun x shown r log) (old : List ℕ) (count : ℕ) (left : List ℕ) (size : count ≡ length log) (stands : left ≡ written_over old log) where
-  pub fact_left : (fact : List ℕ → Type 0) → FactOfPrefixes shown x fact → has_devices x ≡ false → fact (take count left)
+  fact_left : (fact : List ℕ → Type 0) → FactOfPrefixes shown x fact → has_devices x ≡ false → fact (take count left)
   fact_left fact each none = left_is fact log (output_shown x shown) old left count each (front_of log (output_shown x shown) (meaning_of scenario x).refused r (readers_end x shown r log run none)) size stands
+
+  pub readers_left : has_devices x ≡ false → VouchesForReaders x (take count left)
+  readers_left none = record {
+    itself = fact_left (VouchesForItself x) (vouches_for_itself shown x) none;
+    by_plant_line = fact_left (VouchesByPlantLine x) (vouches_by_plant_line shown x) none;
+    until_broken = fact_left (VouchesUntilBroken x) (vouches_until_broken shown x) none;
+    by_ports = fact_left (VouchesByPorts x) (vouches_by_ports shown x) none;
+    truth = fact_left (TellsTruth x) (tells_truth shown x) none;
+  }
 
   pub devices_left : has_devices x ≡ true → VouchesForDevices x (take count left)
   devices_left has = left_is (VouchesForDevices x) log (device_log x shown) old left count (vouches_for_devices shown.all x) (front_of log (device_log x shown) (meaning_of station_scenario x).refused r (devices_end x shown r log run has)) size stands

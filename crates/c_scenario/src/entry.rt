@@ -3,6 +3,7 @@
 ghost use Rattle.std.specs.Prelude.{◌≡◌};
 ghost use Rattle.c_scenario.specs.Entries.{any_verdict_of, claim_or_zeros, entry_for, station_verdict_of, verdict_by, verdict_of, verdict_on_devices};
 
+use crate::stretch::second_of;
 use c_numbers::{
     IrigClaim, IrigTold, NO_CLAIM, cause_number, claim_for_c, lock_count, lock_number, told_for_c,
 };
@@ -11,7 +12,7 @@ use irig_scenario::ScenarioOutcome;
 use irig_scene::{Outcome, SceneFault};
 use irig_station::Audit as StationAudit;
 use irig_station_scene::StationOutcome;
-use irig_time::{Claim, UtcSecond};
+use irig_time::Claim;
 use report_either::EitherOutcome;
 
 /// What a reader said at an edge, and what its ports told.
@@ -63,10 +64,7 @@ pub struct IrigVerdict {
 pub(crate) fn entry_for_c(entry: &Entry) -> IrigEntry
     ensures { result ≡ entry_for entry.now }
 {
-    let second = match entry.report.announce {
-        Some(second) => second,
-        None => UtcSecond { day: 0, sod: 0 },
-    };
+    let second = second_of(entry.report.announce);
     let ports = &entry.told;
     IrigEntry {
         edge: entry.edge,

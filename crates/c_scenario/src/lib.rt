@@ -12,14 +12,10 @@ ghost use Rattle.text_frame.specs.Reading.{IsReadingOf};
 ghost use Rattle.irig_plant.specs.Schedule.{log_of};
 ghost use Rattle.irig_plant.specs.Truth.{IsTruthful};
 ghost use Rattle.report_log.specs.declared.shown.Shown.{Shown};
-ghost use Rattle.irig_scene.specs.BrokenLogs.{VouchesUntilBroken};
-ghost use Rattle.irig_scene.specs.LogLines.{TellsTruth, VouchesForItself};
 ghost use Rattle.irig_scene.specs.PortLines.{without_port_lines};
 ghost use Rattle.irig_scene.specs.Scene.{Scene, audit_in, meaning_of, output, output_shown};
 ghost use Rattle.irig_scenario.specs.DeviceLogs.{VouchesForDevices};
 ghost use Rattle.irig_scenario.specs.Scenarios.{has_devices};
-ghost use Rattle.irig_scene.specs.VouchedByPorts.{VouchesByPorts};
-ghost use Rattle.irig_scene.specs.VouchedLines.{VouchesByPlantLine};
 ghost use Rattle.irig_scenario.specs.AnyScenario.{AnyScene, any_meaning};
 ghost use Rattle.irig_station.specs.StationPromise.{IsTrueEntry};
 ghost use Rattle.irig_station_scene.specs.StationScenes.{StationScene, station_audit, station_log, station_scenario};
@@ -31,6 +27,7 @@ ghost use Rattle.c_scenario.specs.TrueEntries.{AreTrueBefore};
 ghost use Rattle.c_scenario.specs.Stretches.{stretches_of};
 ghost use Rattle.c_scenario.specs.Lanes.{lanes_of};
 ghost use Rattle.report_log.specs.Text.{entries_alone};
+ghost use Rattle.c_scenario.specs.Vouched.{VouchesForReaders};
 ghost use Rattle.c_scenario.specs.Runs.{HasWholeLog, IsRefusalOf, IsStatus, scenario_log, scenario_refusal, shown_of, written_over};
 
 mod entry;
@@ -47,7 +44,8 @@ use entry::{verdict_for_c, verdict_on_any, verdict_on_station};
 pub use entry::{IrigEntry, IrigVerdict};
 use entry_log::{hear_text, write_entries};
 pub use frame::IrigFrameOptions;
-use irig_scene::Shown;
+use irig_scenario::{refusal_of, why_of_devices, why_of_readers};
+use irig_scene::{Run, Shown};
 use irig_station_scene::StationRun;
 pub use lane::IrigLane;
 use lane::write_lanes;
@@ -64,18 +62,15 @@ use told_log::{hear_devices, write_told};
 // Of the texts of frames: written; and not, for a text that is none of a second or of a frame, or a
 // number without a meaning; and for lack of memory.
 const DONE: u8 = 0;
-
 const BAD_TEXT: u8 = 1;
-
 const NO_MEMORY: u8 = 6;
 
 /// Runs a scenario, and writes as much of its log into `log` as that has room for; with `all` the
 /// silent entries too, or all seconds that devices told. `whole` is then how many bytes the log has.
 ///
-/// 0 if the run was done, and 3 if a line is refused, as the log's last line says. 5 if
-/// there was no memory for the log, and 6 if there was none for the run: `whole` is then how
-/// many bytes there were until then, which are the first of the log. (4 is a failed read, of which
-/// a text in memory has none.)
+/// 0 if the run was done, and 3 if a line is refused, as the log's last line says. 5 if there was no
+/// memory for the log, and 6 if there was none for the run: `whole` is then how many bytes there were
+/// until then, the first of the log. (4 is a failed read, of which a text in memory has none.)
 #[unsafe(no_mangle)]
 pub extern "C" fn irig_scene_c_run(
     alloc: Global,
@@ -96,12 +91,7 @@ pub extern "C" fn irig_scene_c_run(
         ≡ written_over log.old (take whole.new (scenario_log text.now (entries_alone all))) }
     // of a plant of readers
     ensures vouches { has_devices text.now ≡ false
-        → VouchesForItself text.now (take whole.new log.new) }
-    ensures vouches_by_plant_line { has_devices text.now ≡ false
-        → VouchesByPlantLine text.now (take whole.new log.new) }
-    ensures vouches_until_broken { has_devices text.now ≡ false
-        → VouchesUntilBroken text.now (take whole.new log.new) }
-    ensures truth { has_devices text.now ≡ false → TellsTruth text.now (take whole.new log.new) }
+        → VouchesForReaders text.now (take whole.new log.new) }
     // of a plant of devices
     ensures vouches_for_devices { has_devices text.now ≡ true
         → VouchesForDevices text.now (take whole.new log.new) }
@@ -141,14 +131,7 @@ pub extern "C" fn irig_scene_c_run_shown(
         ≡ output text.now all }
     // of a plant of readers
     ensures vouches { has_devices text.now ≡ false
-        → VouchesForItself text.now (take whole.new log.new) }
-    ensures vouches_by_plant_line { has_devices text.now ≡ false
-        → VouchesByPlantLine text.now (take whole.new log.new) }
-    ensures vouches_until_broken { has_devices text.now ≡ false
-        → VouchesUntilBroken text.now (take whole.new log.new) }
-    ensures vouches_by_ports { has_devices text.now ≡ false
-        → VouchesByPorts text.now (take whole.new log.new) }
-    ensures truth { has_devices text.now ≡ false → TellsTruth text.now (take whole.new log.new) }
+        → VouchesForReaders text.now (take whole.new log.new) }
     // of a plant of devices
     ensures vouches_for_devices { has_devices text.now ≡ true
         → VouchesForDevices text.now (take whole.new log.new) }
@@ -156,7 +139,7 @@ pub extern "C" fn irig_scene_c_run_shown(
     let ended = run::run_text(alloc, text, Shown { all, ports });
     run::write_over(log, &ended.log);
     *whole = ended.log.len();
-    *refusal = run::explain_either(alloc, &ended.answer, &ended.refused, reason);
+    *refusal = run::explain(alloc, &ended.answer, &ended.refused, reason);
     run::status_of(&ended.answer)
 }
 
@@ -202,8 +185,11 @@ pub extern "C" fn irig_scene_c_run_entries(
     let run = hear_text(alloc, text);
     *verdict = verdict_for_c(&run.answer);
     *whole = write_entries(entries, &run);
-    *refusal = run::explain(alloc, &run.answer, &run.refused, reason);
-    run::status_of(&run.answer)
+    let Run {
+        answer, refused, ..
+    } = run;
+    *refusal = run::explain(alloc, &answer, &why_of_readers(refused), reason);
+    run::status_of(&answer)
 }
 
 /// A run of a plant of readers or of devices, of which is written into `stretches` who lied and what
@@ -211,10 +197,7 @@ pub extern "C" fn irig_scene_c_run_entries(
 /// totals and the last one a stretch, in their order. Of a plant of devices a device is a reader, its
 /// lines are the ports, and each second that it told is a tick at the true edge to which it lies
 /// nearest. `whole` is then how many there are, and `verdict` says whether the premises held.
-///
-/// 0 if the run was done, and 3 if a line is refused, as `refusal` and `reason` say. 6 if there was no
-/// memory for the run, and 5 if there was none to say what is refused: nothing is written into
-/// `stretches` then, and `whole` is 0.
+/// The answers are those of [`irig_scene_c_run_entries`].
 #[unsafe(no_mangle)]
 pub extern "C" fn irig_scene_c_run_stretches(
     alloc: Global,
@@ -244,7 +227,7 @@ pub extern "C" fn irig_scene_c_run_stretches(
     *verdict = verdict_on_any(&found.answer);
     write_stretches(stretches, &found.findings);
     *whole = found.findings.len();
-    *refusal = run::explain_either(alloc, &found.answer, &found.refused, reason);
+    *refusal = run::explain(alloc, &found.answer, &found.refused, reason);
     run::status_of(&found.answer)
 }
 
@@ -252,10 +235,7 @@ pub extern "C" fn irig_scene_c_run_stretches(
 /// for: each lane where its reader's next tick ends it, and each mark at its tick, and then the lanes
 /// that are open, reader by reader. `whole` is then how many there are, and `verdict` says whether the
 /// premises held.
-///
-/// 0 if the run was done, and 3 if a line is refused, as `refusal` and `reason` say. 6 if there was no
-/// memory for the run, and 5 if there was none to say what is refused: nothing is written into `lanes`
-/// then, and `whole` is 0.
+/// The answers are those of [`irig_scene_c_run_entries`].
 #[unsafe(no_mangle)]
 pub extern "C" fn irig_scene_c_run_lanes(
     alloc: Global,
@@ -285,17 +265,14 @@ pub extern "C" fn irig_scene_c_run_lanes(
     *verdict = verdict_on_any(&drawn.answer);
     write_lanes(lanes, &drawn.lanes);
     *whole = drawn.lanes.len();
-    *refusal = run::explain_either(alloc, &drawn.answer, &drawn.refused, reason);
+    *refusal = run::explain(alloc, &drawn.answer, &drawn.refused, reason);
     run::status_of(&drawn.answer)
 }
 
 /// A run of a plant of devices, whose log is written into `entries` as numbers: what they told, silent
 /// seconds too, and stamps, as many as it has room for. `whole` is then how many there are, and
 /// `verdict` says whether the premises held. A plant of readers is refused.
-///
-/// 0 if the run was done, and 3 if a line is refused, as `refusal` and `reason` say. 6 if there was no
-/// memory for the run, and 5 if there was none to say what is refused: nothing is written into
-/// `entries` then, and `whole` is 0.
+/// The answers are those of [`irig_scene_c_run_entries`].
 #[unsafe(no_mangle)]
 pub extern "C" fn irig_scene_c_run_told(
     alloc: Global,
@@ -338,7 +315,8 @@ pub extern "C" fn irig_scene_c_run_told(
         line,
         ..
     } = run;
-    *refusal = run::explain_devices(alloc, &answer, line, names, lines, reason);
+    let why = why_of_devices(alloc, refusal_of(&answer), line, names, lines);
+    *refusal = run::explain(alloc, &answer, &why, reason);
     run::status_of(&answer)
 }
 

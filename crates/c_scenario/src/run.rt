@@ -4,9 +4,8 @@ ghost use Rattle.std.specs.Prelude.{◌≡◌};
 ghost use Rattle.c_scenario.specs.Runs.{IsRun, line_of, number_of, status_of, written_over};
 
 use crate::refusal::IrigRefusal;
-use indexmap::IndexSet;
 use irig_device::Watched;
-use irig_scenario::{ScenarioOutcome, WhyRefused, refused_of_devices, run_scenario};
+use irig_scenario::{ScenarioOutcome, WhyRefused, run_scenario};
 use irig_scene::{RefusedLine, SceneFault, Shown};
 use std::alloc::{AllocError, Global};
 use text_faults::meaning_of;
@@ -64,25 +63,8 @@ fn number_of<T>(answer: &Result<T, SceneFault>) -> u8
     }
 }
 
-/// What is refused, if a line is, and as much of the reason is written over the beginning of `reason`
-/// as that has room for.
+/// What is refused, if a line is. `reason` gets as much of the reason as it has room for.
 pub(crate) fn explain<T>(
-    alloc: Global,
-    answer: &Result<T, SceneFault>,
-    refused: &Option<RefusedLine>,
-    reason: &mut [u8],
-) -> IrigRefusal
-    ensures line { result.line ≡ line_of answer.now }
-    ensures number { result.number ≡ number_of answer.now }
-{
-    match refused {
-        Some(line) => explain_line(alloc, answer, false, line, reason),
-        None => refusal_with(answer, "", Parts::NONE, reason),
-    }
-}
-
-/// The same whatever the plant has.
-pub(crate) fn explain_either<T>(
     alloc: Global,
     answer: &Result<T, SceneFault>,
     refused: &Option<WhyRefused>,
@@ -98,27 +80,6 @@ pub(crate) fn explain_either<T>(
             refusal_with(answer, cause_of(refusal.number()), Parts::NONE, reason)
         }
         None => refusal_with(answer, "", Parts::NONE, reason),
-    }
-}
-
-/// The same of a plant of devices with these names, and so many lines to each.
-pub(crate) fn explain_devices<T>(
-    alloc: Global,
-    answer: &Result<T, SceneFault>,
-    line: Vec<u8>,
-    names: IndexSet<String>,
-    lines: u8,
-    reason: &mut [u8],
-) -> IrigRefusal
-    ensures line { result.line ≡ line_of answer.now }
-    ensures number { result.number ≡ number_of answer.now }
-{
-    match answer {
-        Err(SceneFault::Refused { refusal, .. }) => {
-            let refused = refused_of_devices(alloc, *refusal, line, names, lines);
-            explain_line(alloc, answer, true, &refused, reason)
-        }
-        _ => refusal_with(answer, "", Parts::NONE, reason),
     }
 }
 

@@ -8,5 +8,5 @@ mod run;
 
 pub use laws::device_lines_read_one_way;
 pub use listen::{ScenarioOutcome, ScenarioRun, listen_to_scenario};
-pub use refused::{WhyRefused, refused_of_devices};
+pub use refused::{WhyRefused, refusal_of, why_of_devices, why_of_readers};
 pub use run::run_scenario;

@@ -4,14 +4,13 @@ ghost use Rattle.std.specs.Prelude.{◌≡◌, ◌↔◌, ◌&&◌, false, true,
 ghost use Rattle.irig_device.specs.Watched.{has_failed};
 ghost use Rattle.report_run.specs.Runs.{IsAt};
 ghost use Rattle.report_either.specs.Choice.{StandsForEither};
-ghost use Rattle.irig_scene.specs.Explained.{refusal_in};
 ghost use Rattle.irig_scene.specs.ListenerRuns.{IsPlayerAt};
 ghost use Rattle.irig_scene.specs.WholeRun.{left, written};
 ghost use Rattle.irig_station_scene.specs.StationRuns.{IsStationPlayerAt};
 ghost use Rattle.irig_scenario.specs.AnyScenario.{AnyScene, HasHeard, any_texts};
-ghost use Rattle.irig_scenario.specs.WhyRefused.{IsExplainedAs, explained_by, refusal_answered};
+ghost use Rattle.irig_scenario.specs.WhyRefused.{IsExplainedAs, explained_by};
 
-use crate::refused::{WhyRefused, refused_of_devices};
+use crate::refused::{WhyRefused, refusal_of, why_of_devices, why_of_readers};
 use indexmap::IndexSet;
 use irig_device::Watched;
 use irig_port::{FlowPort, Port};
@@ -79,15 +78,6 @@ pub fn listen_to_scenario<L: Listener, M: StationListener<Asked = L::Asked>, R: 
     }
 }
 
-fn refusal_of(answer: &Result<ScenarioOutcome, SceneFault>) -> Option<Refusal>
-    ensures { result ≡ refusal_answered answer.now }
-{
-    match answer {
-        Err(SceneFault::Refused { refusal, .. }) => Some(*refusal),
-        _ => None,
-    }
-}
-
 // Who listened to a player, and what explains the refusal of this line, if it was refused.
 fn end_player<L: Listener, M: StationListener<Asked = L::Asked>, P: Port>(
     alloc: Global,
@@ -104,7 +94,7 @@ fn end_player<L: Listener, M: StationListener<Asked = L::Asked>, P: Port>(
     match player {
         Some(Either::First(player)) => {
             let (listener, line) = player.end(alloc, refusal, line);
-            (Some(Either::First(listener)), why_of_line(line))
+            (Some(Either::First(listener)), why_of_readers(line))
         }
         Some(Either::Second(player)) => {
             let (listener, names, lines) = player.into_parts();
@@ -113,29 +103,6 @@ fn end_player<L: Listener, M: StationListener<Asked = L::Asked>, P: Port>(
         }
         None => (None, why_of_first(alloc, refusal, line)),
     }
-}
-
-fn why_of_line(line: Option<RefusedLine>) -> Option<WhyRefused>
-    ensures { option_map explained_by result ≡ refusal_in line }
-{
-    match line {
-        Some(line) => Some(WhyRefused::Line(line)),
-        None => None,
-    }
-}
-
-// What explains that a line is refused, if it is, of devices with these names and so many lines each.
-fn why_of_devices(
-    alloc: Global,
-    refusal: Option<Refusal>,
-    line: Vec<u8>,
-    names: IndexSet<String>,
-    lines: u8,
-) -> Option<WhyRefused>
-    ensures { option_map explained_by result ≡ refusal }
-{
-    let refusal = refusal?;
-    Some(WhyRefused::OfDevices(refused_of_devices(alloc, refusal, line, names, lines)))
 }
 
 // What explains that the first line is refused, if it is.

@@ -103,7 +103,8 @@ impl<P: Port> Simulated<P> {
     /// tick that came now would be in order, and by its counter that time lies in the half hour before.
     pub fn may_stamp(&self, time_us: u64) -> bool
         requires { time_us < 2 ^ 53 }
-        ensures value { ForSimulation self.now (λ k symbol x. result ≡ may_stamp k symbol x time_us) }
+        ensures value { ForSimulation self.now
+            (λ k symbol x. result ≡ may_stamp k symbol x time_us) }
     {
         let now = self.oscillator.count_at(self.now_us);
         let time = self.oscillator.count_at(time_us);

@@ -24,7 +24,8 @@ pub(crate) fn next_tick(
     wait_us: u32,
 ) -> Option<u64>
     requires { now_us < 2 ^ 53 }
-    ensures { result ≡ next_tick ticking oscillator.first (rate_of oscillator.gain_us) now_us wait_us }
+    ensures { result
+        ≡ next_tick ticking oscillator.first (rate_of oscillator.gain_us) now_us wait_us }
 {
     match ticking {
         Ticking::ByWait => Some(counted_on(oscillator, now_us, wait_us)),

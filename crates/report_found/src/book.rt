@@ -104,7 +104,8 @@ impl Book {
     // Pushes all that a tick ends.
     fn push_ended(&self, findings: &mut Vec<Finding>, tick: &Tick) -> Result<(), AllocError>
         requires { IsSoundTick tick.now }
-        ensures exact { OnOk result ((d : Account) → tick.now.entry.reader < vec_len self.now.accounts
+        ensures exact { OnOk result ((d : Account)
+            → tick.now.entry.reader < vec_len self.now.accounts
             → findings.new.items ≡ findings.old.items
             ++ ended_found tick.now.entry.reader self.now.ports
             (slice_index_or self.now.accounts.items tick.now.entry.reader d) tick.now) }

@@ -75,8 +75,9 @@ fn findings_of(
     answer: &Result<ScenarioOutcome, SceneFault>,
     listener: Option<Either<Finder, Finder>>,
 ) -> Result<Vec<Finding>, AllocError>
-    ensures { (text : List ℕ) (run : ScenarioRun Finder Finder) → HasFound text run → run.answer ≡ answer.now
-        → run.listener ≡ listener → IfOk result (λ findings. FoundIn answer.now findings.items text) }
+    ensures { (text : List ℕ) (run : ScenarioRun Finder Finder) → HasFound text run
+        → run.answer ≡ answer.now → run.listener ≡ listener
+        → IfOk result (λ findings. FoundIn answer.now findings.items text) }
 {
     match (answer, listener) {
         (Ok(_) | Err(SceneFault::Refused { .. }), Some(Either::First(finder))) => {

@@ -76,8 +76,9 @@ fn lanes_of(
     answer: &Result<ScenarioOutcome, SceneFault>,
     listener: Option<Either<Drawer, Drawer>>,
 ) -> Result<Vec<Lane>, AllocError>
-    ensures { (text : List ℕ) (run : ScenarioRun Drawer Drawer) → HasDrawn text run → run.answer ≡ answer.now
-        → run.listener ≡ listener → IfOk result (λ lanes. DrawnIn answer.now lanes.items text) }
+    ensures { (text : List ℕ) (run : ScenarioRun Drawer Drawer) → HasDrawn text run
+        → run.answer ≡ answer.now → run.listener ≡ listener
+        → IfOk result (λ lanes. DrawnIn answer.now lanes.items text) }
 {
     match (answer, listener) {
         (Ok(_) | Err(SceneFault::Refused { .. }), Some(Either::First(drawer))) => {

@@ -42,8 +42,8 @@ pub fn run_lines<T: Play, R: BufRead, W: Write>(
 ) -> LinesRun<T>
     requires input_whole { has_failed input.old ≡ false }
     requires output_whole { has_failed output.old ≡ false }
-    ensures ran { RanTo T.language T.ends T.entries (T.stands_for asked) T.counts (T.texts asked) result.answer
-        result.player result.starts.items
+    ensures ran { RanTo T.language T.ends T.entries (T.stands_for asked) T.counts
+        (T.texts asked) result.answer result.player result.starts.items
         (R.remaining (device_of input.old)) (R.remaining (device_of input.new))
         (W.contents (device_of output.old)) (W.contents (device_of output.new)) }
     ensures read { (result.answer ≡ Err SceneFault.Read) ↔ (has_failed input.new ≡ true) }
@@ -82,8 +82,8 @@ fn play_lines<T: Play, R: BufRead, W: Write>(
     requires new { starts.old.items ≡ [] }
     requires input_whole { has_failed input.old ≡ false }
     requires output_whole { has_failed output.old ≡ false }
-    ensures ran { RanTo T.language T.ends T.entries (T.stands_for asked) T.counts (T.texts asked) result
-        player.new starts.new.items
+    ensures ran { RanTo T.language T.ends T.entries (T.stands_for asked) T.counts
+        (T.texts asked) result player.new starts.new.items
         (R.remaining (device_of input.old)) (R.remaining (device_of input.new))
         (W.contents (device_of output.old)) (W.contents (device_of output.new)) }
     ensures read { (result ≡ Err SceneFault.Read) ↔ (has_failed input.new ≡ true) }

@@ -153,7 +153,8 @@ pub(crate) fn mislate_at(place: JsonPath, value: &Value) -> Option<Misfit<'_>>
 
 fn mislate_device(at: usize, value: &Value) -> Option<Misfit<'_>>
     ensures place { IfSome result (λ misfit. misfit.place ≡ JsonPath.Reader at) }
-    ensures wrong { IfSome result (λ misfit. is_there (has_other_lates (generators_in (view value.now)))
+    ensures wrong { IfSome result (λ misfit.
+        is_there (has_other_lates (generators_in (view value.now)))
         (item_at (codes "devices") at (view value.now)) ≡ true) }
 {
     let device = item_at(value, DEVICES.name, at)?;

@@ -76,8 +76,9 @@ fn reason_in_value(
     value: &Value,
     context: &PlantContext<'_>,
 ) -> Result<Reason, AllocError>
-    ensures { IfOk result (λ reason. IfSome reason.place (IsRefusedAt context.now.has_devices refusal
-        (texts_of context.now.names.now.keys) context.now.edges.now (view value.now))) }
+    ensures { IfOk result (λ reason. IfSome reason.place
+        (IsRefusedAt context.now.has_devices refusal (texts_of context.now.names.now.keys)
+        context.now.edges.now (view value.now))) }
 {
     let misfit = match context.names.len() {
         0 => find_in_plant(alloc, refusal, value)?,

@@ -1,15 +1,7 @@
 use Rattle.std.proofs.Common.{◌≡◌, ◌∙◌, length, subst, sym, ap, rules}
-use Rattle.irig_scene.specs.BrokenLogs.{VouchesUntilBroken}
-use Rattle.irig_scene.specs.LogLines.{TellsTruth, VouchesForItself}
-use Rattle.irig_scene.specs.VouchedByPorts.{VouchesByPorts}
-use Rattle.irig_scene.specs.VouchedLines.{VouchesByPlantLine}
-use Rattle.irig_scene.proofs.BrokenLogs.{vouches_until_broken}
-use Rattle.irig_scene.proofs.PlantLines.{vouches_by_plant_line}
 use Rattle.irig_scene.proofs.PortLineLaws.{without_ports}
-use Rattle.irig_scene.proofs.TrueLines.{tells_truth, vouches_for_itself}
-use Rattle.irig_scene.proofs.VouchedByPorts.{vouches_by_ports}
 use Rattle.c_scenario.specs.Runs.{HasWholeLog, IsRefusalOf, IsStatus, line_of, number_of, scenario_log, scenario_refusal, shown_of, written_over}
-use Rattle.c_scenario.proofs.RunLaws.{devices_left, done_of, ends_as, explained_of, fact_left, front_counts, is_status, log_left, refused_of, whole_left}
+use Rattle.c_scenario.proofs.RunLaws.{devices_left, done_of, ends_as, explained_of, front_counts, is_status, log_left, readers_left, refused_of, whole_left}
 use Rattle.c_scenario.proofs.irig_scene_c_run_shown.Goals as goal
 
 pub returns-clause-status : goal.returns-clause-status
@@ -32,8 +24,8 @@ returns-clause-refusal c = λ whole.
     let run = c.run_text-ended.result in
     let shown = shown_of c.args.all c.args.ports in
     let is = explained_of run.log.items (scenario_log c.args.text.now shown) (scenario_refusal c.args.text.now) run.answer (ends_as c.args.text.now shown run.answer run.log.items c.run_text-ended.ensures) (subst HasWholeLog c.status_of.ensures whole) in
-    subst (λ line. IsRefusalOf (scenario_refusal c.args.text.now) line c.explain_either.result.number) (sym c.explain_either.ensures.line)
-    (subst (λ number. IsRefusalOf (scenario_refusal c.args.text.now) (line_of run.answer) number) (sym c.explain_either.ensures.number) is)
+    subst (λ line. IsRefusalOf (scenario_refusal c.args.text.now) line c.explain.result.number) (sym c.explain.ensures.line)
+    (subst (λ number. IsRefusalOf (scenario_refusal c.args.text.now) (line_of run.answer) number) (sym c.explain.ensures.number) is)
 
 pub returns-clause-whole : goal.returns-clause-whole
 returns-clause-whole c = λ whole.
@@ -61,36 +53,7 @@ pub returns-clause-vouches : goal.returns-clause-vouches
 returns-clause-vouches c =
     let run = c.run_text-ended.result in
     let shown = shown_of c.args.all c.args.ports in
-    fact_left c.args.text.now shown run.answer run.log.items c.run_text-ended.ensures c.args.log.now c.len.result c.write_over.new.room (search rules) (c.write_over.ensures ∙ ap (written_over c.args.log.now) c.deref.ensures.value)
-    (VouchesForItself c.args.text.now) (vouches_for_itself shown c.args.text.now)
-
-pub returns-clause-vouches_by_plant_line : goal.returns-clause-vouches_by_plant_line
-returns-clause-vouches_by_plant_line c =
-    let run = c.run_text-ended.result in
-    let shown = shown_of c.args.all c.args.ports in
-    fact_left c.args.text.now shown run.answer run.log.items c.run_text-ended.ensures c.args.log.now c.len.result c.write_over.new.room (search rules) (c.write_over.ensures ∙ ap (written_over c.args.log.now) c.deref.ensures.value)
-    (VouchesByPlantLine c.args.text.now) (vouches_by_plant_line shown c.args.text.now)
-
-pub returns-clause-vouches_until_broken : goal.returns-clause-vouches_until_broken
-returns-clause-vouches_until_broken c =
-    let run = c.run_text-ended.result in
-    let shown = shown_of c.args.all c.args.ports in
-    fact_left c.args.text.now shown run.answer run.log.items c.run_text-ended.ensures c.args.log.now c.len.result c.write_over.new.room (search rules) (c.write_over.ensures ∙ ap (written_over c.args.log.now) c.deref.ensures.value)
-    (VouchesUntilBroken c.args.text.now) (vouches_until_broken shown c.args.text.now)
-
-pub returns-clause-vouches_by_ports : goal.returns-clause-vouches_by_ports
-returns-clause-vouches_by_ports c =
-    let run = c.run_text-ended.result in
-    let shown = shown_of c.args.all c.args.ports in
-    fact_left c.args.text.now shown run.answer run.log.items c.run_text-ended.ensures c.args.log.now c.len.result c.write_over.new.room (search rules) (c.write_over.ensures ∙ ap (written_over c.args.log.now) c.deref.ensures.value)
-    (VouchesByPorts c.args.text.now) (vouches_by_ports shown c.args.text.now)
-
-pub returns-clause-truth : goal.returns-clause-truth
-returns-clause-truth c =
-    let run = c.run_text-ended.result in
-    let shown = shown_of c.args.all c.args.ports in
-    fact_left c.args.text.now shown run.answer run.log.items c.run_text-ended.ensures c.args.log.now c.len.result c.write_over.new.room (search rules) (c.write_over.ensures ∙ ap (written_over c.args.log.now) c.deref.ensures.value)
-    (TellsTruth c.args.text.now) (tells_truth shown c.args.text.now)
+    readers_left c.args.text.now shown run.answer run.log.items c.run_text-ended.ensures c.args.log.now c.len.result c.write_over.new.room (search rules) (c.write_over.ensures ∙ ap (written_over c.args.log.now) c.deref.ensures.value)
 
 pub returns-clause-vouches_for_devices : goal.returns-clause-vouches_for_devices
 returns-clause-vouches_for_devices c =
