@@ -14,9 +14,9 @@ use Rattle.report_run.specs.declared.fault.SceneFault.TheVariants.{Refused, Read
 use Rattle.report_run.specs.Meanings.{Refused as RefusedLine, meaning_of, refusal_at}
 use Rattle.report_run.specs.Runs.{RunFor}
 use Rattle.report_run.specs.Texts.{whole_text}
-use Rattle.report_either.specs.Alone.{AnswersAs}
-use Rattle.report_either.specs.Sides.{given_as}
-use Rattle.report_either.specs.declared.either.EitherOutcome.TheVariants.{First, Second}
+use Rattle.report_run.specs.Alone.{AnswersAs}
+use Rattle.report_run.specs.Sides.{given_as}
+use Rattle.report_run.specs.declared.either.EitherOutcome.TheVariants.{First, Second}
 use Rattle.report_log.specs.declared.shown.Shown.{Shown}
 use Rattle.irig_scene.specs.BrokenLogs.{VouchesUntilBroken}
 use Rattle.irig_scene.specs.LogLines.{TellsTruth, VouchesForItself}

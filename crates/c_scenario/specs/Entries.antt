@@ -23,7 +23,7 @@ use Rattle.irig_station_scene.specs.declared.outcome.StationOutcome.{StationOutc
 use Rattle.irig_station_scene.specs.StationScenes.{station_audit}
 use Rattle.irig_scenario.specs.AnyScenario.{AnyScene}
 use Rattle.irig_scenario.specs.Scenarios.{ScenarioEnd}
-use Rattle.report_either.specs.declared.either.EitherOutcome.TheVariants.{First, Second}
+use Rattle.report_run.specs.declared.either.EitherOutcome.TheVariants.{First, Second}
 use Rattle.report_run.specs.Starts.{starts_from}
 use Rattle.c_scenario.specs.declared.entry.IrigEntry.{IrigEntry}
 use Rattle.c_scenario.specs.declared.entry.IrigVerdict.{IrigVerdict}

@@ -13,7 +13,7 @@ use irig_scene::{Outcome, SceneFault};
 use irig_station::Audit as StationAudit;
 use irig_station_scene::StationOutcome;
 use irig_time::Claim;
-use report_either::EitherOutcome;
+use report_run::EitherOutcome;
 
 /// What a reader said at an edge, and what its ports told.
 #[repr(C)]

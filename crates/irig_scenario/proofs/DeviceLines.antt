@@ -13,9 +13,9 @@ use Rattle.report_log.specs.LogLines.{whole_lines}
 use Rattle.report_log.proofs.WordLaws.{AreNames, decimal_word}
 use Rattle.report_log.proofs.LogLaws.{NoNewline, all_join, one_whole, split, word_no_blank}
 use Rattle.report_log.proofs.LastLines.{decimal_line, literal_line, name_line}
-use Rattle.report_station.specs.StationText.{station_audit_text}
-use Rattle.report_station.proofs.NumberLaws.{one_decimal}
-use Rattle.report_station.proofs.StationLineLaws.{is_shown, no_last_line, shown_lines, station_line}
+use Rattle.irig_station_scene.specs.StationText.{station_audit_text}
+use Rattle.irig_station_scene.proofs.NumberLaws.{one_decimal}
+use Rattle.irig_station_scene.proofs.StationLineLaws.{is_shown, no_last_line, shown_lines, station_line}
 use Rattle.irig_scenario.specs.StationLogs.{broken_device_line}
 
 -- ---- the line of an audit

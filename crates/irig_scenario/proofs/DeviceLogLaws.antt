@@ -24,9 +24,9 @@ use Rattle.report_log.proofs.LastLines.{refusal_line, refusal_lines}
 use Rattle.report_run.specs.Lines.{lines}
 use Rattle.report_run.specs.Meanings.{Refused, meaning_of}
 use Rattle.report_run.specs.Texts.{ending_of, first_of, text_of, whole_text}
-use Rattle.report_station.specs.StationLines.{ShowsNeither}
-use Rattle.report_station.proofs.StationLineLaws.{is_shown, line_is, lines_of_station, shown_lines, station_line}
-use Rattle.report_station.proofs.StationReadLaws.{letter_shows_neither}
+use Rattle.irig_station_scene.specs.StationLines.{ShowsNeither}
+use Rattle.irig_station_scene.proofs.StationLineLaws.{is_shown, line_is, lines_of_station, shown_lines, station_line}
+use Rattle.irig_station_scene.proofs.StationReadLaws.{letter_shows_neither}
 use Rattle.irig_scene.proofs.NameLaws.{are_names_named}
 use Rattle.irig_station_scene.specs.StationScenes.{StationScene, next_in_scene, standing_in, station_audit, station_begun, station_log, station_scenario}
 use Rattle.irig_station_scene.specs.StationTexts.{station_texts}

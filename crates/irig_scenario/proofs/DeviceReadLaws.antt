@@ -18,11 +18,11 @@ use Rattle.irig_station.specs.StationSetups.{StationSetup, kind_if, redundancy_o
 use Rattle.scenario_devices.specs.StationLine.{StationPlan}
 use Rattle.report_log.specs.Text.{time_shown_text}
 use Rattle.report_log.proofs.WordLaws.{AreNames}
-use Rattle.report_station.specs.StationText.{bound_text, off_text}
-use Rattle.report_station.specs.StationLines.{ShowsStamp, ShowsTold, StampLine, ToldLine, bound_word, signed_word}
-use Rattle.report_station.proofs.NumberLaws.{no_dash, one_decimal}
-use Rattle.report_station.proofs.StationLineLaws.{station_line}
-use Rattle.report_station.proofs.StationReadLaws.{none_is_shown, stamp_as, stamped_line_no_told, told_as, told_line_no_stamp}
+use Rattle.irig_station_scene.specs.StationText.{bound_text, off_text}
+use Rattle.irig_station_scene.specs.StationLines.{ShowsStamp, ShowsTold, StampLine, ToldLine, bound_word, signed_word}
+use Rattle.irig_station_scene.proofs.NumberLaws.{no_dash, one_decimal}
+use Rattle.irig_station_scene.proofs.StationLineLaws.{station_line}
+use Rattle.irig_station_scene.proofs.StationReadLaws.{none_is_shown, stamp_as, stamped_line_no_told, told_as, told_line_no_stamp}
 use Rattle.irig_scenario.specs.StationLogs.{AreStampsTogether, IsTrueStamp, IsTrueTold, ShowTruth, ShowsStationTruth, drift_at, most_off}
 
 -- ---- a told second

@@ -8,9 +8,9 @@ use Rattle.text_faults.specs.declared.refusal.Refusal.{Refusal}
 use Rattle.report_run.specs.declared.fault.SceneFault.{SceneFault}
 use Rattle.report_run.specs.declared.fault.SceneFault.TheVariants.{Refused, Read, Write, Memory}
 use Rattle.report_run.specs.Runs.{IsAt}
-use Rattle.report_either.specs.Choice.{StandsForEither}
-use Rattle.report_either.specs.declared.either.Either.{Either}
-use Rattle.report_either.specs.declared.either.Either.TheVariants.{First, Second}
+use Rattle.report_run.specs.Choice.{StandsForEither}
+use Rattle.report_run.specs.declared.either.Either.{Either}
+use Rattle.report_run.specs.declared.either.Either.TheVariants.{First, Second}
 use Rattle.irig_scene.specs.declared.player.Player.{Player}
 use Rattle.irig_scene.specs.ListenerRuns.{IsPlayerAt}
 use Rattle.irig_scene.specs.Scene.{Scene}

@@ -11,9 +11,9 @@ use Rattle.report_run.specs.declared.fault.SceneFault.{SceneFault}
 use Rattle.report_run.specs.declared.fault.SceneFault.TheVariants.{Refused, Read, Write, Memory}
 use Rattle.report_run.specs.Runs.{AreBytesOf, RunFor}
 use Rattle.report_run.specs.Texts.{whole_text}
-use Rattle.report_either.specs.Alone.{AnswersAs, RanAlone}
-use Rattle.report_either.specs.Sides.{given_as}
-use Rattle.report_either.specs.declared.either.EitherOutcome.TheVariants.{First}
+use Rattle.report_run.specs.Alone.{AnswersAs, RanAlone}
+use Rattle.report_run.specs.Sides.{given_as}
+use Rattle.report_run.specs.declared.either.EitherOutcome.TheVariants.{First}
 use Rattle.irig_scene.specs.LogLines.{OfWritten}
 use Rattle.irig_scene.specs.LogTexts.{log_texts}
 use Rattle.irig_scene.specs.Run.{Ends, RanOn, RanShown}

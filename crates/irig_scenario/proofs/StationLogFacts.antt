@@ -15,8 +15,8 @@ use Rattle.irig_simulated.specs.Setups.{DevicePlan}
 use Rattle.scenario_values.specs.Names.{are_names, is_name}
 use Rattle.report_log.proofs.LogLaws.{word_no_blank}
 use Rattle.report_log.proofs.WordLaws.{AreNames, IsWord, word_by_test}
-use Rattle.report_station.specs.StationLines.{HasNoBlank, ShowsStamp, ShowsTold, StampLine, ToldLine}
-use Rattle.report_station.proofs.StationReadLaws.{none_is_shown, stamp_once, told_no_stamp, told_once}
+use Rattle.irig_station_scene.specs.StationLines.{HasNoBlank, ShowsStamp, ShowsTold, StampLine, ToldLine}
+use Rattle.irig_station_scene.proofs.StationReadLaws.{none_is_shown, stamp_once, told_no_stamp, told_once}
 use Rattle.irig_scene.specs.LogLines.{IsTimeOf}
 use Rattle.irig_scene.proofs.NameLaws.{are_names_named}
 use Rattle.irig_scenario.specs.StationLogs.{AreStampsTogether, IsFromBefore, IsTrueStamp, IsTrueTold, most_off}

@@ -7,9 +7,9 @@ use Rattle.report_run.specs.declared.fault.SceneFault.{SceneFault}
 use Rattle.report_run.specs.Meanings.{Language, Meaning, meaning_of}
 use Rattle.report_run.specs.Runs.{IsDone, RanTo}
 use Rattle.report_run.specs.Texts.{Texts}
-use Rattle.report_either.specs.declared.either.Either.{Either}
-use Rattle.report_either.specs.declared.either.EitherOutcome.{EitherOutcome}
-use Rattle.report_either.specs.Choice.{EndsForEither, StandsForEither, either_entries, either_of, either_texts}
+use Rattle.report_run.specs.declared.either.Either.{Either}
+use Rattle.report_run.specs.declared.either.EitherOutcome.{EitherOutcome}
+use Rattle.report_run.specs.Choice.{EndsForEither, StandsForEither, either_entries, either_of, either_texts}
 use Rattle.irig_scene.specs.declared.outcome.Outcome.{Outcome}
 use Rattle.irig_scene.specs.Run.{Ends}
 use Rattle.irig_scene.specs.Scene.{Scene, entries_in, scenario}

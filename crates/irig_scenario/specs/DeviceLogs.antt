@@ -6,7 +6,7 @@ use Rattle.irig_station.specs.declared.entry.Entry.{Entry}
 use Rattle.irig_station.specs.StationPromise.{IsTrueEntry}
 use Rattle.report_log.specs.LogLines.{whole_lines}
 use Rattle.report_run.specs.Meanings.{meaning_of}
-use Rattle.report_station.specs.StationText.{station_entry_text}
+use Rattle.irig_station_scene.specs.StationText.{station_entry_text}
 use Rattle.irig_station_scene.specs.StationScenes.{StationScene, station_log, station_scenario}
 use Rattle.irig_scenario.specs.StationLogs.{VouchesByStationLine, VouchesUntilBreak}
 

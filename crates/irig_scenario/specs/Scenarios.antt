@@ -10,9 +10,9 @@ use Rattle.report_log.specs.declared.shown.Shown.{Shown}
 use Rattle.report_run.specs.declared.fault.SceneFault.{SceneFault}
 use Rattle.report_run.specs.declared.fault.SceneFault.TheVariants.{Read, Write}
 use Rattle.report_run.specs.Runs.{AreBytesOf, RunFor}
-use Rattle.report_either.specs.Alone.{AnswersAs, chooses}
-use Rattle.report_either.specs.declared.either.EitherOutcome.{EitherOutcome}
-use Rattle.report_either.specs.declared.either.EitherOutcome.TheVariants.{First, Second}
+use Rattle.report_run.specs.Alone.{AnswersAs, chooses}
+use Rattle.report_run.specs.declared.either.EitherOutcome.{EitherOutcome}
+use Rattle.report_run.specs.declared.either.EitherOutcome.TheVariants.{First, Second}
 use Rattle.irig_scene.specs.declared.outcome.Outcome.{Outcome}
 use Rattle.irig_scene.specs.LogLines.{OfWritten}
 use Rattle.irig_scene.specs.Run.{RanOn}

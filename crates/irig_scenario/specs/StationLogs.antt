@@ -8,7 +8,7 @@ use Rattle.irig_time.specs.Timelines.{TimelineValue}
 use Rattle.irig_simulated.specs.Setups.{DevicePlan}
 use Rattle.scenario_devices.specs.StationLine.{StationPlan, station_in_line}
 use Rattle.report_log.specs.LogLines.{whole_lines}
-use Rattle.report_station.specs.StationLines.{ShowsStamp, ShowsTold, StampLine, ToldLine}
+use Rattle.irig_station_scene.specs.StationLines.{ShowsStamp, ShowsTold, StampLine, ToldLine}
 use Rattle.irig_scene.specs.LogLines.{IsTimeOf}
 use Rattle.irig_scene.specs.VouchedLines.{plant_line_of}
 

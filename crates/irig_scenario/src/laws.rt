@@ -5,8 +5,8 @@ ghost use Rattle.scenario_values.specs.Names.{are_names};
 ghost use Rattle.report_log.specs.LogLines.{whole_lines};
 ghost use Rattle.report_run.specs.Meanings.{Refused};
 ghost use Rattle.report_run.specs.Texts.{ending_of};
-ghost use Rattle.report_station.specs.StationLines.{IsStampInRange, IsToldInRange, ShowsNeither, ShowsStamp, ShowsTold, StampLine, ToldLine, stamp_shown, told_shown};
-ghost use Rattle.report_station.specs.StationText.{station_entry_text};
+ghost use Rattle.irig_station_scene.specs.StationLines.{IsStampInRange, IsToldInRange, ShowsNeither, ShowsStamp, ShowsTold, StampLine, ToldLine, stamp_shown, told_shown};
+ghost use Rattle.irig_station_scene.specs.StationText.{station_entry_text};
 ghost use Rattle.irig_station_scene.specs.StationScenes.{StationScene};
 ghost use Rattle.irig_station_scene.specs.StationTexts.{station_texts};
 

@@ -3,7 +3,7 @@
 ghost use Rattle.std.specs.Prelude.{◌≡◌, ◌↔◌, ◌&&◌, false, true, Err, None, Option, option_map};
 ghost use Rattle.irig_device.specs.Watched.{has_failed};
 ghost use Rattle.report_run.specs.Runs.{IsAt};
-ghost use Rattle.report_either.specs.Choice.{StandsForEither};
+ghost use Rattle.report_run.specs.Choice.{StandsForEither};
 ghost use Rattle.irig_scene.specs.ListenerRuns.{IsPlayerAt};
 ghost use Rattle.irig_scene.specs.WholeRun.{left, written};
 ghost use Rattle.irig_station_scene.specs.StationRuns.{IsStationPlayerAt};
@@ -16,8 +16,7 @@ use irig_device::Watched;
 use irig_port::{FlowPort, Port};
 use irig_scene::{Listener, Outcome, Player, RefusedLine, SceneFault};
 use irig_station_scene::{StationListener, StationOutcome, StationPlayer};
-use report_either::{Either, EitherOutcome};
-use report_run::{LinesRun, run_lines};
+use report_run::{Either, EitherOutcome, LinesRun, run_lines};
 use scenario_devices::is_station_line;
 use std::alloc::Global;
 use std::io::{BufRead, Write};

@@ -23,7 +23,7 @@ use Rattle.irig_station.proofs.DeviceEntries.{each_is_of_a_device}
 use Rattle.irig_station.proofs.GrowthLaws.{grows}
 use Rattle.scenario_devices.specs.StationEvents.{event_in_station_line}
 use Rattle.scenario_devices.specs.StationLine.{StationPlan}
-use Rattle.report_station.specs.StationText.{station_entry_text, station_text}
+use Rattle.irig_station_scene.specs.StationText.{station_entry_text, station_text}
 use Rattle.report_run.specs.declared.stop.Failure.{Failure}
 use Rattle.report_run.specs.declared.stop.Failure.TheVariants.{Memory}
 use Rattle.report_run.specs.declared.stop.Stop.{Stop}

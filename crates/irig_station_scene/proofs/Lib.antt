@@ -1,2 +1,5 @@
+pub mod StationLineLaws
+pub mod NumberLaws
+pub mod StationReadLaws
 pub mod EventLaws
 pub mod SceneFacts

@@ -1,3 +1,5 @@
+pub mod StationText
+pub mod StationLines
 pub mod StationScenes
 pub mod StationTexts
 pub mod StationStays

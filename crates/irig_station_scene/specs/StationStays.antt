@@ -6,7 +6,7 @@ use Rattle.text_faults.specs.declared.refusal.Refusal.{Refusal}
 use Rattle.irig_station.specs.declared.event.Event.{Event}
 use Rattle.irig_station.proofs.GrowthLaws.{grows}
 use Rattle.scenario_devices.specs.StationEvents.{event_in_station_line}
-use Rattle.report_station.specs.StationText.{station_entry_text, station_text}
+use Rattle.irig_station_scene.specs.StationText.{station_entry_text, station_text}
 use Rattle.report_run.specs.Texts.{Stays}
 use Rattle.irig_station_scene.specs.StationScenes.{StationScene, event_in_scene, next_in_scene, standing_in, station_log, station_scenario}
 use Rattle.irig_station_scene.specs.StationTexts.{log_in_scene, quiet_texts, station_texts}

@@ -2,7 +2,7 @@
 -- Source: docs/OUTPUT.md.
 use Rattle.std.specs.Prelude.{ℕ, Bool, List, []}
 use Rattle.report_run.specs.Texts.{Texts}
-use Rattle.report_station.specs.StationText.{station_audit_text, station_text}
+use Rattle.irig_station_scene.specs.StationText.{station_audit_text, station_text}
 use Rattle.irig_station_scene.specs.StationScenes.{StationScene, station_audit, station_log}
 
 -- the log of a scene, with all seconds that were told if `all`

@@ -8,9 +8,11 @@ mod outcome;
 mod play;
 mod player;
 mod run;
+mod text;
 
 pub use listener::StationListener;
 pub use log::StationLog;
 pub use outcome::StationOutcome;
 pub use player::StationPlayer;
 pub use run::{StationRun, listen_to_station};
+pub use text::{push_station_audit, push_station_entries};

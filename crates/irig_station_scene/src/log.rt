@@ -1,11 +1,11 @@
 //! The log, as a listener.
 
 use crate::listener::StationListener;
+use crate::text::{push_station_audit, push_station_entries};
 use indexmap::IndexSet;
 use irig_port::Port;
 use irig_station::{Entry, Station};
 use report_log::Shown;
-use report_station::{push_station_audit, push_station_entries};
 use std::alloc::{AllocError, Global};
 
 /// Writes the line of each entry, and at the end whether the premises held.

@@ -9,7 +9,7 @@ use crate::finding::Finding;
 use irig_device::Watched;
 use irig_scenario::{ScenarioOutcome, ScenarioRun, WhyRefused, listen_to_scenario};
 use irig_scene::SceneFault;
-use report_either::Either;
+use report_run::Either;
 use std::alloc::{AllocError, Global};
 
 /// What a scenario comes to.

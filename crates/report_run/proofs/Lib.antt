@@ -5,3 +5,10 @@ pub mod TakenLaws
 pub mod RestLaws
 pub mod StartLaws
 pub mod RunLaws
+pub mod FirstLaws
+pub mod WithinLaws
+pub mod TextLaws
+pub mod EitherRuns
+pub mod ChoiceLaws
+pub mod EitherLaws
+pub mod StandardFacts

@@ -5,3 +5,7 @@ pub mod Texts
 pub mod Starts
 pub mod Runs
 pub mod Statuses
+pub mod Sides
+pub mod Choice
+pub mod EitherStays
+pub mod Alone

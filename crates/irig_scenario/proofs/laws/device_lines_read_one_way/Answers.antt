@@ -1,7 +1,7 @@
 use Rattle.std.proofs.Common.{None, Some}
 use Rattle.irig_station.specs.declared.entry.Entry.TheVariants.{Stamped, Told}
-use Rattle.report_station.proofs.StationLineLaws.{line_is, station_line}
-use Rattle.report_station.proofs.StationReadLaws.{none_is_shown, stamp_is_shown, stamp_once, stamped_line_no_told, told_is_shown, told_no_stamp, told_once}
+use Rattle.irig_station_scene.proofs.StationLineLaws.{line_is, station_line}
+use Rattle.irig_station_scene.proofs.StationReadLaws.{none_is_shown, stamp_is_shown, stamp_once, stamped_line_no_told, told_is_shown, told_no_stamp, told_once}
 use Rattle.irig_scene.proofs.NameLaws.{are_names_named}
 use Rattle.irig_scenario.proofs.DeviceLogLaws.{last_shows_neither}
 use Rattle.irig_scenario.proofs.laws.device_lines_read_one_way.Goals as goal

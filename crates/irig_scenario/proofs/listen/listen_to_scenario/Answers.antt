@@ -1,6 +1,6 @@
 use Rattle.std.proofs.Common.{◌∙◌}
 use Rattle.report_run.proofs.RunLaws.{ran_to}
-use Rattle.report_either.specs.Choice.{StandsForEither, either_entries}
+use Rattle.report_run.specs.Choice.{StandsForEither, either_entries}
 use Rattle.irig_scene.specs.ListenerRuns.{IsPlayerAt}
 use Rattle.irig_scene.specs.Scene.{entries_in}
 use Rattle.irig_station_scene.specs.StationRuns.{IsStationPlayerAt}

@@ -1,5 +1,5 @@
 use Rattle.scenario_devices.specs.StationLine.{is_station_line}
-use Rattle.report_either.proofs.ChoiceLaws.{either_runs_alone}
+use Rattle.report_run.proofs.ChoiceLaws.{either_runs_alone}
 use Rattle.irig_scene.specs.LogTexts.{log_texts}
 use Rattle.irig_scene.specs.Run.{Ends}
 use Rattle.irig_scene.specs.Scene.{scenario}

@@ -1,7 +1,0 @@
-pub mod FirstLaws
-pub mod WithinLaws
-pub mod TextLaws
-pub mod RunLaws
-pub mod ChoiceLaws
-pub mod EitherLaws
-pub mod StandardFacts

@@ -1,4 +1,0 @@
-pub mod Sides
-pub mod Choice
-pub mod EitherStays
-pub mod Alone

@@ -1,3 +1,0 @@
-pub mod StationLineLaws
-pub mod NumberLaws
-pub mod StationReadLaws
