@@ -22,8 +22,8 @@ pub use interval::{Interval, by_vote, carried_on, contradicts, cut};
 pub use limits::VoteLimits;
 pub use lines::{
     KeptClaim, KeptFrame, Line, Lines, Vote, agreed, are_uneven, if_come, is_even, is_idle,
-    is_pulse, line_at, lines_of_nothing, quality_told, settle, take, tells_of, wait_by,
-    whole_frame, with_line,
+    is_pulse, line_at, lines_of_nothing, quality_told, set_line, settle, take, tells_of, wait_by,
+    whole_frame,
 };
 pub use pace::{Pace, carried_by, edge_on, grown_us, is_spent, learned, pace_on};
 pub use rate::{Anchor, Anchors, NO_ANCHORS, Rate, anchors_cut, anchors_on, rate_of};

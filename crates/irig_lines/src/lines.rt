@@ -130,8 +130,8 @@ pub fn lines_of_nothing() -> Lines
 }
 
 /// The line of a port, 0 to 4.
-pub fn line_at(lines: Lines, port: u8) -> Line
-    ensures { result ≡ line_at lines port }
+pub fn line_at(lines: &Lines, port: u8) -> Line
+    ensures { result ≡ line_at lines.now port }
 {
     match port {
         0 => lines.a,
@@ -142,11 +142,10 @@ pub fn line_at(lines: Lines, port: u8) -> Line
     }
 }
 
-/// The lines, with this one at a port, 0 to 4.
-pub fn with_line(lines: Lines, port: u8, line: Line) -> Lines
-    ensures { result ≡ with_line lines port line }
+/// Puts a line at a port, 0 to 4.
+pub fn set_line(lines: &mut Lines, port: u8, line: Line)
+    ensures { lines.new ≡ with_line lines.old port line }
 {
-    let mut lines = lines;
     match port {
         0 => lines.a = line,
         1 => lines.b = line,
@@ -154,7 +153,6 @@ pub fn with_line(lines: Lines, port: u8, line: Line) -> Lines
         3 => lines.d = line,
         _ => lines.e = line,
     }
-    lines
 }
 
 /// Whether a pulse so many microseconds wide is one: a line that is high for half a second is

@@ -33,7 +33,7 @@ impl<P: Port> Simulated<P> {
         let width_us = (now - rise).min(u64::from(u32::MAX)) as u32;
         let element = self.device.element(line, rise);
         let symbol = second.true_symbol(line, element);
-        let place = self.device.hear(line, rise, width_us, symbol);
+        let place = self.device.hear(line, rise, width_us, element, symbol);
         self.wires.take(line, flight.end_us);
         if place == 100 {
             let wait_us = self.device.wait(now);

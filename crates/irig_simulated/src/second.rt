@@ -33,8 +33,10 @@ impl Second {
         ensures { result ≡ sent_in self.now line place }
     {
         let line = self.lines.get(usize::from(line))?;
-        let frame = line.sent?;
-        Some(frame[usize::from(place)])
+        match &line.sent {
+            Some(frame) => Some(frame[usize::from(place)]),
+            None => None,
+        }
     }
 
     // What is said of an element of a line to the audit of its device: what a true line has there, in

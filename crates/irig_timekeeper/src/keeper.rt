@@ -23,7 +23,7 @@ use crate::stamp::{Stamp, stamp_of};
 use crate::states::{LineState, state_of};
 use irig_lines::{
     ClockFault, ClockRules, KeptFrame, Line, Pace, Rate, clock_fault, corrected, delay_at,
-    is_pulse, line_at, rate_of, whole_frame, with_line,
+    is_pulse, line_at, rate_of, set_line, whole_frame,
 };
 use irig_port::{Limits, Port, Told, edge_within, hear};
 use irig_time::{LeapTable, Rules};
@@ -136,9 +136,9 @@ impl<P: Port> Timekeeper<P> {
         ensures heard { Goes self.old self.new (λ k. one_pulse_more k port rise_us width_us) }
         ensures lines { self.new.clock ≡ self.old.clock }
     {
-        let mut line = line_at(self.state.lines, port);
+        let mut line = line_at(&self.state.lines, port);
         let place = self.hear_port(port, &mut line, rise_us, width_us);
-        self.state.lines = with_line(self.state.lines, port, line);
+        set_line(&mut self.state.lines, port, line);
         place
     }
 

@@ -143,7 +143,7 @@ pub fn state_of(rules: &ClockRules, state: &ClockState, port: u8) -> LineState
     requires small { AreSmall state.now }
     ensures { result ≡ state_of rules.now state.now port }
 {
-    let line = line_at(state.lines, port);
+    let line = line_at(&state.lines, port);
     state_seen(
         rules,
         line.is_heard,

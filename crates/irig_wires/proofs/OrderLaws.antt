@@ -1,7 +1,7 @@
 -- In which order things happen to a device.
 use Rattle.std.specs.Prelude.{nat_le, nat_lt}
-use Rattle.std.proofs.Common.{◌≡◌, ◌∙◌, ℕ, zero, suc, ◌+◌, ◌<◌, ◌≤◌, ◌⊎◌, List, [], ◌∷◌, Option, Some, None, refl, sym, ap, subst, arith, inl, inr}
-use Rattle.std.proofs.lemmas.Bool.{cases_Bool, cases_eq, cases_lt, cases_order, leb-true, leb-false, ltb-true, ltb-false, eq-eqb, ne_eqb}
+use Rattle.std.proofs.Common.{◌≡◌, ◌∙◌, ℕ, zero, suc, ◌+◌, ◌<◌, ◌≤◌, ◌⊎◌, true, false, List, [], ◌∷◌, Option, Some, None, refl, sym, ap, subst, arith, inl, inr}
+use Rattle.std.proofs.lemmas.Bool.{cases_Bool, cases_eq, cases_lt, cases_order, le-leb, leb-true, leb-false, lt-leb, ltb-true, ltb-false, eq-eqb, ne_eqb}
 use Rattle.irig_wires.specs.declared.wire.Flight.{Flight}
 use Rattle.irig_wires.specs.declared.wire.Wire.{Wire}
 use Rattle.irig_wires.specs.declared.wires.Wires.{Wires}
@@ -447,3 +447,46 @@ in_a_row wires first next one two =
             ],
           )
     ]
+
+-- ---- line by line
+
+-- the earlier of two ends, unless something else comes before, is the first, unless the second or
+-- that does
+pub ends_join : (first next : Option Ending) (other : Coming) → end_or (earlier_end first next) other ≡ end_or first (end_or next other)
+ends_join None next other = refl
+ends_join (Some f) None other = refl
+ends_join (Some f) (Some g) other = elim (cases_Bool (nat_lt g.flight.end_us f.flight.end_us)) [
+  | inl under ↦ elim (cases_Bool (nat_le g.flight.end_us other.time_us)) [
+      | inl soon ↦
+          let later : nat_le f.flight.end_us g.flight.end_us ≡ false = lt-leb f.flight.end_us g.flight.end_us (ltb-true g.flight.end_us f.flight.end_us under) in
+          rw (under, soon, later) refl
+      | inr late ↦
+          let later : nat_le f.flight.end_us other.time_us ≡ false = lt-leb f.flight.end_us other.time_us (omega (arith, leb-false g.flight.end_us other.time_us late, ltb-true g.flight.end_us f.flight.end_us under)) in
+          rw (under, late, later) refl
+    ]
+  | inr over ↦ elim (cases_Bool (nat_le f.flight.end_us other.time_us)) [
+      | inl soon ↦ elim (cases_Bool (nat_le g.flight.end_us other.time_us)) [
+          | inl both ↦
+              let first : nat_le f.flight.end_us g.flight.end_us ≡ true = le-leb f.flight.end_us g.flight.end_us (ltb-false g.flight.end_us f.flight.end_us over) in
+              rw (over, both, first, soon) refl
+          | inr one ↦ rw (over, one, soon) refl
+        ]
+      | inr late ↦
+          let none : nat_le g.flight.end_us other.time_us ≡ false = lt-leb g.flight.end_us other.time_us (omega (arith, leb-false f.flight.end_us other.time_us late, ltb-false g.flight.end_us f.flight.end_us over)) in
+          rw (over, none, late) refl
+    ]
+]
+
+-- so what happens next is found line by line
+pub line_by_line : (wires : Wires) (tick : Option ℕ) (send : ℕ)
+    → coming_of wires tick send
+    ≡ end_or (ending_on 0 wires.a.flight) (end_or (ending_on 1 wires.b.flight) (end_or (ending_on 2 wires.c.flight) (end_or (ending_on 3 wires.d.flight) (end_or (ending_on 4 wires.e.flight) (tick_or_send tick send)))))
+line_by_line wires tick send =
+    let a = ending_on 0 wires.a.flight in
+    let b = ending_on 1 wires.b.flight in
+    let c = ending_on 2 wires.c.flight in
+    let d = ending_on 3 wires.d.flight in
+    let e = ending_on 4 wires.e.flight in
+    let other = tick_or_send tick send in
+    ends_join a (earlier_end b (earlier_end c (earlier_end d e))) other
+    ∙ ap (end_or a) (ends_join b (earlier_end c (earlier_end d e)) other ∙ ap (end_or b) (ends_join c (earlier_end d e) other ∙ ap (end_or c) (ends_join d e other)))

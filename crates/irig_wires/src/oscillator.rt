@@ -11,8 +11,10 @@ const SECOND_US: u64 = 1_000_000;
 pub struct Oscillator {
     pub(crate) first: u64,
     pub(crate) gain_us: i16,
+    pub(crate) rate: u64,
     ghost few: { unsigned_abs gain_us ≤ most_gain_us },
     ghost early: { first < 2 ^ 55 },
+    ghost counts: { rate ≡ rate_of gain_us },
 }
 
 impl Oscillator {
@@ -26,7 +28,17 @@ impl Oscillator {
         if gain_us.unsigned_abs() > 1_000 {
             return None;
         }
-        Some(Oscillator { first, gain_us })
+        let by = u64::from(gain_us.unsigned_abs());
+        let rate = if gain_us < 0 {
+            SECOND_US - by
+        } else {
+            SECOND_US + by
+        };
+        Some(Oscillator {
+            first,
+            gain_us,
+            rate,
+        })
     }
 
     /// What the counter shows at a true time. The longest scenario, of a million lines of 100,000
@@ -71,11 +83,6 @@ impl Oscillator {
         ensures least { 999000 ≤ result }
         ensures most { result ≤ 1001000 }
     {
-        let by = u64::from(self.gain_us.unsigned_abs());
-        if self.gain_us < 0 {
-            SECOND_US - by
-        } else {
-            SECOND_US + by
-        }
+        self.rate
     }
 }

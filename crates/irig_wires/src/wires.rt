@@ -2,7 +2,7 @@
 
 ghost use Rattle.std.specs.Prelude.{◌≡◌, ◌≤◌, ◌<◌, ◌^◌, All};
 ghost use Rattle.irig_wires.specs.Wires.{added, ended, late_at, made_late, most_late_us, plugged, pulled, sent, taken, wire_at, wires_of, with_wire};
-ghost use Rattle.irig_wires.specs.Happenings.{earlier_end, end_or, ending_on, next_end, coming_of, tick_or_send};
+ghost use Rattle.irig_wires.specs.Happenings.{coming_of, end_or, ending_on, tick_or_send};
 
 use crate::wire::{Flight, Wire};
 
@@ -169,50 +169,19 @@ impl Wires {
         flight
     }
 
-    /// Which pulse ends next, if any is on its way: the earliest end, of equal ends that of the
-    /// lowest line.
-    pub fn next_end(&self) -> Option<Ending>
-        ensures { result ≡ next_end self.now }
-    {
-        let mut next = ending_on(4, self.e.flight);
-        next = earlier_end(ending_on(3, self.d.flight), next);
-        next = earlier_end(ending_on(2, self.c.flight), next);
-        next = earlier_end(ending_on(1, self.b.flight), next);
-        earlier_end(ending_on(0, self.a.flight), next)
-    }
-
     /// What happens next to a device that is ticked then, if it is to be ticked, and to which
     /// generators send the next element then. At one time pulses that end come first, by the number
     /// of their line, then the tick, then what generators send.
     pub fn next(&self, tick_us: Option<u64>, send_us: u64) -> Coming
         ensures { result ≡ coming_of self.now tick_us send_us }
     {
-        end_or(self.next_end(), tick_or_send(tick_us, send_us))
-    }
-}
-
-fn ending_on(line: u8, flight: Option<Flight>) -> Option<Ending>
-    ensures { result ≡ ending_on line flight }
-{
-    match flight {
-        Some(flight) => Some(Ending { line, flight }),
-        None => None,
-    }
-}
-
-fn earlier_end(first: Option<Ending>, next: Option<Ending>) -> Option<Ending>
-    ensures { result ≡ earlier_end first next }
-{
-    match (first, next) {
-        (None, _) => next,
-        (Some(_), None) => first,
-        (Some(a), Some(b)) => {
-            if b.flight.end_us < a.flight.end_us {
-                next
-            } else {
-                first
-            }
-        }
+        let mut next = tick_or_send(tick_us, send_us);
+        end_before(4, &self.e.flight, &mut next);
+        end_before(3, &self.d.flight, &mut next);
+        end_before(2, &self.c.flight, &mut next);
+        end_before(1, &self.b.flight, &mut next);
+        end_before(0, &self.a.flight, &mut next);
+        next
     }
 }
 
@@ -231,14 +200,19 @@ fn tick_or_send(tick_us: Option<u64>, send_us: u64) -> Coming
     }
 }
 
-fn end_or(ending: Option<Ending>, other: Coming) -> Coming
-    ensures { result ≡ end_or ending other }
+// The end of what is on its way on a line comes next, unless something else comes before.
+fn end_before(line: u8, flight: &Option<Flight>, next: &mut Coming)
+    ensures { next.new ≡ end_or (ending_on line flight.now) next.old }
 {
-    match ending {
-        Some(ending) if ending.flight.end_us <= other.time_us => Coming {
-            time_us: ending.flight.end_us,
-            what: Happening::End(ending),
-        },
-        _ => other,
+    if let Some(flight) = flight {
+        if flight.end_us <= next.time_us {
+            *next = Coming {
+                time_us: flight.end_us,
+                what: Happening::End(Ending {
+                    line,
+                    flight: *flight,
+                }),
+            };
+        }
     }
 }

@@ -87,10 +87,19 @@ impl<P: Port> Device<P> {
 
     /// A pulse on a line, once it has ended, to the timekeeper and to its audit: its place in its
     /// frame, 1 to 100, or 0 out of step. It rises at the device at `rise_us`, and is `width_us`
-    /// microseconds wide. A true line has `symbol` at its [`element`](Self::element). Of a pulse that
-    /// is as wide as no symbol, any but [`Bad`](Symbol::Bad) will do.
-    pub fn hear(&mut self, line: u8, rise_us: u64, width_us: u32, symbol: Symbol) -> u8
+    /// microseconds wide. `element` is its [`element`](Self::element), at which a true line has
+    /// `symbol`. Of a pulse that is as wide as no symbol, any but [`Bad`](Symbol::Bad) will do.
+    pub fn hear(
+        &mut self,
+        line: u8,
+        rise_us: u64,
+        width_us: u32,
+        element: u64,
+        symbol: Symbol,
+    ) -> u8
         requires line { line < ports_in self.old.clock.redundancy }
+        requires element { element ≡ element_on self.old line rise_us }
+        requires few { element < 2 ^ 43 }
         requires late { 32768 ≤ rise_us }
         requires small { rise_us + 32768 < 2 ^ 56 }
         ensures on { HearsOn self.old self.new line rise_us width_us symbol }
@@ -98,16 +107,14 @@ impl<P: Port> Device<P> {
             ≡ place_told k line (risen_on self.old line rise_us % 2 ^ 32) width_us) }
         ensures set { IsSetAs self.new self.old }
     {
-        let rise = self.risen_on(line, rise_us);
-        let element = element_near(self.oscillator, rise);
         let pulse = Risen {
-            rise,
+            rise: self.risen_on(line, rise_us),
             width_us,
             element,
             begins: begins(self.oscillator, element),
             symbol,
         };
-        self.watch = self.watch.hear(&self.clock, line, pulse);
+        self.watch.hear(&self.clock, line, pulse);
         self.keeper.hear(line, low(rise_us), width_us)
     }
 
@@ -141,7 +148,7 @@ impl<P: Port> Device<P> {
         // the law `a_device_vouches`
         ensures truth { TellsTruly self.old self.new now result }
     {
-        self.watch = self.watch.tick(&self.clock, now);
+        self.watch.tick(&self.clock, now);
         self.keeper.tick(low(now))
     }
 

@@ -52,38 +52,36 @@ impl Watch {
         self.is_kept
     }
 
-    /// What it is behind a pulse on a line, with what a true line has there.
-    pub fn hear(self, clock: &ClockRules, line: u8, pulse: Risen) -> Self
+    /// Hears a pulse on a line, with what a true line has there.
+    pub fn hear(&mut self, clock: &ClockRules, line: u8, pulse: Risen)
         requires line { line < ports_in clock.now.redundancy }
         requires rise { pulse.rise < 2 ^ 58 }
         requires element { pulse.element < 2 ^ 58 }
         requires begins { pulse.begins < 2 ^ 58 }
         ensures { (x : TrueLines) (start : ℕ) (calls : List Call)
-            → IsWatchOf self clock.now x start calls → pulse.element ≡ x.near pulse.rise
+            → IsWatchOf self.old clock.now x start calls → pulse.element ≡ x.near pulse.rise
             → pulse.begins ≡ element_at x.edges pulse.element
             → IsSaidOf (x.symbol line) pulse.element pulse.width_us pulse.symbol
-            → IsWatchOf result clock.now x start (Hear line pulse.rise pulse.width_us ∷ calls) }
+            → IsWatchOf self.new clock.now x start (Hear line pulse.rise pulse.width_us ∷ calls) }
     {
         if !is_pulse(pulse.width_us) {
-            return self;
+            return;
         }
+        let is_kept = self.kept_at_pulse(line, pulse.rise);
         let witness = after_rise(self.witness_at(line), clock.within.us(), pulse);
-        let mut watch = self.with_witness(line, witness);
-        watch.is_kept = self.kept_at_pulse(line, pulse.rise);
-        watch
+        self.set_witness(line, witness);
+        self.is_kept = is_kept;
     }
 
-    /// What it is behind a tick.
-    pub fn tick(self, clock: &ClockRules, now: u64) -> Self
+    /// Hears of a tick.
+    pub fn tick(&mut self, clock: &ClockRules, now: u64)
         requires { now < 2 ^ 56 }
         ensures { (x : TrueLines) (start : ℕ) (calls : List Call)
-            → IsWatchOf self clock.now x start calls
-            → IsWatchOf result clock.now x start (Tick now ∷ calls) }
+            → IsWatchOf self.old clock.now x start calls
+            → IsWatchOf self.new clock.now x start (Tick now ∷ calls) }
     {
-        let mut watch = self;
-        watch.last_tick = now;
-        watch.is_kept = self.kept_at_tick(clock.redundancy.f(), now);
-        watch
+        self.is_kept = self.kept_at_tick(clock.redundancy.f(), now);
+        self.last_tick = now;
     }
 
     /// Whether a tick that comes now is in order.
@@ -149,18 +147,16 @@ impl Watch {
         }
     }
 
-    fn with_witness(self, line: u8, witness: LineWitness) -> Self
-        ensures { result ≡ watches.with_witness self line witness }
+    fn set_witness(&mut self, line: u8, witness: LineWitness)
+        ensures { self.new ≡ watches.with_witness self.old line witness }
     {
-        let mut watch = self;
         match line {
-            0 => watch.a = witness,
-            1 => watch.b = witness,
-            2 => watch.c = witness,
-            3 => watch.d = witness,
-            _ => watch.e = witness,
+            0 => self.a = witness,
+            1 => self.b = witness,
+            2 => self.c = witness,
+            3 => self.d = witness,
+            _ => self.e = witness,
         }
-        watch
     }
 }
 

@@ -61,7 +61,7 @@ fn hear(
 {
     let rise_us = counter.count_at(time_us);
     let near = device.element(line, rise_us);
-    device.hear(line, rise_us, symbol.width_us(), symbol);
+    device.hear(line, rise_us, symbol.width_us(), near, symbol);
     near == element
 }
 

@@ -21,7 +21,7 @@ hear_port-place-requires-clause-valid g c =
 pub invariant_of-self-clause-valid : goal.invariant_of-self-clause-valid
 invariant_of-self-clause-valid g c =
     let self = c.hear_port-place.new.self in
-    subst (λ (lines : Lines). ∥ AreKeptOfUtc lines ∥₁) (sym c.with_line-self.ensures)
+    subst (λ (lines : Lines). ∥ AreKeptOfUtc lines ∥₁) (sym c.set_line.ensures)
     (∥∥₁_map self.valid (λ v. with_valid self.state.lines c.args.port c.hear_port-place.new.line v c.hear_port-place.ensures.valid))
 
 pub invariant_of-self-clause-announced : goal.invariant_of-self-clause-announced
@@ -36,7 +36,7 @@ returns-clause-heard g c k s =
     let place = c.hear_port-place.ensures.place ∙ ap (λ (l : Line). place_of l.sync c.args.rise_us c.args.width_us) same in
     let told = told_within (Some k.clock.limits.limits) k.rules (heard_at c.hear_port-place.result (heard_by k.heard port) c.args.width_us) in
     let new = c.hear_port-place.ensures.line k s ∙ ap (λ (l : Line). line_heard k.clock l c.args.rise_us c.args.width_us told (quality_in (heard_at c.hear_port-place.result (heard_by k.heard port) c.args.width_us))) same in
-    let lines = c.with_line-self.ensures ∙ ap (λ (x : ClockState). with_line x.lines port c.hear_port-place.new.line) h.state ∙ ap (with_line k.state.lines port) new in
+    let lines = c.set_line.ensures ∙ ap (λ (x : ClockState). with_line x.lines port c.hear_port-place.new.line) h.state ∙ ap (with_line k.state.lines port) new in
     let then = pulse_by k port c.args.rise_us c.args.width_us c.hear_port-place.result place in
     let self = c.hear_port-place.new.self in
     record {
@@ -48,5 +48,5 @@ returns-clause-heard g c k s =
       rules = h.rules;
       clock = h.clock;
       table = h.table;
-      state = ap (λ (x : ClockState). with_lines x c.with_line-self.result) h.state ∙ ap (with_lines k.state) lines ∙ ap (λ (x : Keeping). x.state) then;
+      state = ap (λ (x : ClockState). with_lines x c.set_line.new.lines) h.state ∙ ap (with_lines k.state) lines ∙ ap (λ (x : Keeping). x.state) then;
     }

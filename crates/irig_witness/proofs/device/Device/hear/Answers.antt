@@ -19,16 +19,16 @@ pub returns-clause-on : goal.returns-clause-on
 returns-clause-on g c made symbol start calls is said =
     let d = c.args.self.now in
     let line = c.args.line in
-    let rise : c.risen_on-rise.result ≡ risen_on d line c.args.rise_us = c.risen_on-rise.ensures.value in
+    let rise : c.risen_on.result ≡ risen_on d line c.args.rise_us = c.risen_on.ensures.value in
     let low : corrected c.low.result (delay_at made.clock.delays line) ≡ risen_on d line c.args.rise_us % 2 ^ 32 =
-    low_is c.args.rise_us line c.low.result (risen_on d line c.args.rise_us) d.clock made.clock c.low.ensures (sym is.clock) (c.risen_on-rise.ensures.low ∙ ap (λ (n : ℕ). n % 2 ^ 32) rise) in
-    let heard : IsWatchOf c.hear-self.result d.clock (lines_on d symbol) start (Hear line c.risen_on-rise.result c.args.width_us ∷ calls) =
-    c.hear-self.ensures (lines_on d symbol) start calls (subst (λ (k : ClockRules). IsWatchOf d.watch k (lines_on d symbol) start calls) (sym is.clock) is.watch) c.element_near-element.ensures.value c.begins.ensures.value
-    (subst (λ (k : ℕ). IsSaidOf (symbol line) k c.args.width_us c.args.symbol) (sym (c.element_near-element.ensures.value ∙ ap (element_near d.oscillator.first (rate_of d.oscillator.gain_us)) rise)) said) in
+    low_is c.args.rise_us line c.low.result (risen_on d line c.args.rise_us) d.clock made.clock c.low.ensures (sym is.clock) (c.risen_on.ensures.low ∙ ap (λ (n : ℕ). n % 2 ^ 32) rise) in
+    let heard : IsWatchOf c.hear.new.self d.clock (lines_on d symbol) start (Hear line c.risen_on.result c.args.width_us ∷ calls) =
+    c.hear.ensures (lines_on d symbol) start calls (subst (λ (k : ClockRules). IsWatchOf d.watch k (lines_on d symbol) start calls) (sym is.clock) is.watch) (c.requires.element ∙ ap (element_near d.oscillator.first (rate_of d.oscillator.gain_us)) (sym rise)) c.begins.ensures.value
+    (subst (λ (k : ℕ). IsSaidOf (symbol line) k c.args.width_us c.args.symbol) (sym c.requires.element) said) in
     record {
-      lived = c.hear.ensures.lived made calls (risen_on d line c.args.rise_us) is.lived low;
-      watch = subst (λ (k : ClockRules). IsWatchOf c.hear-self.result k (lines_on d symbol) start (Hear line (risen_on d line c.args.rise_us) c.args.width_us ∷ calls)) is.clock
-          (subst (λ (n : ℕ). IsWatchOf c.hear-self.result d.clock (lines_on d symbol) start (Hear line n c.args.width_us ∷ calls)) rise heard);
+      lived = c.hear-2.ensures.lived made calls (risen_on d line c.args.rise_us) is.lived low;
+      watch = subst (λ (k : ClockRules). IsWatchOf c.hear.new.self k (lines_on d symbol) start (Hear line (risen_on d line c.args.rise_us) c.args.width_us ∷ calls)) is.clock
+          (subst (λ (n : ℕ). IsWatchOf c.hear.new.self d.clock (lines_on d symbol) start (Hear line n c.args.width_us ∷ calls)) rise heard);
       clock = is.clock;
     }
 
@@ -37,5 +37,5 @@ returns-clause-place g c k is =
     let d = c.args.self.now in
     let line = c.args.line in
     let low : corrected c.low.result (delay_at k.clock.delays line) ≡ risen_on d line c.args.rise_us % 2 ^ 32 =
-    low_is c.args.rise_us line c.low.result (risen_on d line c.args.rise_us) d.clock k.clock c.low.ensures (sym is.clock ∙ d.same) (c.risen_on-rise.ensures.low ∙ ap (λ (n : ℕ). n % 2 ^ 32) c.risen_on-rise.ensures.value) in
-    ◌∙◌ {b = place_told k line (corrected c.low.result (delay_at k.clock.delays line)) c.args.width_us} (c.hear.ensures.place k is) (ap (λ (n : ℕ). place_told k line n c.args.width_us) low)
+    low_is c.args.rise_us line c.low.result (risen_on d line c.args.rise_us) d.clock k.clock c.low.ensures (sym is.clock ∙ d.same) (c.risen_on.ensures.low ∙ ap (λ (n : ℕ). n % 2 ^ 32) c.risen_on.ensures.value) in
+    ◌∙◌ {b = place_told k line (corrected c.low.result (delay_at k.clock.delays line)) c.args.width_us} (c.hear-2.ensures.place k is) (ap (λ (n : ℕ). place_told k line n c.args.width_us) low)

@@ -5,5 +5,5 @@ use Rattle.irig_witness.proofs.watch.Watch.tick.Goals as goal
 
 pub returns : goal.returns
 returns c x start calls is =
-    ticks_on c.args.self c.args.clock.now x start calls is _ c.args.now (λ line. refl) refl
-    (c.kept_at_tick.ensures ∙ ap (λ (f : ℕ). kept_at_tick c.args.self f c.args.now) c.f.ensures)
+    ticks_on c.args.self.now c.args.clock.now x start calls is _ c.args.now (λ line. refl) refl
+    (c.kept_at_tick-self.ensures ∙ ap (λ (f : ℕ). kept_at_tick c.args.self.now f c.args.now) c.f.ensures)
