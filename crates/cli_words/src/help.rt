@@ -2,9 +2,9 @@
 
 /// What the program does.
 pub const ABOUT: &str =
-    "Runs scenarios of a plant in which three or five generators of IRIG-B time code feed readers that vote, and
-writes and reads frames of that code (B004: pulse width, with the year, control functions and straight
-binary seconds).";
+    "Runs scenarios of a plant in which three or five generators of IRIG-B time code feed readers, or devices with a
+counter of their own, that vote; and writes and reads frames of that code (B004: pulse width, with the year,
+control functions and straight binary seconds).";
 
 /// How the program is called.
 pub const USAGE: &str = "irig [COMMAND]";
@@ -37,6 +37,14 @@ second that a reader announces, and with --all for each tick of a reader:
   EDGE READER TIME LOCK CAUSE
 TIME is - where the reader announces nothing. The last line says whether the premises held under which each
 announced second is the true one, or which line is refused.
+
+Of a plant of devices it has a line for each second that a device announces, and with --all for each that it tells,
+and one for each stamp:
+  EDGE DEVICE TIME LOCK CAUSE OFF BOUND
+  @INSTANT DEVICE TIME OFFSET BOUND
+OFF says how many microseconds of its counter the told edge lies behind the true edge EDGE (+) or before it (-), and
+BOUND how many it may at most, by what the device knows. A stamp names the instant so many seconds behind edge 0, as
+OFFSET microseconds behind the edge of TIME; - - - if the device gives none. --ports adds nothing there.
 
 With --ports the log has one more line for each tick, behind its other one:
    EDGE READER WORD WORD WORD

@@ -11,7 +11,7 @@ use text_faults::{Meaning, meaning_of};
 const LAST_NUMBER: u8 = 37;
 
 // The words of docs/OUTPUT.md: causes and locks, what ports told, and the last line.
-static WORDS: [Meaning; 21] = [
+static WORDS: [Meaning; 24] = [
     Meaning {
         name: "voted",
         cause: "there was a vote: two of three ports, or three of five, told the second that has just ended, and the same of a leap second",
@@ -127,6 +127,24 @@ static WORDS: [Meaning; 21] = [
         cure: "nothing, where irig read prints it rightly; in a log look at the port's generator",
     },
     Meaning {
+        name: "OFF",
+        cause: "in the log of devices: how many microseconds of its counter the edge that a device told lies behind the true edge (+) or before it (-)",
+        example: "+349, in 6 relay 2016-12-31T23:59:60Z locked voted +349 450",
+        cure: "nothing, while it is within BOUND; else see irig blame FILE",
+    },
+    Meaning {
+        name: "BOUND",
+        cause: "in the log of devices: how many microseconds the edge that a device told, or the instant that its stamp names, may be off at most, by what the device knows",
+        example: "450, in 6 relay 2016-12-31T23:59:60Z locked voted +349 450",
+        cure: "nothing; it grows by drift of the plant line in each second of holdover",
+    },
+    Meaning {
+        name: "@",
+        cause: "in the log of devices: the stamp of the instant so many seconds behind edge 0: the second, the microseconds behind its edge by the device's counter, and their BOUND; - - - if the device gave none",
+        example: "@6.300000 relay 2016-12-31T23:59:60Z 299657 450",
+        cure: "compare two devices by the number of the edge and the microseconds, never by the second alone",
+    },
+    Meaning {
         name: "premises kept",
         cause: "at no tick did a reader get more untrue claims than it can outvote, one of three or two of five, and all leap tables are true: each second announced above is the true one",
         example: "premises kept, as the last line of a log",
@@ -215,6 +233,7 @@ fn name_in(word: &str) -> Option<&str> {
     match word.split_once(':') {
         Some((name, count)) if has_count(name) && is_count(count) => Some(name),
         Some(_) => None,
+        None if word.starts_with('@') => Some("@"),
         None => Some(word),
     }
 }
