@@ -6,7 +6,7 @@ ghost use Rattle.irig_lines.specs.Lines.{IsTrueLately};
 ghost use Rattle.irig_timekeeper.specs.Announcing.{Announces};
 ghost use Rattle.irig_timekeeper.specs.Life.{Call, Made, device_of};
 ghost use Rattle.irig_timekeeper.specs.Truth.{FollowsTruth};
-ghost use Rattle.irig_timekeeper.specs.Loops.{ComeInARow, TicksEach, AreToldInTime, AreMadeInTurn, GoesByWait};
+ghost use Rattle.irig_timekeeper.specs.Loops.{ComeInARow, TicksEach, AreToldInTime, AreMadeInTurn, GoesByLastWait, GoesByWait};
 
 use irig_time::UtcSecond;
 
@@ -36,6 +36,21 @@ pub fn a_waiting_device_announces()
         → ComeInARow (IsTrueLately made.clock.within.us) t edges made start m calls before
         → FollowsTruth t made.clock.prefers_frames made.table
         → late ≤ 94000 → GoesByWait late (device_of made) calls before
+        → AreMadeInTurn start calls before
+        → IsSecond t (m + 1 + made.clock.reader_rules.lock_after) u
+        → Announces edges (device_of made) (m + 1 + made.clock.reader_rules.lock_after) u
+        (calls ++ before) }
+{}
+
+/// So does one that only goes by the time that it named last: each tick comes so soon behind that.
+/// Where nothing was then left to wait, the time before it still counts; where a time to come was
+/// named, that was named so soon itself.
+pub fn a_device_that_is_asked_anew_announces()
+    ensures { (t : TimelineValue) (edges : ℕ → ℕ) (made : Made) (start m late : ℕ)
+        (calls before : List Call) (u : UtcSecond)
+        → ComeInARow (IsTrueLately made.clock.within.us) t edges made start m calls before
+        → FollowsTruth t made.clock.prefers_frames made.table
+        → late ≤ 94000 → GoesByLastWait late (device_of made) calls before
         → AreMadeInTurn start calls before
         → IsSecond t (m + 1 + made.clock.reader_rules.lock_after) u
         → Announces edges (device_of made) (m + 1 + made.clock.reader_rules.lock_after) u

@@ -23,4 +23,6 @@ pub use laws_of_faults::lines_with_faults_tell_truly;
 pub use laws_of_leaps::a_right_table_guards_its_leaps;
 pub use laws_of_limits::{a_false_table_misleads, a_majority_misleads};
 pub use laws_of_lines::what_is_said_of_lines_is_so;
-pub use laws_of_loops::{a_polling_device_announces, a_waiting_device_announces};
+pub use laws_of_loops::{
+    a_device_that_is_asked_anew_announces, a_polling_device_announces, a_waiting_device_announces,
+};

@@ -1,7 +1,7 @@
 -- A device that ticks when `wait` says announces.
-use Rattle.std.specs.Prelude.{◌==◌, nat_lt, nat_le, count_by}
+use Rattle.std.specs.Prelude.{◌==◌, min, nat_lt, nat_le, count_by}
 use Rattle.std.proofs.Common.{◌≡◌, ◌∙◌, ◌⊎◌, ℕ, ◌+◌, ◌-◌, ◌%◌, ◌^◌, ◌<◌, ◌≤◌, Bool, true, false, cond, List, [], ◌∷◌, ◌++◌, Option, Some, None, refl, sym, ap, subst, arith, inl, inr}
-use Rattle.std.proofs.lemmas.Bool.{cases_Bool, cases_lt, eq-eqb, ltb-true, leb-true, leb-false}
+use Rattle.std.proofs.lemmas.Bool.{cases_Bool, cases_lt, eq-eqb, eqb-false, eqb-true, ltb-true, leb-true, leb-false}
 use Rattle.std.proofs.lemmas.List.{append_assoc}
 use Rattle.irig_sync.specs.Sync.{clock_gap}
 use Rattle.irig_sync.specs.Lines.{Pulse, IsAfter}
@@ -21,7 +21,7 @@ use Rattle.irig_timekeeper.specs.Keeping.{Keeping, place_told, vote_at, wait_at}
 use Rattle.irig_timekeeper.specs.Life.{Made, device_of, Call, after_calls, pulses_on, last_tick, HaveRisen, AreInOrder, AreTrueOver}
 use Rattle.irig_timekeeper.specs.Life.Call.{Hear, Tick}
 use Rattle.irig_timekeeper.specs.Announcing.{Announces, ComesWhole}
-use Rattle.irig_timekeeper.specs.Loops.{ComeInARow, AreToldInTime, made_at, latest, AreMadeInTurn, named, IsSoonEnough, GoesByWait}
+use Rattle.irig_timekeeper.specs.Loops.{ComeInARow, AreToldInTime, made_at, latest, AreMadeInTurn, named, IsSoonEnough, GoesByWait, served_by, IsSoonBehind, GoesByLastWait}
 use Rattle.irig_lines.proofs.LineLaws.{true_by_any}
 use Rattle.irig_lines.proofs.AgreeLaws.{is_one}
 use Rattle.irig_lines.proofs.PartLaws.{IsHalf, half_kept, one_more, agreeing_is, agreed_first, vote_of}
@@ -36,13 +36,13 @@ use Rattle.irig_timekeeper.proofs.LoopLaws.{loop_announces, Splits, truth_splits
 use Rattle.irig_timekeeper.specs.Truth.{FollowsTruth}
 
 -- the latest call is not before any
-latest_upto : (start : ℕ) (call : Call) (calls : List Call) → (latest start calls ≤ latest start (call ∷ calls)) × (made_at call ≤ latest start (call ∷ calls))
+pub latest_upto : (start : ℕ) (call : Call) (calls : List Call) → (latest start calls ≤ latest start (call ∷ calls)) × (made_at call ≤ latest start (call ∷ calls))
 latest_upto start call calls = elim (cases_Bool (nat_le (made_at call) (latest start calls))) [
   | inl low ↦ rw low (omega arith, leb-true (made_at call) (latest start calls) low)
   | inr high ↦ rw high (let more = leb-false (made_at call) (latest start calls) high in (omega (arith, more), omega arith))
 ]
 
-latest_by : (start time : ℕ) (call : Call) (calls : List Call) → latest start calls ≤ time → made_at call ≤ time → latest start (call ∷ calls) ≤ time
+pub latest_by : (start time : ℕ) (call : Call) (calls : List Call) → latest start calls ≤ time → made_at call ≤ time → latest start (call ∷ calls) ≤ time
 latest_by start time call calls low made = elim (cases_Bool (nat_le (made_at call) (latest start calls))) [ inl less ↦ rw less low | inr more ↦ rw more made ]
 
 after_by : (pulses : List Pulse) (time now : ℕ) → IsAfter pulses time → time ≤ now → IsAfter pulses now
@@ -69,7 +69,7 @@ by_latest start time (Hear port rise width ∷ calls) low =
     )
 
 -- what is made in turn is told in time
-told_in_turn : (start : ℕ) (x base : List Call) → AreMadeInTurn start x base → AreToldInTime start x base
+pub told_in_turn : (start : ℕ) (x base : List Call) → AreMadeInTurn start x base → AreToldInTime start x base
 told_in_turn start [] base turn = tt
 told_in_turn start (Tick now ∷ x) base turn = told_in_turn start x base turn.1
 told_in_turn start (Hear port rise width ∷ x) base turn = ((by_latest start (rise + width + 3000) (x ++ base) turn.0).1, told_in_turn start x base turn.1)
@@ -199,21 +199,23 @@ module _ (t : TimelineValue) (edges : ℕ → ℕ) (new : Keeping) (quartz : IsQ
 
 module _ (IsTrue : ℕ → List Pulse → Type 0) (t : TimelineValue) (edges : ℕ → ℕ) (new : Keeping) (quartz : IsQuartz new.clock.drift_us edges) (start : ℕ) (begun : AreLinesAt new new (λ i. []) start start) (late : ℕ) (few : late ≤ 94000) where
   abbrev pub Waits : List Call → List Call → Type 0
-  Waits calls before = AreMadeInTurn start calls before × GoesByWait late new calls before
+  Waits calls before = AreMadeInTurn start calls before × GoesByLastWait late new calls before
 
-  goes_split : Splits (GoesByWait late new)
+  goes_split : Splits (GoesByLastWait late new)
   goes_split [] z before goes = (tt, goes)
   goes_split (Hear port rise width ∷ x) z before goes = goes_split x z before goes
   goes_split (Tick now ∷ x) z before goes =
       let rest = goes_split x z before goes.1 in
-      ((soon x goes.0, rest.0), rest.1)
+      ((soon x now goes.0, rest.0), rest.1)
     where
       -- of the newer part alone no more is asked
-      soon : (x : List Call) → IsSoonEnough late new now (x ++ z) before → IsSoonEnough late new now x (z ++ before)
-      soon [] s = tt
-      soon (Tick time ∷ x) s = subst (λ (c : List Call). now ≤ named new c (Tick time) + late) (append_assoc x z before) s
-      soon (Hear port rise width ∷ x) s =
-          (subst (λ (c : List Call). place_told (after_calls new c) port (rise % 2 ^ 32) width ≡ 100 → now ≤ named new c (Hear port rise width) + late) (append_assoc x z before) s.0, soon x s.1)
+      soon : (x : List Call) (time : ℕ) → IsSoonBehind late new time (x ++ z) before → IsSoonBehind late new time x (z ++ before)
+      soon [] time s = tt
+      soon (Tick last ∷ x) time s = subst (λ (c : List Call). time ≤ named new c (Tick last) + late) (append_assoc x z before) s
+      soon (Hear port rise width ∷ x) time s = (
+        subst (λ (c : List Call). place_told (after_calls new c) port (rise % 2 ^ 32) width ≡ 100 → time ≤ named new c (Hear port rise width) + late) (append_assoc x z before) s.0,
+        subst (λ (c : List Call). IsSoonBehind late new (served_by new c port rise width time) x (z ++ before)) (append_assoc x z before) (soon x (served_by new ((x ++ z) ++ before) port rise width time) s.1),
+      )
 
   pub waits_split : Splits Waits
   waits_split x z before waits =
@@ -259,17 +261,32 @@ module _ (IsTrue : ℕ → List Pulse → Type 0) (t : TimelineValue) (edges : �
 
     -- the next tick comes soon behind the edge
     module _ (now : ℕ) (behind : edges m + 3000 ≤ now) where
-      -- from these calls on, behind which they keep the frames, a time is named
-      by_named : (y : List Call) (time then : ℕ) → AreInOrder start new.clock.redundancy (Tick then ∷ (y ++ done)) → HaveNoVotes new (edges m - 17000) y done → then ≤ edges m + 3000 → time ≤ then → (then ≤ time) ⊎ (edges m ≤ time + 3950) → ComesWhole t edges new m (y ++ done)
-          → now ≤ time + wait_at (after_calls new (y ++ done)) (time % 2 ^ 32) + late → now ≤ edges m + 4000 + late
-      by_named y time then order none low upto behind come soon =
-          elim (names_soon t edges new quartz start begun m some done told risen past (y ++ done) then order time (omega (arith, low, upto)) come keeps (λ i small is. ahead i (keeps i small is))) [
-            | inl early ↦ omega (arith, soon, early, low, upto)
-            | inr end ↦ omega (arith, soon, end, reach_few new.clock, new.clock.within.few, quartz.few)
+      -- by some pulse of these calls the frames are whole
+      whole_by : (y : List Call) (then : ℕ) → AreInOrder start new.clock.redundancy (Tick then ∷ (y ++ done)) → ComesWhole t edges new m (y ++ done) → edges m ≤ latest start (y ++ done) + 3950
+      whole_by [] then order come =
+          let one = some_line done come in
+          let w = come.frames one.0 one.1 one.2 in
+          let sorted = ((lines_after new start begun done then order).lines one.0 one.1).sorted in
+          absurd (not_before t edges new quartz start begun one.0 one.1 m done told risen past w.0 (pulses_on one.0 done) sorted (risen one.0) w.1)
+      whole_by (Tick time ∷ y) then order come =
+          let before = whole_by y time order.3 (record { whole = come.whole; many = come.many; frames = come.frames }) in
+          let more = latest_upto start (Tick time) (y ++ done) in
+          omega (arith, before, more.0)
+      whole_by (Hear port rise width ∷ y) then order come =
+          let more = latest_upto start (Hear port rise width) (y ++ done) in
+          elim (one_less t new.clock.drift_us edges quartz new m port rise width (y ++ done) come) [
+            | inl less ↦ (let before = whole_by y then (unheard start new.clock.redundancy port rise width then (y ++ done) order) less in omega (arith, before, more.0))
+            | inr last ↦ omega (arith, last.least, more.1)
           ]
+
+      -- from these calls on, behind which they keep the frames, a time is named
+      named_near : (y : List Call) (time then : ℕ) → AreInOrder start new.clock.redundancy (Tick then ∷ (y ++ done)) → HaveNoVotes new (edges m - 17000) y done → then ≤ edges m + 98000 → time ≤ edges m + 98000 → (then ≤ time) ⊎ (edges m ≤ time + 6950) → ComesWhole t edges new m (y ++ done)
+          → (time + wait_at (after_calls new (y ++ done)) (time % 2 ^ 32) ≤ time) ⊎ (time + wait_at (after_calls new (y ++ done)) (time % 2 ^ 32) ≤ edges m + (end_off_us new.clock.within.us new.clock.drift_us + reach_us new.clock))
+      named_near y time then order none low upto behind come =
+          names_soon t edges new quartz start begun m some done told risen past (y ++ done) then order time upto come keeps (λ i small is. ahead i (keeps i small is))
         where
           keeps : (i : ℕ) (small : i < 5) → come.whole i ≡ true → Keeps t edges new quartz start begun i small m done told risen past (y ++ done)
-          keeps i small is = (let w = come.frames i small is in whole_kept t edges new quartz start begun i small m done told risen past y then order none (omega (arith, low)) w.0 w.1)
+          keeps i small is = (let w = come.frames i small is in whole_kept t edges new quartz start begun i small m done told risen past y then order none low w.0 w.1)
 
           ahead : (i : ℕ) {small : i < 5} → (k : Keeps t edges new quartz start begun i small m done told risen past (y ++ done)) → k.end ≤ time + 14000
           ahead i {small} k = elim behind [
@@ -277,24 +294,73 @@ module _ (IsTrue : ℕ → List Pulse → Type 0) (t : TimelineValue) (edges : �
             | inr near ↦ omega (arith, k.most, near, new.clock.within.few, quartz.few)
           ]
 
-      soon_behind : (y : List Call) → AreInOrder start new.clock.redundancy (Tick now ∷ (y ++ done)) → HaveNoVotes new (edges m - 17000) y done → last_tick start (y ++ done) < edges m + 3000 → AreMadeInTurn start y done → IsSoonEnough late new now y done → ComesWhole t edges new m (y ++ done) → now ≤ edges m + 4000 + late
-      soon_behind [] order none early turn soon come =
+      -- by what is named before 3 ms behind the edge
+      by_named : (at : ℕ) (y : List Call) (time then : ℕ) → AreInOrder start new.clock.redundancy (Tick then ∷ (y ++ done)) → HaveNoVotes new (edges m - 17000) y done → then ≤ edges m + 3000 → time ≤ then → (then ≤ time) ⊎ (edges m ≤ time + 6950) → ComesWhole t edges new m (y ++ done)
+          → at ≤ time + wait_at (after_calls new (y ++ done)) (time % 2 ^ 32) + late → at ≤ edges m + 4000 + late
+      by_named at y time then order none low upto behind come soon =
+          elim (named_near y time then order none (omega (arith, low)) (omega (arith, low, upto)) behind come) [
+            | inl early ↦ omega (arith, soon, early, low, upto)
+            | inr end ↦ omega (arith, soon, end, reach_few new.clock, new.clock.within.few, quartz.few)
+          ]
+
+      -- by what is named behind a pulse that is not the last of these frames
+      by_later : (at port rise width : ℕ) (y : List Call) → AreInOrder start new.clock.redundancy (Tick now ∷ (Hear port rise width ∷ (y ++ done))) → HaveNoVotes new (edges m - 17000) y done → last_tick start (y ++ done) < edges m + 3000 → latest start (y ++ done) ≤ rise + width + 3000
+          → edges m ≤ latest start (y ++ done) + 3950 → ComesWhole t edges new m (Hear port rise width ∷ (y ++ done)) → rise + width ≤ edges m + 4000 + late
+          → 1 ≤ wait_at (after_calls new (Hear port rise width ∷ (y ++ done))) ((rise + width) % 2 ^ 32) → at ≤ named new (y ++ done) (Hear port rise width) + late → at ≤ edges m + 4000 + late
+      by_later at port rise width y order none early turn whole come near ahead soon =
+          let then = tick_then in
+          elim (named_near (Hear port rise width ∷ y) (rise + width) then.0 then.1 none then.2 (omega (arith, near, few)) (inr (omega (arith, turn, whole))) come) [
+            | inl over ↦ absurd (omega (arith, over, ahead))
+            | inr end ↦ omega (arith, soon, end, reach_few new.clock, new.clock.within.few, quartz.few)
+          ]
+        where
+          -- a tick that may come by 98 ms behind the edge
+          tick_then : (then : ℕ) × AreInOrder start new.clock.redundancy (Tick then ∷ (Hear port rise width ∷ (y ++ done))) × (then ≤ edges m + 98000)
+          tick_then = elim (cases_lt now (edges m + 98000)) [
+            | inl less ↦ (now, order, omega (arith, less))
+            | inr more ↦
+                let all = by_latest start (rise + width + 3000) (Hear port rise width ∷ (y ++ done)) (latest_by start (rise + width + 3000) (Hear port rise width) (y ++ done) turn (omega arith)) in
+                (edges m + 98000, (omega (arith, early), omega (arith, order.1, more), (λ line. after_by (pulses_on line (Hear port rise width ∷ (y ++ done))) (rise + width + 3000) (edges m + 98000 + 4000) (all.0 line) (omega (arith, near, few))), order.3), omega arith)
+          ]
+
+      put_off : (at port rise width : ℕ) (y : List Call) → AreInOrder start new.clock.redundancy (Tick now ∷ (Hear port rise width ∷ (y ++ done))) → HaveNoVotes new (edges m - 17000) y done → last_tick start (y ++ done) < edges m + 3000 → latest start (y ++ done) ≤ rise + width + 3000
+          → edges m ≤ latest start (y ++ done) + 3950 → ComesWhole t edges new m (Hear port rise width ∷ (y ++ done)) → (place_told (after_calls new (y ++ done)) port (rise % 2 ^ 32) width ≡ 100 → at ≤ named new (y ++ done) (Hear port rise width) + late)
+          → served_by new (y ++ done) port rise width at ≤ edges m + 4000 + late → at ≤ edges m + 4000 + late
+      put_off at port rise width y order none early turn whole come soon served =
+          elim (cases_Bool (place_told (after_calls new (y ++ done)) port (rise % 2 ^ 32) width == 100)) [
+            | inr other ↦ rw other at served
+            | inl asks ↦ elim (cases_Bool (wait_at (after_calls new (Hear port rise width ∷ (y ++ done))) ((rise + width) % 2 ^ 32) == 0)) [
+              | inl over ↦ rw (asks, over) at served
+              | inr ahead ↦
+                  let least : min at (rise + width) ≤ edges m + 4000 + late = rw (asks, ahead) at served in
+                  elim (cases_lt (rise + width) at) [
+                    | inr not_before ↦ omega (arith, least, not_before)
+                    | inl before ↦ by_later at port rise width y order none early turn whole come (omega (arith, least, before)) (let some = eqb-false _ 0 ahead in omega (arith, some)) (soon (eqb-true _ 100 asks))
+                  ]
+            ]
+          ]
+
+      soon_behind : (y : List Call) (at : ℕ) → AreInOrder start new.clock.redundancy (Tick now ∷ (y ++ done)) → HaveNoVotes new (edges m - 17000) y done → last_tick start (y ++ done) < edges m + 3000 → AreMadeInTurn start y done → IsSoonBehind late new at y done → ComesWhole t edges new m (y ++ done) → at ≤ edges m + 4000 + late
+      soon_behind [] at order none early turn soon come =
           let one = some_line done come in
           let w = come.frames one.0 one.1 one.2 in
           let sorted = ((lines_after new start begun done now order).lines one.0 one.1).sorted in
           absurd (not_before t edges new quartz start begun one.0 one.1 m done told risen past w.0 (pulses_on one.0 done) sorted (risen one.0) w.1)
-      soon_behind (Tick time ∷ y) order none early turn soon come =
+      soon_behind (Tick time ∷ y) at order none early turn soon come =
           let again : AreInOrder start new.clock.redundancy (Tick time ∷ (Tick time ∷ (y ++ done))) = (omega arith, omega arith, order.3.2, order.3) in
-          by_named (Tick time ∷ y) time time again none (omega (arith, early)) (omega arith) (inl (omega arith)) come soon
-      soon_behind (Hear port rise width ∷ y) order none early turn soon come = elim (one_less t new.clock.drift_us edges quartz new m port rise width (y ++ done) come) [
-        | inl less ↦ soon_behind y (unheard start new.clock.redundancy port rise width now (y ++ done) order) none early turn.1 soon.1 less
-        | inr last ↦
-            let all = by_latest start (rise + width + 3000) (Hear port rise width ∷ (y ++ done)) (latest_by start (rise + width + 3000) (Hear port rise width) (y ++ done) turn.0 (omega arith)) in
-            let here : AreInOrder start new.clock.redundancy (Tick (rise + width + 3000) ∷ (Hear port rise width ∷ (y ++ done))) = (all.1, omega (arith, order.1, last.most, behind), (λ line. after_by (pulses_on line (Hear port rise width ∷ (y ++ done))) (rise + width + 3000) (rise + width + 3000 + 4000) (all.0 line) (omega arith)), order.3) in
-            let ends = ends_whole new.clock new.rules t new.clock.drift_us edges m (pulses_on port (Hear port rise width ∷ (y ++ done))) quartz last.whole in
-            let place = place_is t edges new quartz start begun port last.small m done told risen past port rise width (y ++ done) (rise + width + 3000) here last.narrow (eq-eqb port port refl) last.whole ends in
-            by_named (Hear port rise width ∷ y) (rise + width) (rise + width + 3000) here none (omega (arith, last.most)) (omega arith) (inr last.least) come (soon.0 place)
-      ]
+          by_named at (Tick time ∷ y) time time again none (omega (arith, early)) (omega arith) (inl (omega arith)) come soon
+      soon_behind (Hear port rise width ∷ y) at order none early turn soon come =
+          let shorter = unheard start new.clock.redundancy port rise width now (y ++ done) order in
+          elim (one_less t new.clock.drift_us edges quartz new m port rise width (y ++ done) come) [
+            | inl less ↦
+                put_off at port rise width y order none early turn.0 (whole_by y now shorter less) come soon.0 (soon_behind y (served_by new (y ++ done) port rise width at) shorter none early turn.1 soon.1 less)
+            | inr last ↦
+                let all = by_latest start (rise + width + 3000) (Hear port rise width ∷ (y ++ done)) (latest_by start (rise + width + 3000) (Hear port rise width) (y ++ done) turn.0 (omega arith)) in
+                let here : AreInOrder start new.clock.redundancy (Tick (rise + width + 3000) ∷ (Hear port rise width ∷ (y ++ done))) = (all.1, omega (arith, order.1, last.most, behind), (λ line. after_by (pulses_on line (Hear port rise width ∷ (y ++ done))) (rise + width + 3000) (rise + width + 3000 + 4000) (all.0 line) (omega arith)), order.3) in
+                let ends = ends_whole new.clock new.rules t new.clock.drift_us edges m (pulses_on port (Hear port rise width ∷ (y ++ done))) quartz last.whole in
+                let place = place_is t edges new quartz start begun port last.small m done told risen past port rise width (y ++ done) (rise + width + 3000) here last.narrow (eq-eqb port port refl) last.whole ends in
+                by_named at (Hear port rise width ∷ y) (rise + width) (rise + width + 3000) here none (omega (arith, last.most)) (omega arith) (inr (omega (arith, last.least))) come (soon.0 place)
+          ]
 
   pub waits_serve : (m : ℕ) → 1 ≤ m → (rest done : List Call) → AreServing IsTrue t edges new start Waits m rest done → ComesWhole t edges new m (rest ++ done) → edges m + 3000 ≤ last_tick start (rest ++ done) → IsStep IsTrue t edges new start m rest done
   waits_serve m some rest done on come last =
@@ -311,7 +377,7 @@ module _ (IsTrue : ℕ → List Pulse → Type 0) (t : TimelineValue) (edges : �
       elim (find m some done on.told on.risen on.ticked on.past first.y) [
         | inl none ↦
             let behind : ComesWhole t edges new m (first.y ++ done) = record { whole = told.whole; many = told.many; frames = told.frames } in
-            let soon = soon_behind m some done on.told on.risen on.ticked on.past first.now first.come first.y here none first.early waits.1.0.1 waits.1.1.0 behind in
+            let soon = soon_behind m some done on.told on.risen on.ticked on.past first.now first.come first.y first.now here none first.early waits.1.0.1 waits.1.1.0 behind in
             record {
               x = first.x;
               z = z;
@@ -350,9 +416,9 @@ module _ (IsTrue : ℕ → List Pulse → Type 0) (t : TimelineValue) (edges : �
             }
       ]
 
-pub waiting_announces : (t : TimelineValue) (edges : ℕ → ℕ) (made : Made) (start m late : ℕ) (calls before : List Call) (u : UtcSecond) → ComeInARow (IsTrueLately made.clock.within.us) t edges made start m calls before → FollowsTruth t made.clock.prefers_frames made.table → late ≤ 94000 → GoesByWait late (device_of made) calls before → AreMadeInTurn start calls before
+pub asked_announces : (t : TimelineValue) (edges : ℕ → ℕ) (made : Made) (start m late : ℕ) (calls before : List Call) (u : UtcSecond) → ComeInARow (IsTrueLately made.clock.within.us) t edges made start m calls before → FollowsTruth t made.clock.prefers_frames made.table → late ≤ 94000 → GoesByLastWait late (device_of made) calls before → AreMadeInTurn start calls before
     → IsSecond t (m + 1 + made.clock.reader_rules.lock_after) u → Announces edges (device_of made) (m + 1 + made.clock.reader_rules.lock_after) u (calls ++ before)
-waiting_announces t edges made start m late calls before u come follows few goes turn second =
+asked_announces t edges made start m late calls before u come follows few goes turn second =
     let quartz = come.is.steady in
     let new = device_of made in
     let begun = begins made.rules made.clock made.table made.lines start made.fresh in
@@ -365,3 +431,32 @@ waiting_announces t edges made start m late calls before u come follows few goes
     begun come.is follows truly refl m come.some come.locks calls before
     (record { told = come.told; risen = come.risen; ticked = come.ticked; past = come.past; order = come.order; truth = come.truth; loop = (turn, goes) })
     come.whole come.last u second
+
+-- ---- what comes so soon behind each time that was named does so behind the last
+
+pub served_upto : (new : Keeping) (calls : List Call) (port rise width time : ℕ) → served_by new calls port rise width time ≤ time
+served_upto new calls port rise width time = elim (cases_Bool (place_told (after_calls new calls) port (rise % 2 ^ 32) width == 100)) [
+  | inr other ↦ rw other (omega arith)
+  | inl asks ↦ elim (cases_Bool (wait_at (after_calls new (Hear port rise width ∷ calls)) ((rise + width) % 2 ^ 32) == 0)) [
+    | inl over ↦ rw (asks, over) (omega arith)
+    | inr ahead ↦ rw (asks, ahead) (omega arith)
+  ]
+]
+
+soon_last : (late : ℕ) (new : Keeping) (now time : ℕ) (calls before : List Call) → time ≤ now → IsSoonEnough late new now calls before → IsSoonBehind late new time calls before
+soon_last late new now time [] before low soon = tt
+soon_last late new now time (Tick last ∷ calls) before low soon = omega (arith, low, soon)
+soon_last late new now time (Hear port rise width ∷ calls) before low soon = (
+  λ asks. (let by = soon.0 asks in omega (arith, low, by)),
+  soon_last late new now (served_by new (calls ++ before) port rise width time) calls before (omega (arith, low, served_upto new (calls ++ before) port rise width time)) soon.1,
+)
+
+goes_last : (late : ℕ) (new : Keeping) (calls before : List Call) → GoesByWait late new calls before → GoesByLastWait late new calls before
+goes_last late new [] before goes = tt
+goes_last late new (Hear port rise width ∷ calls) before goes = goes_last late new calls before goes
+goes_last late new (Tick now ∷ calls) before goes = (soon_last late new now now calls before (omega arith) goes.0, goes_last late new calls before goes.1)
+
+pub waiting_announces : (t : TimelineValue) (edges : ℕ → ℕ) (made : Made) (start m late : ℕ) (calls before : List Call) (u : UtcSecond) → ComeInARow (IsTrueLately made.clock.within.us) t edges made start m calls before → FollowsTruth t made.clock.prefers_frames made.table → late ≤ 94000 → GoesByWait late (device_of made) calls before → AreMadeInTurn start calls before
+    → IsSecond t (m + 1 + made.clock.reader_rules.lock_after) u → Announces edges (device_of made) (m + 1 + made.clock.reader_rules.lock_after) u (calls ++ before)
+waiting_announces t edges made start m late calls before u come follows few goes turn second =
+    asked_announces t edges made start m late calls before u come follows few (goes_last late (device_of made) calls before goes) turn second

@@ -1,6 +1,6 @@
 -- Loops that call a device: one that ticks at least so often, and one that ticks when `wait` says.
 -- Source: this project's profile; c/irig.h.
-use Rattle.std.specs.Prelude.{◌≡◌, ℕ, ◌+◌, ◌%◌, ◌^◌, ◌<◌, ◌≤◌, nat_le, if◌then◌else◌, List, [], ◌∷◌, ◌++◌, ⊤}
+use Rattle.std.specs.Prelude.{◌≡◌, ℕ, ◌+◌, ◌%◌, ◌^◌, ◌<◌, ◌≤◌, ◌==◌, nat_le, min, if◌then◌else◌, List, [], ◌∷◌, ◌++◌, ⊤}
 use Rattle.irig_sync.specs.Lines.{Pulse}
 use Rattle.irig_time.specs.declared.rules.Rules.{Rules}
 use Rattle.irig_time.specs.Timelines.{TimelineValue}
@@ -89,3 +89,32 @@ GoesByWait late new [] before = ⊤
 GoesByWait late new (Hear port rise width ∷ calls) before = GoesByWait late new calls before
 GoesByWait late new (Tick now ∷ calls) before =
     IsSoonEnough late new now calls before × GoesByWait late new calls before
+
+-- ---- a tick when `wait` said last
+
+-- by when what was named before a pulse still has to serve, of a time at which it has to: if that
+-- pulse is a frame's last one and names a time to come, by the pulse's end
+abbrev pub served_by : Keeping → List Call → (port rise width time : ℕ) → ℕ
+served_by new calls port rise width time =
+    if place_told (after_calls new calls) port (rise % 2 ^ 32) width == 100
+    then (if wait_at (after_calls new (Hear port rise width ∷ calls)) ((rise + width) % 2 ^ 32) == 0
+    then time else min time (rise + width))
+    else time
+
+-- a time comes so long at most behind the one that was named last. If that was no time to come, the
+-- one before it still counts; if it was, it was itself named so soon behind the one before
+abbrev pub IsSoonBehind : ℕ → Keeping → ℕ → List Call → List Call → Type 0
+IsSoonBehind late new time [] before = ⊤
+IsSoonBehind late new time (Tick now ∷ calls) before =
+    time ≤ named new (calls ++ before) (Tick now) + late
+IsSoonBehind late new time (Hear port rise width ∷ calls) before =
+    (place_told (after_calls new (calls ++ before)) port (rise % 2 ^ 32) width ≡ 100
+    → time ≤ named new (calls ++ before) (Hear port rise width) + late)
+    × IsSoonBehind late new (served_by new (calls ++ before) port rise width time) calls before
+
+-- so each tick of these calls, which came behind those
+abbrev pub GoesByLastWait : ℕ → Keeping → List Call → List Call → Type 0
+GoesByLastWait late new [] before = ⊤
+GoesByLastWait late new (Hear port rise width ∷ calls) before = GoesByLastWait late new calls before
+GoesByLastWait late new (Tick now ∷ calls) before =
+    IsSoonBehind late new now calls before × GoesByLastWait late new calls before
