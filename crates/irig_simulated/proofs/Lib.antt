@@ -4,5 +4,7 @@ pub mod AskedLaws
 pub mod StandsLaws
 pub mod CourseLaws
 pub mod StretchLaws
+pub mod LoopCourses
+pub mod AnnounceCourses
 pub mod CourseFacts
 pub mod UtcSeconds

@@ -1,6 +1,8 @@
 pub mod Setups
 pub mod Kinds
 pub mod Courses
+pub mod Doings
+pub mod Announced
 pub mod Seconds
 pub mod Flights
 pub mod Simulations

@@ -1,13 +1,24 @@
 //! Laws of courses over their definitions. They have no code.
 
-ghost use Rattle.std.specs.Prelude.{◌≡◌, ◌≤◌, ◌-◌, ℕ, List, Option, All, true};
+ghost use Rattle.std.specs.Prelude.{◌≡◌, ◌≤◌, ◌+◌, ◌-◌, ◌++◌, ℕ, List, Option, All, true};
 ghost use Rattle.irig_frame.specs.declared.symbol.Symbol.{Symbol};
-ghost use Rattle.irig_time.specs.Timelines.{TimelineValue};
+ghost use Rattle.irig_time.specs.Timelines.{TimelineValue, IsSecond};
+ghost use Rattle.irig_lines.specs.Lines.{IsTrueLately};
+ghost use Rattle.irig_lines.specs.Steps.{AreNewLines, no_lines};
+ghost use Rattle.irig_timekeeper.specs.Life.{Call, device_of};
+ghost use Rattle.irig_timekeeper.specs.Lived.{made_with};
+ghost use Rattle.irig_timekeeper.specs.Loops.{AreMadeInTurn, AreToldInTime, ComeInARow, GoesByLastWait, TicksEach};
+ghost use Rattle.irig_timekeeper.specs.Truth.{FollowsTruth};
 ghost use Rattle.irig_witness.specs.TrueFrames.{true_symbol};
 ghost use Rattle.irig_witness.specs.Promise.{IsTrueSetup};
-ghost use Rattle.irig_simulated.specs.Kinds.{Kind, MovesOn};
+ghost use Rattle.irig_simulated.specs.Kinds.{Kind, MovesOn, edges_by_kind};
 ghost use Rattle.irig_simulated.specs.Courses.{Course, coming, keeps_so_far, most_in, passed, played, ticked};
+ghost use Rattle.irig_simulated.specs.Doings.{AreCounted, Doing, IsTickedInTime, course_behind, told_by};
+ghost use Rattle.irig_simulated.specs.Announced.{HasTold, IsAmong};
 ghost use Rattle.irig_simulated.specs.Truth.{IsToldOfItsEdge};
+
+use crate::setup::Ticking;
+use irig_time::UtcSecond;
 
 /// Time passes to its end: whatever is due before a time has happened, since fewer things happen in a
 /// stretch than its bound says, if the counter counts and the device is not ticked again at once.
@@ -35,4 +46,45 @@ pub fn a_course_tells_the_truth()
         → keeps_so_far k (λ line. true_symbol k.made.rules t (sent line)) (ticked k x) ≡ true
         → (keeps_so_far k (λ line. true_symbol k.made.rules t (sent line)) x ≡ true)
         × (All (IsToldOfItsEdge t) x.told → All (IsToldOfItsEdge t) (ticked k x).told) }
+{}
+
+/// A course calls its device as the loops do that announce, whatever is done with it. Each pulse is
+/// told when it has ended, one after another, if its width is counted: a word of 32 bits holds no
+/// more than 71 minutes.
+pub fn a_course_goes_by_its_loop()
+    ensures turn { (k : Kind) (late : List ℕ) (doings : List Doing) (calls before : List Call)
+        → MovesOn k → k.rate ≤ 1001000 → (course_behind k late doings).calls ≡ calls ++ before
+        → AreCounted calls → AreMadeInTurn (course_behind k late doings).start calls before
+        × AreToldInTime (course_behind k late doings).start calls before }
+    // A device that goes by `wait` is ticked 2 us at most behind the time that it named last.
+    ensures waits { (k : Kind) (late : List ℕ) (doings : List Doing) (calls before : List Call)
+        (fresh : AreNewLines no_lines) → MovesOn k → k.rate ≤ 1001000
+        → (course_behind k late doings).calls ≡ calls ++ before → k.ticking ≡ Ticking.ByWait
+        → GoesByLastWait 2 (device_of (made_with k.made no_lines fresh)) calls before }
+    // One that is ticked each 94.9 ms or sooner counts 95 ms at most from tick to tick.
+    ensures polls { (k : Kind) (late : List ℕ) (doings : List Doing) (calls before : List Call)
+        (us : ℕ) → MovesOn k → k.rate ≤ 1001000
+        → (course_behind k late doings).calls ≡ calls ++ before → k.ticking ≡ Ticking.Each us
+        → us ≤ 94900 → TicksEach 95000 (course_behind k late doings).start calls before }
+{}
+
+/// So it announces, from any state: let as many seconds in a row as it locks after, and two more,
+/// come whole on more than f of its lines. Then it has told the second that begins at the edge of the
+/// last of these, by a vote, whatever the other lines brought, if its leap table is true or frames
+/// are preferred to it.
+pub fn a_course_announces()
+    ensures announces { (t : TimelineValue) (k : Kind) (late : List ℕ) (doings : List Doing)
+        (m : ℕ) (calls before : List Call) (u : UtcSecond) → MovesOn k → k.rate ≤ 1001000
+        → IsTickedInTime k → (course_behind k late doings).calls ≡ calls ++ before
+        → AreCounted calls → (fresh : AreNewLines no_lines)
+        → ComeInARow (IsTrueLately k.made.clock.within.us) t (edges_by_kind k)
+        (made_with k.made no_lines fresh) (course_behind k late doings).start m calls before
+        → FollowsTruth t k.made.clock.prefers_frames k.made.table
+        → IsSecond t (m + 1 + k.made.clock.reader_rules.lock_after) u
+        → IsAmong k (m + 1 + k.made.clock.reader_rules.lock_after) u
+        (told_by k (course_behind k late doings).calls) }
+    // What its calls answered in a stretch of time it told in it, and so when it is ticked by hand.
+    ensures passes { (k : Kind) (signal : ℕ → ℕ → Option Symbol) (stop : ℕ) (x : Course)
+        → HasTold k x (passed k signal stop x) }
+    ensures ticks { (k : Kind) (x : Course) → HasTold k x (ticked k x) }
 {}

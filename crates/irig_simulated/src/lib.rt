@@ -11,7 +11,9 @@ mod simulated;
 mod ticking;
 mod told_second;
 
-pub use laws::{a_course_tells_the_truth, time_passes_to_its_end};
+pub use laws::{
+    a_course_announces, a_course_goes_by_its_loop, a_course_tells_the_truth, time_passes_to_its_end,
+};
 pub use second::{LineSecond, Second};
 pub use setup::{DeviceSetup, Ticking};
 pub use simulated::Simulated;
