@@ -1,6 +1,7 @@
 pub mod SetupLaws
 pub mod CourseTruth
 pub mod PromiseLaws
+pub mod AnnounceLaws
 pub mod SoonLaws
 pub mod BreakLaws
 pub mod HarmlessLaws
@@ -12,3 +13,4 @@ pub mod StationFacts
 pub mod KeptFacts
 pub mod UtcEntries
 pub mod DeviceEntries
+pub mod RangeLaws

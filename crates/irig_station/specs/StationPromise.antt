@@ -2,8 +2,13 @@
 -- Source: docs/HEADLINE.md; this project's profile.
 use Rattle.std.specs.Prelude.{ℕ, ◌+◌, ◌*◌, ◌/◌, ◌%◌, ◌≤◌, Option, Some, None, ⊤, ◌≡◌, ◌++◌, List}
 use Rattle.irig_time.specs.Timelines.{TimelineValue, IsSecond}
+use Rattle.std.specs.List.{Contains}
+use Rattle.irig_time.specs.declared.second.UtcSecond.{UtcSecond}
+use Rattle.irig_reader.specs.Locking.{voted_report}
 use Rattle.irig_timekeeper.specs.declared.stamp.Stamp.{Stamp}
 use Rattle.irig_witness.specs.Promise.{IsStampedInTime}
+use Rattle.irig_simulated.specs.declared.told_second.ToldSecond.{ToldSecond}
+use Rattle.irig_simulated.specs.Kinds.{edges_by_kind}
 use Rattle.irig_simulated.specs.Truth.{IsToldOfItsEdge}
 use Rattle.irig_station.specs.declared.entry.Entry.{Entry}
 use Rattle.irig_station.specs.declared.entry.Entry.TheVariants.{Told, Stamped}
@@ -57,3 +62,15 @@ IsAskedWithin ago e = ⊤
 abbrev pub IsLoggedFrom : (ago n : ℕ) → Entry → Type 0
 IsLoggedFrom ago n (Told r told) = n ≤ told.edge + 1
 IsLoggedFrom ago n (Stamped r time stamp) = n * 1000000 ≤ time + ago
+
+-- ---- a device announces
+
+-- the log has a second of device r that announces u by a vote, and began by its counter 98 ms behind
+-- the n-th edge at most; while the audit is kept it is of that edge
+pub record IsAnnounced (s : StationSetup) (r n : ℕ) (u : UtcSecond) (x : StationStanding)
+    : Type 0 where
+  pub told : ToldSecond
+  pub among : Contains x.log (Told r told)
+  pub soon : told.told_count ≤ edges_by_kind (kind_of_device s r) n + 98000
+  pub says : told.beat.report ≡ voted_report u
+  pub edge : x.audit ≡ Kept → told.edge ≡ n

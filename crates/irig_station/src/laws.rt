@@ -1,15 +1,26 @@
 //! Laws of stations over their definitions. They have no code.
 
-ghost use Rattle.std.specs.Prelude.{◌≡◌, ◌∷◌, ◌+◌, ◌*◌, All, ℕ, List, Some};
+ghost use Rattle.std.specs.Prelude.{◌≡◌, ◌∷◌, ◌++◌, ◌+◌, ◌*◌, All, ℕ, List, Some};
 ghost use Rattle.std.specs.List.{Contains};
-ghost use Rattle.irig_station.specs.StationSetups.{IsStationSetup, StationSetup};
+ghost use Rattle.irig_time.specs.Timelines.{IsSecond};
+ghost use Rattle.irig_lines.specs.Lines.{IsTrueLately};
+ghost use Rattle.irig_lines.specs.Steps.{AreNewLines, no_lines};
+ghost use Rattle.irig_timekeeper.specs.Life.{Call};
+ghost use Rattle.irig_timekeeper.specs.Lived.{made_with};
+ghost use Rattle.irig_timekeeper.specs.Loops.{ComeInARow};
+ghost use Rattle.irig_timekeeper.specs.Truth.{FollowsTruth};
+ghost use Rattle.irig_simulated.specs.Kinds.{edges_by_kind};
+ghost use Rattle.irig_simulated.specs.Doings.{AreCounted, IsTickedInTime};
+ghost use Rattle.irig_station.specs.StationSetups.{IsStationSetup, StationSetup, kind_of_device};
 ghost use Rattle.irig_station.specs.StationAudits.{audit_at_start};
 ghost use Rattle.irig_station.specs.StationPlay.{audit_of_station, doubtful_log, log_of_station, standing_after, vouched_log};
-ghost use Rattle.irig_station.specs.StationPromise.{AreStampedTogether, IsAskedWithin, IsLoggedFrom, LogHasGrown, IsTrueEntry, drift_of_device};
+ghost use Rattle.irig_station.specs.StationPromise.{AreStampedTogether, IsAnnounced, IsAskedWithin, IsLoggedFrom, LogHasGrown, IsTrueEntry, drift_of_device};
+ghost use Rattle.irig_station.specs.ValidEntries.{AreWordCounters, IsEntryInRange};
 
 use crate::audit::Audit;
 use crate::entry::Entry;
 use crate::event::Event;
+use irig_time::UtcSecond;
 use irig_timekeeper::Stamp;
 
 /// The log of a station is true, by the start and the leaps of its setup alone: whatever generators
@@ -48,4 +59,31 @@ pub fn a_log_shows_where_it_broke()
     ensures { (s : StationSetup) (ev : List Event) (ago r n : ℕ) → IsStationSetup s
         → All (IsAskedWithin ago) ev → audit_of_station s ev ≡ Audit.Broken r n
         → All (IsLoggedFrom ago n) (doubtful_log s ev) }
+{}
+
+/// A device of a station announces, whatever generators send and cables bring besides: let as many
+/// seconds in a row as it locks after, and two more, come whole on more than f of its lines since it
+/// was made or restarted. Then the log has the second that begins at the edge of the last of these,
+/// announced by a vote, if its leap table is true. It goes by `wait`, or is ticked each 94.9 ms or
+/// sooner.
+pub fn a_station_announces()
+    ensures { (s : StationSetup) (ev : List Event) (r m : ℕ) (calls before : List Call)
+        (u : UtcSecond) (fresh : AreNewLines no_lines) → IsStationSetup s
+        → IsTickedInTime (kind_of_device s r)
+        → ((standing_after s ev).courses r).calls ≡ calls ++ before → AreCounted calls
+        → ComeInARow (IsTrueLately (kind_of_device s r).made.clock.within.us) s.times
+        (edges_by_kind (kind_of_device s r)) (made_with (kind_of_device s r).made no_lines fresh)
+        ((standing_after s ev).courses r).start m calls before
+        → FollowsTruth s.times (kind_of_device s r).made.clock.prefers_frames
+        (kind_of_device s r).made.table
+        → IsSecond s.times (m + 1 + (kind_of_device s r).made.clock.reader_rules.lock_after) u
+        → IsAnnounced s r (m + 1 + (kind_of_device s r).made.clock.reader_rules.lock_after) u
+        (standing_after s ev) }
+{}
+
+/// Its line can show each entry in full: the numbers of a told second and of a stamp are below 2^64,
+/// if the counter of each device shows a number of 32 bits at edge 0.
+pub fn entries_are_in_range()
+    ensures { (s : StationSetup) (ev : List Event) → IsStationSetup s → AreWordCounters s
+        → All IsEntryInRange (log_of_station s ev) }
 {}

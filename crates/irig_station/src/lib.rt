@@ -17,5 +17,8 @@ pub use audit::Audit;
 pub use entry::Entry;
 pub use event::Event;
 pub use fault::StationFault;
-pub use laws::{a_log_of_devices_grows, a_log_of_devices_is_true, a_log_shows_where_it_broke};
+pub use laws::{
+    a_log_of_devices_grows, a_log_of_devices_is_true, a_log_shows_where_it_broke,
+    a_station_announces, entries_are_in_range,
+};
 pub use station::Station;
