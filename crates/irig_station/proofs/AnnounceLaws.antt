@@ -84,11 +84,11 @@ module _ (s : StationSetup) (r : ℕ) where
 
   -- it is on its course, up to a time at most, and what its calls told since it was made or restarted is
   -- logged
-  record IsOnCourse (top : ℕ) (x : StationStanding) : Type 0 where
-    doings : List Doing
-    course : x.courses r ≡ course_behind kind late doings
-    now : (x.courses r).now ≤ top
-    logged : AreLogged r x.log (told_by kind (x.courses r).calls)
+  pub record IsOnCourse (top : ℕ) (x : StationStanding) : Type 0 where
+    pub doings : List Doing
+    pub course : x.courses r ≡ course_behind kind late doings
+    pub now : (x.courses r).now ≤ top
+    pub logged : AreLogged r x.log (told_by kind (x.courses r).calls)
 
   -- it is there as before, and the log is longer at most
   as_it_was : (top now : ℕ) (x y : StationStanding) (more : List Entry) → y.courses r ≡ x.courses r → y.log ≡ x.log ++ more → top ≤ now → IsOnCourse top x → IsOnCourse now y
@@ -157,12 +157,12 @@ module _ (s : StationSetup) (r : ℕ) where
   again : (x y : StationStanding) → y.courses r ≡ x.courses r → y.log ≡ x.log → x.now ≤ y.now → Stands x → Stands y
   again x y same log later h = as_it_was x.now y.now x y [] same (log ∙ sym (append-nil x.log)) later h
 
-  part_passes : (stop : ℕ) (x : StationStanding) → x.now ≤ stop → Stands x → Stands (part_gone s stop x)
+  pub part_passes : (stop : ℕ) (x : StationStanding) → x.now ≤ stop → Stands x → Stands (part_gone s stop x)
   part_passes stop x later h =
       let d = devices_pass stop (length s.devices) x (as_it_was x.now stop x x [] refl (sym (append-nil x.log)) later h) in
       as_it_was stop stop (devices_gone s stop (length s.devices) x) (part_gone s stop x) [] refl (sym (append-nil (devices_gone s stop (length s.devices) x).log)) (omega arith) d
 
-  second_begins : (x : StationStanding) → Stands x → Stands (has_begun_if_due s x)
+  pub second_begins : (x : StationStanding) → Stands x → Stands (has_begun_if_due s x)
   second_begins x h = elim (cases_Bool (is_at_edge x)) [
     | inl due ↦ rw due (record { doings = h.doings; course = h.course; now = h.now; logged = h.logged })
     | inr not_yet ↦ rw not_yet h
@@ -235,7 +235,7 @@ module _ (s : StationSetup) (r : ℕ) where
     | inr past ↦ rw past (stamps q (x.now - ago) x h)
   ])
 
-  stands : (ev : List Event) → Stands (standing_after s ev)
+  pub stands : (ev : List Event) → Stands (standing_after s ev)
   stands [] = record { doings = []; course = refl; now = omega arith; logged = tt }
   stands (e ∷ ev) = plays e (standing_after s ev) (stands ev)
 

@@ -119,7 +119,7 @@ module _ (rules : Rules) (t : TimelineValue) (generators : List GeneratorValue) 
     | inr high ↦ absurd (omega (arith, less, at_edges first rate (length seconds), mul-le-mul_right rate high))
   ]
 
-  same_before : (first rate : ℕ) → AreSameBefore (edges_by first rate) (counter_at first rate (length seconds * 1000000)) (symbol_by rules t seconds) (symbol_by rules t all)
+  pub same_before : (first rate : ℕ) → AreSameBefore (edges_by first rate) (counter_at first rate (length seconds * 1000000)) (symbol_by rules t seconds) (symbol_by rules t all)
   same_before first rate = record {
     same = λ line k less. symbol_before line k (begun_before first rate (k / 100) less);
     good = never_bad rules t seconds;

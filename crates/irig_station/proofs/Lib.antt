@@ -2,6 +2,7 @@ pub mod SetupLaws
 pub mod CourseTruth
 pub mod PromiseLaws
 pub mod AnnounceLaws
+pub mod KeptDevices
 pub mod SoonLaws
 pub mod BreakLaws
 pub mod HarmlessLaws

@@ -1,11 +1,14 @@
 -- What is promised of the log of a station.
 -- Source: docs/HEADLINE.md; this project's profile.
-use Rattle.std.specs.Prelude.{ℕ, ◌+◌, ◌*◌, ◌/◌, ◌%◌, ◌≤◌, Option, Some, None, ⊤, ◌≡◌, ◌++◌, List}
+use Rattle.std.specs.Prelude.{ℕ, ◌+◌, ◌*◌, ◌/◌, ◌%◌, ◌≤◌, Option, Some, None, ⊤, ◌≡◌, ◌++◌, List, ◌<◌, []}
 use Rattle.irig_time.specs.Timelines.{TimelineValue, IsSecond}
 use Rattle.std.specs.List.{Contains}
 use Rattle.irig_time.specs.declared.second.UtcSecond.{UtcSecond}
 use Rattle.irig_reader.specs.Locking.{voted_report}
 use Rattle.irig_timekeeper.specs.declared.stamp.Stamp.{Stamp}
+use Rattle.irig_timekeeper.specs.Announcing.{ComesWhole}
+use Rattle.irig_timekeeper.specs.Life.{Call, HaveRisen, last_tick}
+use Rattle.irig_timekeeper.specs.Lived.{keeping_after}
 use Rattle.irig_witness.specs.Promise.{IsStampedInTime}
 use Rattle.irig_simulated.specs.declared.told_second.ToldSecond.{ToldSecond}
 use Rattle.irig_simulated.specs.Kinds.{edges_by_kind}
@@ -74,3 +77,19 @@ pub record IsAnnounced (s : StationSetup) (r n : ℕ) (u : UtcSecond) (x : Stati
   pub soon : told.told_count ≤ edges_by_kind (kind_of_device s r) n + 98000
   pub says : told.beat.report ≡ voted_report u
   pub edge : x.audit ≡ Kept → told.edge ≡ n
+
+-- as many seconds in a row as device r locks after and two more, from the m-th on, came whole in these
+-- of its calls, which came behind those; the first of their frames ends in these, and the last tick
+-- came 3 ms or more behind the last edge
+pub record AreWholeInARow (s : StationSetup) (r start m : ℕ) (calls before : List Call) : Type 0 where
+  pub some : 1 ≤ m
+  pub told : ℕ
+  pub risen : HaveRisen told before
+  pub ticked : last_tick start before ≤ told
+  pub past : told + 11000 < edges_by_kind (kind_of_device s r) m
+  pub whole : (n : ℕ) → n < (kind_of_device s r).made.clock.reader_rules.lock_after + 2
+      → ComesWhole s.times (edges_by_kind (kind_of_device s r))
+      (keeping_after (kind_of_device s r).made []) (m + n) (calls ++ before)
+  pub last : edges_by_kind (kind_of_device s r)
+      (m + 1 + (kind_of_device s r).made.clock.reader_rules.lock_after) + 3000
+      ≤ last_tick start (calls ++ before)

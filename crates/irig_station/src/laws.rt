@@ -14,7 +14,7 @@ ghost use Rattle.irig_simulated.specs.Doings.{AreCounted, IsTickedInTime};
 ghost use Rattle.irig_station.specs.StationSetups.{IsStationSetup, StationSetup, kind_of_device};
 ghost use Rattle.irig_station.specs.StationAudits.{audit_at_start};
 ghost use Rattle.irig_station.specs.StationPlay.{audit_of_station, doubtful_log, log_of_station, standing_after, vouched_log};
-ghost use Rattle.irig_station.specs.StationPromise.{AreStampedTogether, IsAnnounced, IsAskedWithin, IsLoggedFrom, LogHasGrown, IsTrueEntry, drift_of_device};
+ghost use Rattle.irig_station.specs.StationPromise.{AreStampedTogether, AreWholeInARow, IsAnnounced, IsAskedWithin, IsLoggedFrom, LogHasGrown, IsTrueEntry, drift_of_device};
 ghost use Rattle.irig_station.specs.ValidEntries.{AreWordCounters, IsEntryInRange};
 
 use crate::audit::Audit;
@@ -63,11 +63,23 @@ pub fn a_log_shows_where_it_broke()
 
 /// A device of a station announces, whatever generators send and cables bring besides: let as many
 /// seconds in a row as it locks after, and two more, come whole on more than f of its lines since it
-/// was made or restarted. Then the log has the second that begins at the edge of the last of these,
-/// announced by a vote, if its leap table is true. It goes by `wait`, or is ticked each 94.9 ms or
-/// sooner.
+/// was made or restarted. If the audit is kept, the log then has the second that begins where the
+/// last of them ends, announced by a vote, at its edge. Its leap table is true, and it goes by
+/// `wait`, or is ticked each 94.9 ms or sooner.
 pub fn a_station_announces()
-    ensures { (s : StationSetup) (ev : List Event) (r m : ℕ) (calls before : List Call)
+    ensures kept { (s : StationSetup) (ev : List Event) (r m : ℕ) (calls before : List Call)
+        (u : UtcSecond) → IsStationSetup s → audit_of_station s ev ≡ Audit.Kept
+        → IsTickedInTime (kind_of_device s r)
+        → ((standing_after s ev).courses r).calls ≡ calls ++ before → AreCounted calls
+        → AreWholeInARow s r ((standing_after s ev).courses r).start m calls before
+        → FollowsTruth s.times (kind_of_device s r).made.clock.prefers_frames
+        (kind_of_device s r).made.table
+        → IsSecond s.times (m + 1 + (kind_of_device s r).made.clock.reader_rules.lock_after) u
+        → IsAnnounced s r (m + 1 + (kind_of_device s r).made.clock.reader_rules.lock_after) u
+        (standing_after s ev) }
+    // Without an audit so it is if these calls are in order, and at each of their ticks at most f
+    // lines are untrue, beside a counter that is as the setting says.
+    ensures calls { (s : StationSetup) (ev : List Event) (r m : ℕ) (calls before : List Call)
         (u : UtcSecond) (fresh : AreNewLines no_lines) → IsStationSetup s
         → IsTickedInTime (kind_of_device s r)
         → ((standing_after s ev).courses r).calls ≡ calls ++ before → AreCounted calls
