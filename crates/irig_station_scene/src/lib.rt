@@ -15,4 +15,4 @@ pub use log::StationLog;
 pub use outcome::StationOutcome;
 pub use player::StationPlayer;
 pub use run::{StationRun, listen_to_station};
-pub use text::{push_station_audit, push_station_entries};
+pub use text::{push_off, push_station_audit, push_station_entries};

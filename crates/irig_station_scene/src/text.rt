@@ -109,8 +109,9 @@ fn push_said(text: &mut String, report: Report) -> Result<(), AllocError>
     text.push_str(cause_word(report.cause))
 }
 
-// Adds how far a count lies behind another, with its sign.
-fn push_off(text: &mut String, count: u64, other: u64) -> Result<(), AllocError>
+/// Adds how far a count lies behind another, in microseconds, with its sign: `+` for behind it, also
+/// for none, `-` for before it. It fails only if there is no memory.
+pub fn push_off(text: &mut String, count: u64, other: u64) -> Result<(), AllocError>
     ensures { OnOk result (string_bytes text.new ≡ string_bytes text.old ++ off_text count other) }
 {
     if count < other {
