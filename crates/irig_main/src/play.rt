@@ -76,9 +76,7 @@ fn write_wanted<I: BufRead, O: Write>(
             end_of(answer)
         }
         Wanted::Blame { lines } => {
-            let mut line = None;
-            let answer = blame(alloc, lines, input, output, &mut line);
-            *refused = why_of(line);
+            let answer = blame(alloc, lines, input, output, refused);
             end_of(answer)
         }
     }

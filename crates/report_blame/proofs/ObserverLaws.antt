@@ -1,5 +1,5 @@
 -- What is left to be said at the end.
-use Rattle.std.proofs.Common.{◌≡◌, ℕ, List, [], ◌++◌, length, Some, ap, ◌∙◌}
+use Rattle.std.proofs.Common.{◌≡◌, ℕ, List, [], ◌++◌, length, Some, None, ap, ◌∙◌}
 use Rattle.std.specs.Prelude.{slice_index_or, vec_len}
 use Rattle.irig_port.specs.declared.port.Port.{Ghosts}
 use Rattle.report_log.specs.Text.{name_at, audit_text}
@@ -24,15 +24,15 @@ use Rattle.report_blame.specs.Text.{findings_text, total_lines}
 
 -- the totals
 totals_are : (lines : List ℕ) (b : Book) (names : List (List ℕ)) (x : Scene) → IsBookAt b x → names ≡ x.plan.names
-    → lists_below (λ r. total_lines lines (name_at names r) b.ports (slice_index_or b.accounts.items r (account_of []))) (vec_len b.accounts) ≡ totals_in lines x
+    → lists_below (λ r. total_lines lines (name_at names r) None b.ports (slice_index_or b.accounts.items r (account_of []))) (vec_len b.accounts) ≡ totals_in lines x
 totals_are lines b names x at named =
-    lists_are (λ r. total_lines lines (name_at names r)) b x at
-    ∙ ap (λ names. lists_below (λ r. total_lines lines (name_at names r) (length x.plan.setup.generators) (account_at x.plan.setup x.events r)) (length x.plan.setup.readers)) named
+    lists_are (λ r. total_lines lines (name_at names r) None) b x at
+    ∙ ap (λ names. lists_below (λ r. total_lines lines (name_at names r) None (length x.plan.setup.generators) (account_at x.plan.setup x.events r)) (length x.plan.setup.readers)) named
 
 pub closing_is : (lines : List ℕ) (b : Book) (names : List (List ℕ)) (x : Scene) (left : List Finding) (b0 b1 b2 : List ℕ) → IsBookAt b x → names ≡ x.plan.names
     → left ≡ lists_below (λ r. open_found r b.ports (slice_index_or b.accounts.items r (account_of []))) (vec_len b.accounts)
     → b1 ≡ b0 ++ findings_text lines names left
-    → b2 ≡ b1 ++ lists_below (λ r. total_lines lines (name_at names r) b.ports (slice_index_or b.accounts.items r (account_of []))) (vec_len b.accounts)
+    → b2 ≡ b1 ++ lists_below (λ r. total_lines lines (name_at names r) None b.ports (slice_index_or b.accounts.items r (account_of []))) (vec_len b.accounts)
     → b2 ≡ b0 ++ closing_in lines x
 closing_is lines b names x left b0 b1 b2 at named is opened counted =
     let text = ap (findings_text lines names) (is ∙ open_is b x at) ∙ ap (λ names. findings_text lines names (all_open x.plan.setup x.events)) named in

@@ -20,6 +20,8 @@ use Rattle.report_found.specs.declared.kind.Kind.TheVariants.{Agreed, Silent, Fa
 use Rattle.report_found.specs.Accounts.{port_of}
 use Rattle.report_found.specs.Findings.{lists_below, is_carrier_in}
 use Rattle.report_found.specs.Kinds.{same_kind, is_lie}
+use Rattle.irig_station_scene.specs.StationText.{off_text}
+use Rattle.report_blame.specs.declared.reach.Reach.{Reach}
 
 -- ---- words of a scenario, or of a recording of these lines: their names, after one another with a
 -- comma between them, and none of a scenario
@@ -186,8 +188,22 @@ port_totals_line lines name port x =
     ++ (decimal x.another_second ++ (codes " another second, "
     ++ (decimal x.another_mark ++ codes " another mark\n"))))))))))))))
 
--- the totals of the reader, and of each port
-abbrev pub total_lines : List ℕ → List ℕ → ℕ → Account → List ℕ
-total_lines lines name ports x =
+-- how far off the seconds lay that a device announced: the least and the greatest distance, as in
+-- the log, and the greatest bound
+unfoldable pub edges_line : List ℕ → Reach → List ℕ
+edges_line name x =
+    codes "edges of " ++ (name ++ (codes ": " ++ (off_text x.least.behind_us x.least.before_us
+    ++ (codes " to " ++ (off_text x.greatest.behind_us x.greatest.before_us
+    ++ (codes " us off, bound at most " ++ (decimal x.bound_us ++ codes " us\n")))))))
+
+-- nothing of readers, and of a device that announced nothing
+abbrev pub reach_text : List ℕ → Option Reach → List ℕ
+reach_text name None = []
+reach_text name (Some x) = edges_line name x
+
+-- the totals of the reader or device, how far off its seconds lay, and the totals of each port
+abbrev pub total_lines : List ℕ → List ℕ → Option Reach → ℕ → Account → List ℕ
+total_lines lines name reach ports x =
     totals_line lines name x
-    ++ lists_below (λ port. port_totals_line lines name port (port_of port x)) ports
+    ++ (reach_text name reach
+    ++ lists_below (λ port. port_totals_line lines name port (port_of port x)) ports)

@@ -6,6 +6,7 @@ ghost use Rattle.report_log.specs.Text.{name_at, texts_of};
 ghost use Rattle.report_found.specs.Accounts.{account_of};
 ghost use Rattle.report_found.specs.Findings.{lists_below};
 ghost use Rattle.report_found.specs.Soundness.{IsSoundFinding, IsSoundWrong};
+ghost use Rattle.report_blame.specs.Reaches.{reach_at};
 ghost use Rattle.report_blame.specs.Text.{
   meaning_text,
   kind_text,
@@ -24,6 +25,8 @@ ghost use Rattle.report_blame.specs.Text.{
 };
 
 use crate::line_text::{push_port, untrue_word};
+use crate::reach::{Reach, reach_at};
+use crate::reach_text::push_reach;
 use crate::untrue_text::push_untrue;
 use indexmap::IndexSet;
 use irig_reader::Cause;
@@ -82,37 +85,41 @@ fn push_wrong(text: &mut String, lines: &str, name: &str, wrong: &Wrong) -> Resu
     }
 }
 
-/// Pushes the totals, reader by reader.
+/// Pushes the totals, reader by reader, or device by device; of readers nothing reaches.
 pub(crate) fn push_book_totals(
     text: &mut String,
     lines: &str,
     names: &IndexSet<String>,
     book: &Book,
+    reaches: &[Option<Reach>],
 ) -> Result<(), AllocError>
     ensures { OnOk result (string_bytes text.new ≡ string_bytes text.old ++ lists_below
-        (λ r. total_lines lines.now (name_at (texts_of names.now.keys) r) book.now.ports
-        (slice_index_or book.now.accounts.items r (account_of [])))
+        (λ r. total_lines lines.now (name_at (texts_of names.now.keys) r) (reach_at reaches.now r)
+        book.now.ports (slice_index_or book.now.accounts.items r (account_of [])))
         (vec_len book.now.accounts)) }
 {
     for reader in 0..book.readers() {
-        let account = book.account(reader);
-        push_totals(text, lines, name_at(names, reader), book.ports(), account)?;
+        let name = name_at(names, reader);
+        let reach = reach_at(reaches, reader);
+        push_totals(text, lines, name, reach, book.ports(), book.account(reader))?;
     }
     Ok(())
 }
 
-// Pushes the totals of a reader and of its ports.
+// Pushes the totals of a reader or device, how far off its seconds lay, and the totals of its ports.
 fn push_totals(
     text: &mut String,
     lines: &str,
     name: &str,
+    reach: Option<Reach>,
     ports: u8,
     account: &Account,
 ) -> Result<(), AllocError>
     ensures { OnOk result (string_bytes text.new ≡ string_bytes text.old
-        ++ total_lines lines.now name.now ports account.now) }
+        ++ total_lines lines.now name.now reach ports account.now) }
 {
     push_reader_totals(text, lines, name, account)?;
+    push_reach(text, name, reach)?;
     for port in 0..ports {
         push_port_totals(text, lines, name, port, account.port(port))?;
     }
