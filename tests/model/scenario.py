@@ -1,6 +1,6 @@
 """A scenario played: lines in, the log out (docs/SCENARIOS.md, Events; docs/OUTPUT.md)."""
 
-from collections.abc import Iterator
+from collections.abc import Iterable, Iterator
 from dataclasses import dataclass
 
 from .faults import Refused, refuse_if
@@ -14,7 +14,7 @@ from .station_lines import StationPlan
 from .times import Claim, Mark, is_true_table, second_at, text_of_second, truth_at
 from .voting import majority, vote
 
-__all__ = ["Result", "default_lines", "lines", "play"]
+__all__ = ["Readers", "Result", "Run", "default_lines", "lines", "log_of", "play", "port_word", "result_of", "run"]
 
 
 @dataclass(frozen=True)
@@ -165,11 +165,13 @@ class Readers:
 
     def __init__(self, plant: Plant, entries: str):
         self.world, self.entries = world_of(plant), entries
+        self.ticked: list[Entry] = []
         self.broken: list[Entry] = []
 
     def lines_of(self, event: Event) -> Iterator[str]:
         """The lines of an event, or its refusal."""
         for entry in happen(self.world, event):
+            self.ticked.append(entry)
             yield from entry_lines(entry, self.entries)
             self.broken += [entry] if is_broken(entry) and not self.broken else []
 
@@ -189,9 +191,19 @@ def default_lines(log: bytes) -> bytes:
     return b"".join(line for line in lines if line[:1] == b"@" or line[:1] != b" " and b" - " not in line)
 
 
-def play(data: bytes, entries: str = "default") -> Result:
-    """The log of a scenario, `entries` being "default", "all", "ports" or "all ports"
-    (docs/SCENARIOS.md; docs/OUTPUT.md; docs/FAULTS.md, Refusals of a scenario)."""
+@dataclass(frozen=True)
+class Run:
+    """A scenario that was played: its plant, if a line began one, the lines of its log, the last line, and the
+    refusal, if a line was refused."""
+
+    plant: Readers | Station | None
+    log: list[str]
+    last: str
+    error: str | None
+
+
+def run(data: bytes, entries: str = "default") -> Run:
+    """Plays the lines of a scenario up to the first that is refused."""
     plant, log, number = None, [], 0
     try:
         for number, meaning in lines(data):
@@ -202,8 +214,24 @@ def play(data: bytes, entries: str = "default") -> Result:
                 continue
             for line in plant.lines_of(meaning):
                 log.append(line)
-        last, error = plant.last_line(), None
+        return Run(plant, log, plant.last_line(), None)
     except Refused as refused:
         error = f"line {number}: {refused}"
-        last = f"refused: {error}"
-    return Result("".join(f"{line}\n" for line in [*log, last]).encode(), 3 if error else 0, error)
+        return Run(plant, log, f"refused: {error}", error)
+
+
+def result_of(played: Run, said: Iterable[str]) -> Result:
+    """The result of a run of which this is said."""
+    text = "".join(f"{line}\n" for line in said)
+    return Result(text.encode(), 3 if played.error else 0, played.error)
+
+
+def log_of(played: Run) -> Result:
+    """The log of a run, with its last line."""
+    return result_of(played, [*played.log, played.last])
+
+
+def play(data: bytes, entries: str = "default") -> Result:
+    """The log of a scenario, `entries` being "default", "all", "ports" or "all ports"
+    (docs/SCENARIOS.md; docs/OUTPUT.md; docs/FAULTS.md, Refusals of a scenario)."""
+    return log_of(run(data, entries))

@@ -30,6 +30,7 @@ class Station:
         self.seconds: list[list[Signal]] = []
         self.faults: list[GeneratorFault | None] = [None] * len(plan.generators)
         self.devices = {name: Simulated(setup, plan.rules) for name, setup in plan.devices.items()}
+        self.told_seconds: list[tuple[str, ToldSecond]] = []
         self.broken = self.broken_at_start()
 
     def keep_pulses(self, name: str) -> list[list[Pulse]]:
@@ -92,6 +93,7 @@ class Station:
     def told(self, name: str, seconds: Iterator[ToldSecond]) -> Iterator[str]:
         """The lines of what a device tells, which is then looked at."""
         for second in seconds:
+            self.told_seconds.append((name, second))
             if self.shows_all or second.beat.report.second is not None:
                 yield told_line(name, second)
         self.look(name)
