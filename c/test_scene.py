@@ -254,7 +254,7 @@ class Stretches(unittest.TestCase):
         """Of all cases and examples: each line that blame prints before the totals, and no other, as the package
         writes it of these numbers."""
         kinds = set()
-        for name, text in scenarios().items():
+        for name, text in {**scenarios(), **{case.name: text for case, text in with_devices()}}.items():
             status, told, _ = printed("blame", "-", given=text)
             answer, whole, stretches, verdict, refusal = self.ran(text, 5000)
             lines = told.decode().split("\n")
