@@ -77,6 +77,9 @@ and what the reader announced meanwhile. A line for each silence of a reader has
 seconds what they stand on. All come as soon as they end; `LC_ALL=C sort` puts them in order of their beginning. Then
 there are the totals of each reader and port, and the last line of the log.
 
+Of devices, a device stands for a reader and its lines for the ports. Below the totals of a device stands how far
+the edges of its announced seconds were off, from the least to the most, and the greatest bound.
+
 With --recorded ports have the names of their lines, and nothing is called untrue: of a recording nobody knows more
 than what most lines told.
 
