@@ -10,6 +10,7 @@ pub mod StationLaws
 pub mod BeginLaws
 pub mod PassLaws
 pub mod GrowthLaws
+pub mod PartLaws
 pub mod StationFacts
 pub mod KeptFacts
 pub mod UtcEntries

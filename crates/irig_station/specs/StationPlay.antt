@@ -12,7 +12,7 @@ use Rattle.irig_station.specs.declared.event.Event.{Event}
 use Rattle.irig_station.specs.declared.event.Event.TheVariants.{Pass, Fault, Repair, Pull, Plug, Late, Pulse, Tick, Restart, Stamp}
 use Rattle.irig_station.specs.declared.fault.StationFault.TheVariants.{BeforeStart, NoSuchDevice, NoSuchGenerator}
 use Rattle.irig_station.specs.StationSetups.{StationSetup, kind_of_device}
-use Rattle.irig_station.specs.StationStandings.{StationStanding, StationStep, at_course, goes_to, has_gone, has_stamped, most_parts, refused_at, station_at_start, time_gone}
+use Rattle.irig_station.specs.StationStandings.{StationStanding, StationStep, at_course, first_part, followed, goes_to, has_gone, has_stamped, most_parts, refused_at, station_at_start, time_gone}
 
 -- there is no device r, else what follows
 abbrev pub unless_device : StationSetup → (r : ℕ) → StationStanding → StationStep → StationStep
@@ -60,6 +60,12 @@ play_event s (Stamp r ago) x =
     unless_device s r x
     (if nat_lt x.now ago then refused_at x BeforeStart
     else goes_to (has_stamped s r (x.now - ago) x))
+
+-- of a stretch of time the part in the present second passes, and then the rest
+abbrev pub passed_in_turn : StationSetup → (us : ℕ) → StationStanding → StationStep
+passed_in_turn s us x =
+    followed (play_event s (Pass (first_part us x)) x)
+    (play_event s (Pass (us - first_part us x)))
 
 -- ---- a list of events, the newest first
 

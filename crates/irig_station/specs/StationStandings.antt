@@ -1,6 +1,6 @@
 -- Where a station stands, and what becomes of it while true time passes.
 -- Source: docs/SCENARIOS.md; this project's profile.
-use Rattle.std.specs.Prelude.{ℕ, zero, suc, ◌+◌, ◌-◌, ◌*◌, ◌/◌, ◌==◌, Bool, ◌&&◌, is_none, min, if◌then◌else◌, List, [], ◌∷◌, ◌++◌, length, map, Option, Some, None, slice_get}
+use Rattle.std.specs.Prelude.{ℕ, zero, suc, ◌+◌, ◌-◌, ◌*◌, ◌/◌, ◌%◌, ◌==◌, Bool, ◌&&◌, is_none, min, if◌then◌else◌, List, [], ◌∷◌, ◌++◌, length, map, Option, Some, None, slice_get}
 use Rattle.irig_frame.specs.declared.symbol.Symbol.{Symbol}
 use Rattle.irig_time.specs.Timelines.{second_at}
 use Rattle.irig_gen.specs.Frames.{GeneratorValue}
@@ -148,6 +148,15 @@ goes_to x = record { standing = x; refusal = None }
 abbrev pub refused_at : StationStanding → StationFault → StationStep
 refused_at x fault = record { standing = x; refusal = Some fault }
 
+-- what follows a step, if that was not refused
+abbrev pub unless_refused : Option StationFault → (step rest : StationStep) → StationStep
+unless_refused None step rest = rest
+unless_refused (Some fault) step rest = step
+
+-- a step, and what follows from where it leads
+abbrev pub followed : StationStep → (StationStanding → StationStep) → StationStep
+followed step next = unless_refused step.refusal step (next step.standing)
+
 -- so many microseconds pass, in so many parts at most, each within a second
 abbrev pub time_gone : StationSetup → (parts us : ℕ) → StationStanding → StationStep
 time_gone s zero us x = goes_to x
@@ -157,6 +166,14 @@ time_gone s (suc parts) us x =
     else (let begun = has_begun_if_due s x in
     let part = part_us us begun in
     time_gone s parts (us - part) (part_gone s (begun.now + part) begun)))
+
+-- how many microseconds are left of the present second; where one ends, a whole one
+abbrev pub left_of_second : StationStanding → ℕ
+left_of_second x = 1000000 - x.now % 1000000
+
+-- of so many microseconds those that pass in the present second
+abbrev pub first_part : (us : ℕ) → StationStanding → ℕ
+first_part us x = min us (left_of_second x)
 
 -- more parts than so many microseconds have
 abbrev pub most_parts : (us : ℕ) → ℕ

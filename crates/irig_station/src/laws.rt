@@ -13,7 +13,7 @@ ghost use Rattle.irig_simulated.specs.Kinds.{edges_by_kind};
 ghost use Rattle.irig_simulated.specs.Doings.{AreCounted, IsTickedInTime};
 ghost use Rattle.irig_station.specs.StationSetups.{IsStationSetup, StationSetup, kind_of_device};
 ghost use Rattle.irig_station.specs.StationAudits.{audit_at_start};
-ghost use Rattle.irig_station.specs.StationPlay.{audit_of_station, doubtful_log, log_of_station, standing_after, vouched_log};
+ghost use Rattle.irig_station.specs.StationPlay.{audit_of_station, doubtful_log, log_of_station, passed_in_turn, play_event, standing_after, vouched_log};
 ghost use Rattle.irig_station.specs.StationPromise.{AreStampedTogether, AreWholeInARow, IsAnnounced, IsAskedWithin, IsLoggedFrom, LogHasGrown, IsTrueEntry, drift_of_device};
 ghost use Rattle.irig_station.specs.ValidEntries.{AreWordCounters, IsEntryInRange};
 
@@ -98,4 +98,12 @@ pub fn a_station_announces()
 pub fn entries_are_in_range()
     ensures { (s : StationSetup) (ev : List Event) → IsStationSetup s → AreWordCounters s
         → All IsEntryInRange (log_of_station s ev) }
+{}
+
+/// Time passes second by second: a stretch of it leads where its part in the present second leads,
+/// and then the rest. It is refused where that part is. So a stretch may be cut where seconds end.
+pub fn time_passes_by_seconds()
+    ensures { (s : StationSetup) (ev : List Event) (us : ℕ)
+        → play_event s (Event.Pass us) (standing_after s ev)
+        ≡ passed_in_turn s us (standing_after s ev) }
 {}

@@ -19,6 +19,6 @@ pub use event::Event;
 pub use fault::StationFault;
 pub use laws::{
     a_log_of_devices_grows, a_log_of_devices_is_true, a_log_shows_where_it_broke,
-    a_station_announces, entries_are_in_range,
+    a_station_announces, entries_are_in_range, time_passes_by_seconds,
 };
 pub use station::Station;

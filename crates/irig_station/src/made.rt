@@ -1,9 +1,9 @@
 //! How a station is made, and what it answers.
 
-ghost use Rattle.std.specs.Prelude.{◌≡◌, ℕ, All, drop, length, IfErr, IfOk};
+ghost use Rattle.std.specs.Prelude.{◌≡◌, ◌<◌, ◌≤◌, ℕ, All, drop, length, IfErr, IfOk};
 ghost use Rattle.irig_plant.specs.History.{AreGenerators};
 ghost use Rattle.irig_station.specs.StationSetups.{StationSetup, redundancy_of_station, station_setup, truth_before};
-ghost use Rattle.irig_station.specs.StationStandings.{StationStanding, station_at_start};
+ghost use Rattle.irig_station.specs.StationStandings.{StationStanding, left_of_second, station_at_start};
 ghost use Rattle.irig_station.specs.Stations.{AreDevices, AreNewDevices, IsStationAt};
 ghost use Rattle.irig_station.specs.ValidEntries.{IsValidEntry};
 
@@ -118,6 +118,18 @@ impl<P: Port> Station<P> {
             3 => Redundancy::Three,
             _ => Redundancy::Five,
         }
+    }
+
+    /// How many microseconds are left of the present second, 1 to 1,000,000; where one ends, a whole
+    /// one. A stretch of time may be cut there: the law
+    /// [`time_passes_by_seconds`](crate::time_passes_by_seconds).
+    pub fn left_us(&self) -> u64
+        ensures some { 0 < result }
+        ensures most { result ≤ 1000000 }
+        ensures value { (s : StationSetup) (x : StationStanding) (shown : ℕ)
+            → IsStationAt self.now s x shown → result ≡ left_of_second x }
+    {
+        1_000_000 - self.now_us % 1_000_000
     }
 
     /// What a line tells at an edge of a true frame: the claim of the second that ended there. None
