@@ -13,7 +13,8 @@ use Rattle.report_log.specs.Text.{cause_text, lock_text, name_at, time_shown_tex
 use Rattle.report_log.proofs.WordLaws.{AreNames, IsWord, cause_word, decimal_number, decimal_word, lock_word, name_is_word, name_of_one, second_word, word_by_test}
 use Rattle.report_log.proofs.LogLaws.{NoBlank, digit_first, split, word_no_blank}
 use Rattle.irig_station_scene.specs.StationText.{bound_text, instant_text, off_text}
-use Rattle.irig_station_scene.specs.StationLines.{HasNoBlank, IsStampInRange, IsToldInRange, ShowsNeither, ShowsStamp, ShowsTold, StampLine, ToldLine, bound_word, off_of, signed_word, stamp_shown, told_shown}
+use Rattle.irig_station.specs.ValidEntries.{IsStampInRange, IsToldInRange}
+use Rattle.irig_station_scene.specs.StationLines.{HasNoBlank, ShowsNeither, ShowsStamp, ShowsTold, StampLine, ToldLine, bound_word, off_of, signed_word, stamp_shown, told_shown}
 use Rattle.irig_station_scene.proofs.NumberLaws.{no_dash, one_bound, one_decimal, one_instant, one_signed, signed_is_word}
 use Rattle.irig_station_scene.proofs.StationLineLaws.{instant_word, off_word, stamped_line, time_is_word, told_line}
 

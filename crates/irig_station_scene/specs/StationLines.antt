@@ -103,16 +103,3 @@ stamp_shown r time stamp = record {
   offset = stamp.offset_us;
   bound = stamp.bound_us;
 }
-
--- numbers that such a line shows in full
-pub record IsToldInRange (told : ToldSecond) : Type 0 where
-  pub edge : told.edge < 2 ^ 64
-  pub edge_count : told.edge_count < 2 ^ 64
-  pub told_count : told.told_count < 2 ^ 64
-  pub bound : told.beat.bound_us < 2 ^ 64
-
--- and such a stamp
-pub record IsStampInRange (time : ℕ) (stamp : Stamp) : Type 0 where
-  pub instant : time < 2 ^ 64
-  pub offset : stamp.offset_us < 2 ^ 64
-  pub bound : stamp.bound_us < 2 ^ 64

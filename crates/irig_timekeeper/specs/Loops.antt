@@ -92,8 +92,8 @@ GoesByWait late new (Tick now ∷ calls) before =
 
 -- ---- a tick when `wait` said last
 
--- by when what was named before a pulse still has to serve, of a time at which it has to: if that
--- pulse is a frame's last one and names a time to come, by the pulse's end
+-- up to when a tick of a time rests on what was named before a pulse: if that is a frame's last one
+-- and names a time to come, up to the pulse's end at most
 abbrev pub served_by : Keeping → List Call → (port rise width time : ℕ) → ℕ
 served_by new calls port rise width time =
     if place_told (after_calls new calls) port (rise % 2 ^ 32) width == 100
@@ -101,8 +101,8 @@ served_by new calls port rise width time =
     then time else min time (rise + width))
     else time
 
--- a time comes so long at most behind the one that was named last. If that was no time to come, the
--- one before it still counts; if it was, it was itself named so soon behind the one before
+-- a time comes so long at most behind the one that was named last. Where that was no time to come, the
+-- one before it still counts; else the pulse that named it ended so soon behind the one before
 abbrev pub IsSoonBehind : ℕ → Keeping → ℕ → List Call → List Call → Type 0
 IsSoonBehind late new time [] before = ⊤
 IsSoonBehind late new time (Tick now ∷ calls) before =
