@@ -22,7 +22,7 @@ pub(crate) struct ToldLog {
 }
 
 impl StationListener for ToldLog {
-    ghost use Rattle.irig_station_scene.specs.StationStays.{quiet_stays};
+    ghost use Rattle.irig_station_scene.specs.StationStays.{quiet_reads, quiet_stays};
     ghost use Rattle.irig_station_scene.specs.StationTexts.{quiet_texts};
     ghost use Rattle.c_scenario.specs.ToldRuns.{HoldsTold};
 
@@ -33,6 +33,9 @@ impl StationListener for ToldLog {
     ghost stands_for = { λ asked log x. HoldsTold log x };
 
     ghost stays = { λ asked. quiet_stays };
+
+    ghost reads = { λ asked. quiet_reads (λ log plan entries.
+        log.entries.items ≡ map device_entry_for entries) };
 
     fn new(
         alloc: Global,

@@ -25,19 +25,19 @@ use Rattle.scenario_devices.specs.StationEvents.{event_in_station_line}
 use Rattle.scenario_devices.specs.StationLine.{StationPlan}
 use Rattle.irig_station_scene.specs.StationText.{station_entry_text, station_text}
 use Rattle.report_run.specs.declared.stop.Failure.{Failure}
-use Rattle.report_run.specs.declared.stop.Failure.TheVariants.{Memory}
 use Rattle.report_run.specs.declared.stop.Stop.{Stop}
 use Rattle.report_run.specs.declared.stop.Stop.TheVariants.{Refused, Failed}
 use Rattle.report_run.specs.Faults.{stop_of}
-use Rattle.report_run.specs.Meanings.{step_of_next}
-use Rattle.report_run.specs.Runs.{IsAt, TextMore, TextPart, Took}
-use Rattle.report_run.specs.Texts.{Stays, Texts, text_of}
+use Rattle.report_run.specs.Meanings.{Next, step_of_next}
+use Rattle.report_run.specs.Runs.{IsAt, Took}
+use Rattle.report_run.specs.Texts.{Texts, text_of}
 use Rattle.report_run.proofs.TakenLaws.{nothing_more}
 use Rattle.irig_station_scene.specs.declared.player.StationPlayer.{StationPlayer}
-use Rattle.irig_station_scene.specs.StationListening.{SaysMore, entries_by}
-use Rattle.irig_station_scene.specs.StationScenes.{StationScene, event_in_scene, newest_first, next_in_scene, refusal_of_fault, standing_in, station_log, station_scenario, station_scene, station_step}
+use Rattle.irig_station_scene.specs.StationListening.{SaysMore, StaysBehind, entries_by}
+use Rattle.irig_station_scene.specs.StationScenes.{StationScene, event_in_scene, newest_first, next_in_scene, refusal_of_fault, standing_in, station_log, station_scene, station_step}
+use Rattle.irig_station_scene.specs.StationStays.{stays_in_lines}
 use Rattle.irig_station_scene.specs.StationTexts.{log_in_scene, station_texts}
-use Rattle.irig_station_scene.specs.StationRuns.{IsStationPlayerAt, IsStationPlayerPast}
+use Rattle.irig_station_scene.specs.StationRuns.{IsStationPlayerAt}
 
 -- ---- a refused event
 
@@ -103,45 +103,46 @@ added_alone t from to old new empty h =
 joined : (t : Texts StationScene) (first : List ℕ) (x to : StationScene) (more : List ℕ) → t.said to ≡ t.said x ++ more → text_of t first (Some to) ≡ text_of t first (Some x) ++ more
 joined t first x to more said = ap (λ l. t.first first ++ l) said ∙ sym (append_assoc (t.first first) (t.said x) more)
 
-module _ {L P : Type 0} {g : Ghosts P} (stands_for : L → StationScene → Type 0) (t : Texts StationScene) (stays : Stays station_scenario t) (x : StationScene) (line first : List ℕ) where
-  -- a line is taken so
-  abbrev pub Takes : Result (Unit {0}) Stop → StationPlayer L P g → Option (List ℕ) → Option (List ℕ) → Type 0
-  Takes r p old new = Took (IsStationPlayerAt {L = L} {P = P} {g = g} stands_for) t r (step_of_next (next_in_scene x (event_in_station_line x.plan.names line))) first (Some x) (Some p) old new
+module _ {L P : Type 0} {g : Ghosts P} (stands_for : L → StationScene → Type 0) (t : Texts StationScene) (stays : StaysBehind t.said) (x : StationScene) (first : List ℕ) where
+  -- this was taken so
+  abbrev pub Takes : Next StationScene → Result (Unit {0}) Stop → StationPlayer L P g → Option (List ℕ) → Option (List ℕ) → Type 0
+  Takes next r p old new = Took (IsStationPlayerAt {L = L} {P = P} {g = g} stands_for) t r (step_of_next next) first (Some x) (Some p) old new
 
-  -- nothing was written
-  pub line_fails : (f : Failure) (p : StationPlayer L P g) (out : Option (List ℕ)) → Takes (Err (Failed f)) p out out
-  line_fails f p out =
-      let front = stays x line in
-      record { text = front.0; more = joined t first x _ front.0 front.1; wrote = record { front = []; rest = front.0; whole = refl; wrote = Appends-nil out } }
+  module _ (e : Event) where
+    -- nothing was written
+    pub event_fails : (f : Failure) (p : StationPlayer L P g) (out : Option (List ℕ)) → Takes (event_in_scene x e) (Err (Failed f)) p out out
+    event_fails f p out =
+        let front = stays x e in
+        record { text = front.0; more = joined t first x _ front.0 front.1; wrote = record { front = []; rest = front.0; whole = refl; wrote = Appends-nil out } }
 
-  -- it gives no event
-  pub line_stops : (fault : LineFault) (p : StationPlayer L P g) (out : Option (List ℕ)) → IsUnlessMemory (λ (e : Event). e) (event_in_station_line x.plan.names line) (Err fault)
-      → IsStationPlayerAt stands_for p x → Takes (Err (stop_of fault)) p out out
-  line_stops (line_fault.Refused k) p out is stands =
-      subst (λ (o : Result Event Refusal). Took (IsStationPlayerAt {L = L} {P = P} {g = g} stands_for) t (Err (Refused k)) (step_of_next (next_in_scene x o)) first (Some x) (Some p) out out) (sym is)
-      (record { refused = refl; stands = stands; grew = nothing_more t first (Some x) out })
-  line_stops line_fault.Memory p out is stands = line_fails Memory p out
+    module _ (text : List ℕ) (said : t.said (event_in_scene x e).scene ≡ t.said x ++ text) where
+      -- a part was written
+      pub writing_fails : (f : Failure) (p : StationPlayer L P g) (old new : Option (List ℕ)) → AppendsPart old new text → Takes (event_in_scene x e) (Err (Failed f)) p old new
+      writing_fails f p old new h = record { text = text; more = joined t first x _ text said; wrote = h }
 
-  module _ (e : Event) (is : event_in_station_line x.plan.names line ≡ Ok e) (text : List ℕ) (said : t.said (event_in_scene x e).scene ≡ t.said x ++ text) where
-    of_event : (r : Result (Unit {0}) Stop) (p : StationPlayer L P g) (old new : Option (List ℕ))
-        → Took (IsStationPlayerAt {L = L} {P = P} {g = g} stands_for) t r (step_of_next (event_in_scene x e)) first (Some x) (Some p) old new → Takes r p old new
-    of_event r p old new h =
-        subst (λ (o : Result Event Refusal). Took (IsStationPlayerAt {L = L} {P = P} {g = g} stands_for) t r (step_of_next (next_in_scene x o)) first (Some x) (Some p) old new) (sym is) h
+      -- all was
+      pub event_taken : (p : StationPlayer L P g) (old new : Option (List ℕ)) → (event_in_scene x e).refusal ≡ None → IsStationPlayerAt stands_for p (event_in_scene x e).scene
+          → Appends old new text → Takes (event_in_scene x e) (Ok tt) p old new
+      event_taken p old new accepted stands h = record { refused = accepted; stands = stands; grew = record { text = text; more = joined t first x _ text said; wrote = h } }
 
-    -- a part was written
-    pub writing_fails : (f : Failure) (p : StationPlayer L P g) (old new : Option (List ℕ)) → AppendsPart old new text → Takes (Err (Failed f)) p old new
-    writing_fails f p old new h = of_event (Err (Failed f)) p old new (record { text = text; more = joined t first x _ text said; wrote = h })
+      pub event_refused : (k : Refusal) (p : StationPlayer L P g) (old new : Option (List ℕ)) → (event_in_scene x e).refusal ≡ Some k → IsStationPlayerAt stands_for p (event_in_scene x e).scene
+          → Appends old new text → Takes (event_in_scene x e) (Err (Refused k)) p old new
+      event_refused k p old new refused stands h = record { refused = refused; stands = stands; grew = record { text = text; more = joined t first x _ text said; wrote = h } }
 
-    -- all was
-    pub event_taken : (p : StationPlayer L P g) (old new : Option (List ℕ)) → (event_in_scene x e).refusal ≡ None → IsStationPlayerAt stands_for p (event_in_scene x e).scene
-        → Appends old new text → Takes (Ok tt) p old new
-    event_taken p old new accepted stands h = of_event (Ok tt) p old new
-        (record { refused = accepted; stands = stands; grew = record { text = text; more = joined t first x _ text said; wrote = h } })
+  module _ (line : List ℕ) where
+    -- it gives this event
+    pub of_event : (e : Event) → event_in_station_line x.plan.names line ≡ Ok e → (r : Result (Unit {0}) Stop) (p : StationPlayer L P g) (old new : Option (List ℕ))
+        → Takes (event_in_scene x e) r p old new → Takes (next_in_scene x (event_in_station_line x.plan.names line)) r p old new
+    of_event e is r p old new h = subst (λ (o : Result Event Refusal). Takes (next_in_scene x o) r p old new) (sym is) h
 
-    pub event_refused : (k : Refusal) (p : StationPlayer L P g) (old new : Option (List ℕ)) → (event_in_scene x e).refusal ≡ Some k → IsStationPlayerAt stands_for p (event_in_scene x e).scene
-        → Appends old new text → Takes (Err (Refused k)) p old new
-    event_refused k p old new refused stands h = of_event (Err (Refused k)) p old new
-        (record { refused = refused; stands = stands; grew = record { text = text; more = joined t first x _ text said; wrote = h } })
+    -- or none
+    pub line_stops : (fault : LineFault) (p : StationPlayer L P g) (out : Option (List ℕ)) → IsUnlessMemory (λ (e : Event). e) (event_in_station_line x.plan.names line) (Err fault)
+        → IsStationPlayerAt stands_for p x → Takes (next_in_scene x (event_in_station_line x.plan.names line)) (Err (stop_of fault)) p out out
+    line_stops (line_fault.Refused k) p out is stands =
+        subst (λ (o : Result Event Refusal). Takes (next_in_scene x o) (Err (Refused k)) p out out) (sym is) (record { refused = refl; stands = stands; grew = nothing_more t first (Some x) out })
+    line_stops line_fault.Memory p out is stands =
+        let front = stays_in_lines t stays x line in
+        record { text = front.0; more = joined t first x _ front.0 front.1; wrote = record { front = []; rest = front.0; whole = refl; wrote = Appends-nil out } }
 
 -- ---- a player
 

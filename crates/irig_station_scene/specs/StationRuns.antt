@@ -1,12 +1,18 @@
 -- A run of a scenario with devices: what plays it, and how it ends.
 -- Source: docs/OUTPUT.md; this project's profile.
-use Rattle.std.specs.Prelude.{◌≡◌, ⊤, ℕ, Bool, List, length, Option, Result, Ok, Err}
+use Rattle.std.specs.Prelude.{◌≡◌, ◌≤◌, ⊤, ℕ, List, length, Option, Some, Result, Ok, Err}
 use Rattle.irig_port.specs.declared.port.Port.{Ghosts}
+use Rattle.irig_device.specs.Lines.{Bytes}
 use Rattle.irig_station.specs.declared.event.Event.{Event}
+use Rattle.irig_station.specs.declared.event.Event.TheVariants.{Pass}
 use Rattle.irig_station.specs.Stations.{IsStationAt}
 use Rattle.text_faults.specs.declared.refusal.Refusal.{Refusal}
 use Rattle.report_log.specs.Text.{texts_of}
 use Rattle.report_run.specs.declared.stop.Failure.{Failure}
+use Rattle.report_run.specs.declared.stop.Stop.{Stop}
+use Rattle.report_run.specs.Meanings.{step_of_next}
+use Rattle.report_run.specs.Runs.{Took}
+use Rattle.report_run.specs.Texts.{Texts}
 use Rattle.irig_station_scene.specs.declared.outcome.StationOutcome.{StationOutcome}
 use Rattle.irig_station_scene.specs.declared.player.StationPlayer.{StationPlayer}
 use Rattle.irig_station_scene.specs.StationScenes.{StationScene, event_in_scene, standing_in, station_audit, station_log}
@@ -41,6 +47,21 @@ abbrev pub PlaysEventOf : {L P : Type 0} {g : Ghosts P} → StationPlayer L P g 
     → Result (Option Refusal) Failure → StationPlayer L P g → Type 0
 PlaysEventOf old e result new =
     (x : StationScene) (shown : ℕ) → IsStationPlayerPast shown old x → HasPlayedEvent result x e new
+
+-- it is no stretch of time of more than a second
+abbrev pub IsShort : Event → Type 0
+IsShort (Pass us) = us ≤ 1000000
+IsShort _ = ⊤
+
+-- whatever scene it is of, an event is played or refused, and what is said of it is written; or
+-- something failed
+abbrev pub TakesEvent : {L P : Type 0} {g : Ghosts P} → (L → StationScene → Type 0)
+    → Texts StationScene → StationPlayer L P g → Event → Result (Unit {0}) Stop
+    → StationPlayer L P g → Bytes → Bytes → Type 0
+TakesEvent {L} {P} {g} stands_for t was e result is old new =
+    (x : StationScene) (first : List ℕ) → IsStationPlayerAt stands_for was x
+    → Took (IsStationPlayerAt {L = L} {P = P} {g = g} stands_for) t result
+    (step_of_next (event_in_scene x e)) first (Some x) (Some is) old new
 
 -- ---- the whole run
 

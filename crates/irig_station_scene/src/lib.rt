@@ -2,6 +2,7 @@
 //! listener says of it, which is the log unless another is asked.
 #![tactic(auto)]
 
+mod event;
 mod listener;
 mod log;
 mod outcome;

@@ -2,12 +2,12 @@
 
 ghost use Rattle.std.specs.Prelude.{All, ◌≡◌, ◌++◌, [], ◌≤◌, ℕ, List, IfOk, OnOk, length, string_bytes};
 ghost use Rattle.report_log.specs.Text.{texts_of};
-ghost use Rattle.report_run.specs.Texts.{Stays, Texts, last_of};
+ghost use Rattle.report_run.specs.Texts.{Texts, last_of};
 ghost use Rattle.irig_station.specs.ValidEntries.{IsValidEntry};
 ghost use Rattle.irig_station.specs.declared.event.Event.{Event};
 ghost use Rattle.scenario_devices.specs.StationLine.{StationPlan};
-ghost use Rattle.irig_station_scene.specs.StationListening.{HasHappened, IsStationOf, NamesStation, SaysMore};
-ghost use Rattle.irig_station_scene.specs.StationScenes.{StationScene, event_in_scene, station_scenario, station_scene};
+ghost use Rattle.irig_station_scene.specs.StationListening.{HasHappened, IsStationOf, NamesStation, ReadsView, SaysMore, StaysBehind};
+ghost use Rattle.irig_station_scene.specs.StationScenes.{StationScene, event_in_scene, station_scene};
 
 use indexmap::IndexSet;
 use irig_port::Port;
@@ -75,5 +75,8 @@ pub trait StationListener: Drop {
             ≡ string_bytes text.old ++ last_of (texts asked) refused x) };
 
     // What is said stays.
-    ghost stays: { (asked : Self.Asked) → Stays station_scenario (texts asked) };
+    ghost stays: { (asked : Self.Asked) → StaysBehind (texts asked).said };
+
+    // It knows where the station stands, and no event that led there.
+    ghost reads: { (asked : Self.Asked) → ReadsView (stands_for asked) (texts asked).said };
 }

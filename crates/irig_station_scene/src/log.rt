@@ -14,7 +14,8 @@ pub struct StationLog {}
 
 impl StationListener for StationLog {
     ghost use Rattle.std.specs.Prelude.{⊤};
-    ghost use Rattle.irig_station_scene.specs.StationStays.{station_said_stays};
+    ghost use Rattle.irig_station_scene.specs.StationStays.{log_stays, reads_log};
+    ghost use Rattle.irig_station_scene.specs.StationText.{station_text};
     ghost use Rattle.irig_station_scene.specs.StationTexts.{station_texts};
 
     type Asked = Shown;
@@ -23,7 +24,10 @@ impl StationListener for StationLog {
 
     ghost stands_for = { λ shown log x. ⊤ };
 
-    ghost stays = { λ shown. station_said_stays shown.all };
+    ghost stays = { λ shown. log_stays shown.all };
+
+    ghost reads = { λ shown. reads_log (λ log plan entries. ⊤)
+        (λ plan. station_text plan.names shown.all) };
 
     fn new(
         _alloc: Global,

@@ -4,13 +4,14 @@ ghost use Rattle.std.specs.Prelude.{false};
 ghost use Rattle.scenario_devices.specs.StationLine.{is_station_line};
 ghost use Rattle.irig_station_scene.specs.StationRuns.{IsStationPlayerAt, StationEnds};
 ghost use Rattle.irig_station_scene.specs.StationScenes.{StationScene, station_entries, station_scenario};
+ghost use Rattle.irig_station_scene.specs.StationStays.{stays_in_lines};
 
 use crate::listener::StationListener;
 use crate::outcome::StationOutcome;
 use crate::player::StationPlayer;
 use irig_device::Watched;
 use irig_port::Port;
-use report_run::{Chosen, Failure, Play, Stop, write_text};
+use report_run::{Chosen, Failure, Play, Stop};
 use scenario_devices::{is_station_line, station_of_line};
 use std::alloc::{AllocError, Global};
 use std::io::Write;
@@ -34,7 +35,7 @@ impl<L: StationListener, P: Port> Play for StationPlayer<L, P> {
 
     ghost counts = { false };
 
-    ghost stays = { L.stays };
+    ghost stays = { λ asked. stays_in_lines (L.texts asked) (L.stays asked) };
 
     fn counts() -> bool {
         false
@@ -63,13 +64,7 @@ impl<L: StationListener, P: Port> Play for StationPlayer<L, P> {
         output: &mut Watched<W>,
     ) -> Result<(), Stop> {
         let event = self.event_of_line(alloc, line)?;
-        let refusal = self.play(&event)?;
-        let text = self.hear(alloc, asked)?;
-        write_text(output, text.as_str())?;
-        match refusal {
-            None => Ok(()),
-            Some(refusal) => Err(Stop::Refused(refusal)),
-        }
+        self.play_event(alloc, asked, &event, output)
     }
 
     fn write_last<W: Write>(

@@ -1,6 +1,6 @@
 //! A station that plays the events of lines, and its listener.
 
-ghost use Rattle.std.specs.Prelude.{◌≡◌, ◌≤◌, length};
+ghost use Rattle.std.specs.Prelude.{◌≡◌, ◌<◌, ◌≤◌, length};
 ghost use Rattle.irig_station_scene.specs.StationScenes.{refusal_of_fault};
 
 use crate::listener::StationListener;
@@ -30,13 +30,14 @@ impl<L: StationListener, P: Port> StationPlayer<L, P> {
     ghost use Rattle.irig_device.specs.Watched.{device_of, has_failed};
     ghost use Rattle.irig_plant.specs.History.{AreGenerators};
     ghost use Rattle.irig_station.specs.declared.event.Event.{Event as EventOf};
+    ghost use Rattle.irig_station.specs.StationStandings.{left_of_second};
     ghost use Rattle.text_faults.specs.Refusals.{IsUnlessMemory};
     ghost use Rattle.scenario_devices.specs.StationEvents.{event_in_station_line};
     ghost use Rattle.scenario_devices.specs.StationLine.{HasDevices, StationPlan, station_of};
     ghost use Rattle.report_run.specs.declared.stop.Failure.TheVariants.{Memory};
     ghost use Rattle.report_run.specs.Faults.{WroteText, failed_write};
     ghost use Rattle.report_run.specs.Texts.{last_of};
-    ghost use Rattle.irig_station_scene.specs.StationScenes.{StationScene, event_in_scene, station_audit, station_log, station_scene};
+    ghost use Rattle.irig_station_scene.specs.StationScenes.{StationScene, event_in_scene, standing_in, station_audit, station_log, station_scene};
     ghost use Rattle.irig_station_scene.specs.StationRuns.{IsStationPlayerAt, IsStationPlayerPast, PlaysEventOf};
 
     /// The player of a station to which nothing has happened.
@@ -101,6 +102,17 @@ impl<L: StationListener, P: Port> StationPlayer<L, P> {
             Some(refusal) => Ok(Some(refusal)),
             None => Err(Failure::Memory),
         }
+    }
+
+    /// How many microseconds are left of the station's present second; where one ends, a whole one.
+    pub(crate) fn left_us(&self) -> u64
+        ensures some { 0 < result }
+        ensures most { result ≤ 1000000 }
+        ensures value { (asked : L.Asked) (x : StationScene)
+            → IsStationPlayerAt (L.stands_for asked) self.now x
+            → result ≡ left_of_second (standing_in x) }
+    {
+        self.station.left_us()
     }
 
     /// What is said of an event that was played, whose entries stand in the log. `Memory` if there

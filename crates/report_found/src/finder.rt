@@ -93,7 +93,7 @@ impl Listener for Finder {
 }
 
 impl StationListener for Finder {
-    ghost use Rattle.irig_station_scene.specs.StationStays.{quiet_stays};
+    ghost use Rattle.irig_station_scene.specs.StationStays.{quiet_reads, quiet_stays};
     ghost use Rattle.irig_station_scene.specs.StationTexts.{quiet_texts};
 
     type Asked = ();
@@ -103,6 +103,9 @@ impl StationListener for Finder {
     ghost stands_for = { λ asked finder x. IsFinderAtStation finder x };
 
     ghost stays = { λ asked. quiet_stays };
+
+    ghost reads = { λ asked. quiet_reads (λ finder plan entries.
+        HasFoundSoFar finder plan.setup (reverse entries)) };
 
     fn new(
         alloc: Global,

@@ -104,9 +104,9 @@ impl Listener for Drawer {
 }
 
 impl StationListener for Drawer {
-    ghost use Rattle.irig_station_scene.specs.StationStays.{quiet_stays};
+    ghost use Rattle.irig_station_scene.specs.StationStays.{quiet_reads, quiet_stays};
     ghost use Rattle.irig_station_scene.specs.StationTexts.{quiet_texts};
-    ghost use Rattle.report_lanes.specs.DeviceRuns.{IsDrawerAtStation};
+    ghost use Rattle.report_lanes.specs.DeviceRuns.{HasDrawnSoFar, IsDrawerAtStation};
 
     type Asked = ();
 
@@ -115,6 +115,9 @@ impl StationListener for Drawer {
     ghost stands_for = { λ asked drawer x. IsDrawerAtStation drawer x };
 
     ghost stays = { λ asked. quiet_stays };
+
+    ghost reads = { λ asked. quiet_reads (λ drawer plan entries.
+        HasDrawnSoFar drawer plan.setup (reverse entries)) };
 
     fn new(
         alloc: Global,

@@ -1,9 +1,5 @@
-use Rattle.std.proofs.Common.{rules, ◌≡◌, ◌∙◌, sym, subst}
-use Rattle.std.specs.Io.KnownBytes.{Appends}
-use Rattle.std.specs.Prelude.{string_bytes}
-use Rattle.irig_device.specs.Watched.{AppendsPart}
 use Rattle.std.proofs.lemmas.Result.{err_from_is_err_and}
-use Rattle.irig_station_scene.proofs.EventLaws.{line_stops, line_fails, writing_fails, event_taken, event_refused}
+use Rattle.irig_station_scene.proofs.EventLaws.{line_stops, of_event}
 use Rattle.irig_station_scene.proofs.play.StationPlayerPlay.take.Goals as goal
 
 pub returns-in_err-event-clause-takes : goal.returns-in_err-event-clause-takes
@@ -11,47 +7,10 @@ returns-in_err-event-clause-takes g c =
     let p = err_from_is_err_and c.from_residual.result c.from_residual.ensures.1 in
     let asked = c.args.asked in
     rw (p.1, p.2) (λ x first stands.
-    line_stops {g = g.P.Port} (g.L.StationListener.stands_for asked) (g.L.StationListener.texts asked) (g.met.L.StationListener.stays asked) x _ first _ _ _ (c.in_err-event.ensures asked x stands) stands)
-
-pub returns-in_err-refusal-clause-takes : goal.returns-in_err-refusal-clause-takes
-returns-in_err-refusal-clause-takes g c =
-    let p = err_from_is_err_and c.from_residual-in_err-refusal.result c.from_residual-in_err-refusal.ensures.1 in
-    let asked = c.args.asked in
-    rw (p.1, p.2) (λ x first stands.
-    line_fails {g = g.P.Port} (g.L.StationListener.stands_for asked) (g.L.StationListener.texts asked) (g.met.L.StationListener.stays asked) x _ first c.in_err-refusal.field-0.0 c.play.new.self _)
-
-pub returns-in_err-text-clause-takes : goal.returns-in_err-text-clause-takes
-returns-in_err-text-clause-takes g c =
-    let p = err_from_is_err_and c.from_residual-in_err-text.result c.from_residual-in_err-text.ensures.1 in
-    let asked = c.args.asked in
-    rw (p.1, p.2) (λ x first stands.
-    line_fails {g = g.P.Port} (g.L.StationListener.stands_for asked) (g.L.StationListener.texts asked) (g.met.L.StationListener.stays asked) x _ first c.in_err-text.field-0.0 c.hear.new.self _)
-
-pub returns-in_err-write_text-clause-takes : goal.returns-in_err-write_text-clause-takes
-returns-in_err-write_text-clause-takes g c =
-    let p = err_from_is_err_and c.from_residual-in_err-write_text.result c.from_residual-in_err-write_text.ensures.1 in
-    let asked = c.args.asked in
-    rw (p.1, p.2) (λ x first stands.
-    let played = c.in_ok-refusal.ensures.plays x stands.shown stands.stands in
-    let listens = subst (λ l. g.L.StationListener.stands_for asked l x) (sym c.in_ok-refusal.ensures.listener) stands.listener in
-    let same : c.as_str.result.now ≡ string_bytes c.in_ok-text.text = search rules in
-    writing_fails {g = g.P.Port} (g.L.StationListener.stands_for asked) (g.L.StationListener.texts asked) (g.met.L.StationListener.stays asked) x _ first _ (c.in_ok-event.ensures asked x stands)
-    _ (c.in_ok-text.ensures.said x c.in_ok-event.event listens played.1) c.in_err-write_text.field-0.0 c.hear.new.self _ _ (subst (AppendsPart _ _) same c.in_err-write_text.ensures.wrote))
-
-pub returns-in-None-clause-takes : goal.returns-in-None-clause-takes
-returns-in-None-clause-takes g c = λ x first stands.
-    let asked = c.args.asked in
-    let played = c.in_ok-refusal.ensures.plays x stands.shown stands.stands in
-    let listens = subst (λ l. g.L.StationListener.stands_for asked l x) (sym c.in_ok-refusal.ensures.listener) stands.listener in
-    let same : c.as_str.result.now ≡ string_bytes c.in_ok-text.text = search rules in
-    event_taken {g = g.P.Port} (g.L.StationListener.stands_for asked) (g.L.StationListener.texts asked) (g.met.L.StationListener.stays asked) x _ first _ (c.in_ok-event.ensures asked x stands)
-    _ (c.in_ok-text.ensures.said x c.in_ok-event.event listens played.1) _ _ _ (played.0 ∙ c.in-None.is) (c.in_ok-text.ensures.stands x c.in_ok-event.event listens played.1) (subst (Appends _ _) same c.in_ok-write_text.ensures.wrote)
+    line_stops {g = g.P.Port} (g.L.StationListener.stands_for asked) (g.L.StationListener.texts asked) (g.met.L.StationListener.stays asked) x first _ _ _ _ (c.in_err-event.ensures asked x stands) stands)
 
 pub returns-clause-takes : goal.returns-clause-takes
 returns-clause-takes g c = λ x first stands.
     let asked = c.args.asked in
-    let played = c.in_ok-refusal.ensures.plays x stands.shown stands.stands in
-    let listens = subst (λ l. g.L.StationListener.stands_for asked l x) (sym c.in_ok-refusal.ensures.listener) stands.listener in
-    let same : c.as_str.result.now ≡ string_bytes c.in_ok-text.text = search rules in
-    event_refused {g = g.P.Port} (g.L.StationListener.stands_for asked) (g.L.StationListener.texts asked) (g.met.L.StationListener.stays asked) x _ first _ (c.in_ok-event.ensures asked x stands)
-    _ (c.in_ok-text.ensures.said x c.in_ok-event.event listens played.1) c.in-Some.refusal _ _ _ (played.0 ∙ c.in-Some.is) (c.in_ok-text.ensures.stands x c.in_ok-event.event listens played.1) (subst (Appends _ _) same c.in_ok-write_text.ensures.wrote)
+    of_event {g = g.P.Port} (g.L.StationListener.stands_for asked) (g.L.StationListener.texts asked) (g.met.L.StationListener.stays asked) x first _ c.in_ok-event.event (c.in_ok-event.ensures asked x stands)
+    _ _ _ _ (c.play_event.ensures.takes x first stands)
