@@ -92,14 +92,14 @@ fn reach_after(reach: Option<Reach>, told: &ToldSecond) -> Option<Reach>
     }
 }
 
-/// That of each of some devices; none of one that announced nothing.
+/// How far off the seconds of each device lay; none of one that announced nothing.
 #[derive(Drop)]
 pub(crate) struct Reaches {
     each: Vec<Option<Reach>>,
 }
 
 impl Reaches {
-    /// Of so many devices that told nothing.
+    /// That of so many devices that told nothing.
     pub(crate) fn new(alloc: Global, devices: usize) -> Result<Reaches, AllocError>
         ensures { IfOk result (λ reaches. AreReaches reaches devices []) }
     {

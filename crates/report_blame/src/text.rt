@@ -85,7 +85,8 @@ fn push_wrong(text: &mut String, lines: &str, name: &str, wrong: &Wrong) -> Resu
     }
 }
 
-/// Pushes the totals, reader by reader, or device by device; of readers nothing reaches.
+/// Pushes the totals, reader by reader, or device by device. `reaches` has how far off the seconds of
+/// each device lay, and nothing of readers.
 pub(crate) fn push_book_totals(
     text: &mut String,
     lines: &str,
