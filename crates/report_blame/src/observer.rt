@@ -113,9 +113,12 @@ impl<'a> Listener for Observer<'a> {
 }
 
 impl<'a> StationListener for Observer<'a> {
+    ghost use Rattle.irig_station_scene.specs.StationStays.{reads_log};
+    ghost use Rattle.report_found.specs.DeviceScenes.{ended_by_entries};
     ghost use Rattle.report_blame.specs.BlameStays.{blame_stays};
     ghost use Rattle.report_blame.specs.BlameText.{station_blame_texts};
     ghost use Rattle.report_blame.specs.DeviceRuns.{IsObserverAtStation};
+    ghost use Rattle.report_blame.specs.Text.{findings_text};
 
     type Asked = &'a str;
 
@@ -124,6 +127,11 @@ impl<'a> StationListener for Observer<'a> {
     ghost stands_for = { λ asked observer x. IsObserverAtStation observer x };
 
     ghost stays = { λ asked. blame_stays asked.now };
+
+    ghost reads = { λ asked. reads_log
+        (λ observer plan entries. HasSeen observer plan.setup (reverse entries))
+        (λ plan entries. findings_text asked.now plan.names
+        (ended_by_entries plan.setup (reverse entries))) };
 
     fn new(
         alloc: Global,
