@@ -8,10 +8,17 @@ static irig_table table;
 static irig_wires wires;
 static irig_timekeeper timekeeper;
 static uint32_t rise_us[LINES]; /* the leading edge of the pulse that a line has now */
+static uint32_t ticked_us;      /* the last tick */
+
+/* While no edge is known, each frame of a line that is heard alone names a time a second later. A tick
+ * comes all the same. */
+static const uint32_t LONGEST_US = 2000000;
 
 /* Asks for the next tick. Pulses were told up to this time. */
 static void ask(uint32_t now_us) {
-    compare_at(now_us + irig_timekeeper_wait(&timekeeper, now_us));
+    uint32_t wait_us = irig_timekeeper_wait(&timekeeper, now_us);
+    uint32_t left_us = ticked_us + LONGEST_US - now_us;
+    compare_at(now_us + (wait_us < left_us ? wait_us : left_us));
 }
 
 uint32_t capture_init(const irig_setup *wanted, const irig_table *known, const irig_wires *given) {
@@ -19,7 +26,8 @@ uint32_t capture_init(const irig_setup *wanted, const irig_table *known, const i
     table = *known;
     wires = *given;
     uint32_t answer = irig_timekeeper_init(&timekeeper, &setup, &table, &wires);
-    if (answer == IRIG_DONE) ask(timer_now());
+    ticked_us = timer_now();
+    if (answer == IRIG_DONE) ask(ticked_us);
     return answer;
 }
 
@@ -40,5 +48,6 @@ void on_compare(void) {
     if (irig_timekeeper_tick(&timekeeper, now_us, &second) != IRIG_DONE)
         irig_timekeeper_init(&timekeeper, &setup, &table, &wires);
     else if (second.is_told) on_second(&second);
+    ticked_us = now_us;
     ask(now_us);
 }

@@ -10,12 +10,21 @@ static irig_table table;
 static irig_wires wires;
 static irig_timekeeper timekeeper;
 static bool has_begun;
-static uint32_t told_us; /* pulses were told up to this time */
-static uint32_t due_us;  /* when a tick has something to do */
+static uint32_t told_us;   /* pulses were told up to this time */
+static uint32_t ticked_us; /* the last tick */
+static uint32_t due_us;    /* the next one */
 static bool has_event;
 static uint32_t event_us;
 
-static void ask(void) { due_us = told_us + irig_timekeeper_wait(&timekeeper, told_us); }
+/* While no edge is known, each frame of a line that is heard alone names a time a second later. A tick
+ * comes all the same. */
+static const uint32_t LONGEST_US = 2000000;
+
+static void ask(void) {
+    uint32_t wait_us = irig_timekeeper_wait(&timekeeper, told_us);
+    uint32_t left_us = ticked_us + LONGEST_US - told_us;
+    due_us = told_us + (wait_us < left_us ? wait_us : left_us);
+}
 
 uint32_t poll_init(const irig_setup *wanted, const irig_table *known, const irig_wires *given) {
     setup = *wanted;
@@ -25,6 +34,7 @@ uint32_t poll_init(const irig_setup *wanted, const irig_table *known, const irig
     uint32_t answer = irig_timekeeper_init(&timekeeper, &setup, &table, &wires);
     has_begun = answer == IRIG_DONE;
     told_us = timer_now();
+    ticked_us = told_us;
     ask();
     return answer;
 }
@@ -35,6 +45,7 @@ static void tick(void) {
     if (irig_timekeeper_tick(&timekeeper, told_us, &second) != IRIG_DONE)
         irig_timekeeper_init(&timekeeper, &setup, &table, &wires);
     else if (second.is_told) on_second(&second);
+    ticked_us = told_us;
     ask();
 }
 

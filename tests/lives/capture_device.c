@@ -59,4 +59,4 @@ static void restart(void) { begin(&setup, &table, &wires, timer_us); }
 
 static void flip(uint32_t bit) { ((uint8_t *)&timekeeper)[bit / 8] ^= (uint8_t)(1u << bit % 8); }
 
-const subject capture_subject = {"capture", begin, hear, tick, wait, restart, NULL, NULL, NULL, flip, false};
+const subject capture_subject = {"capture", begin, hear, tick, wait, restart, NULL, NULL, NULL, flip, false, true};

@@ -112,7 +112,7 @@ static uint64_t stamped_time(life *l) {
 void tick(life *l, uint64_t now_us) {
     device *d = &l->device;
     irig_second s = {0};
-    bool is_due = d->is_asked && now_us >= d->due_us;
+    bool is_due = d->is_asked && now_us >= d->due_us && !l->judge.subject->ticks_anyway;
     d->now_us = now_us;
     uint32_t answer = l->judge.subject->tick((uint32_t)now_us, &s);
     judge_tick(&l->judge, now_us, answer, &s, is_due);

@@ -47,7 +47,7 @@ static uint32_t line(uint8_t number, irig_line_said *said) {
 
 void flip_library(uint32_t bit) { ((uint8_t *)&keeper)[bit / 8] ^= (uint8_t)(1u << bit % 8); }
 
-const subject library_subject = {"library", begin, hear, tick, wait, restart, stamp, rate, line, NULL, false};
+const subject library_subject = {"library", begin, hear, tick, wait, restart, stamp, rate, line, NULL, false, false};
 
 /* ---- with the model */
 
@@ -103,4 +103,4 @@ static void restart_both(void) {
 }
 
 const subject both_subject = {"both", begin_both, hear_both, tick_both, wait_both, restart_both,
-                              stamp_both, rate_both, line, NULL, false};
+                              stamp_both, rate_both, line, NULL, false, false};

@@ -585,4 +585,4 @@ static uint32_t begin(const irig_setup *setup, const irig_table *table, const ir
     return IRIG_DONE;
 }
 
-const subject model_subject = {"model", begin, hear, tick, wait, restart, stamp, rate, NULL, NULL, false};
+const subject model_subject = {"model", begin, hear, tick, wait, restart, stamp, rate, NULL, NULL, false, false};

@@ -128,4 +128,4 @@ static void flip(uint32_t bit) {
     flip_library(bit);
 }
 
-const subject poll_subject = {"poll", begin, hear, tick_at, wait, restart, stamp, NULL, NULL, flip, true};
+const subject poll_subject = {"poll", begin, hear, tick_at, wait, restart, stamp, NULL, NULL, flip, true, true};

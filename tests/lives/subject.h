@@ -16,6 +16,7 @@ typedef struct subject {
     uint32_t (*line)(uint8_t line, irig_line_said *);  /* or null */
     void (*flip)(uint32_t bit); /* a bit of one that then begins afresh, or null */
     bool is_by_wait;            /* it has no other ticks */
+    bool ticks_anyway;          /* if wait puts the tick off for long, though it has nothing to do */
 } subject;
 
 enum { DIFFERS = 200 }; /* what a subject answers where two have to answer alike, and do not */
