@@ -59,10 +59,11 @@ use text_frame::{FrameText, ReadingFault, frame_lines, frame_text};
 pub use told::IrigDeviceEntry;
 use told_log::{hear_devices, write_told};
 
-// Of the texts of frames: written; and not, for a text that is none of a second or of a frame, or a
-// number without a meaning; and for lack of memory.
+// Of the texts of frames: written; not, for a text or a number that means nothing; without memory not.
 const DONE: u8 = 0;
+
 const BAD_TEXT: u8 = 1;
+
 const NO_MEMORY: u8 = 6;
 
 /// Runs a scenario, and writes as much of its log into `log` as that has room for; with `all` the
@@ -186,18 +187,19 @@ pub extern "C" fn irig_scene_c_run_entries(
     *verdict = verdict_for_c(&run.answer);
     *whole = write_entries(entries, &run);
     let Run {
-        answer, refused, ..
+        answer,
+        refused,
+        ..
     } = run;
     *refusal = run::explain(alloc, &answer, &why_of_readers(refused), reason);
     run::status_of(&answer)
 }
 
 /// A run of a plant of readers or of devices, of which is written into `stretches` who lied and what
-/// it cost, as many as it has room for: of a plant of readers for each line of `irig blame` but the
-/// totals and the last one a stretch, in their order. Of a plant of devices a device is a reader, its
-/// lines are the ports, and each second that it told is a tick at the true edge to which it lies
-/// nearest. `whole` is then how many there are, and `verdict` says whether the premises held.
-/// The answers are those of [`irig_scene_c_run_entries`].
+/// it cost, as many as it has room for: for each line of `irig blame` but the totals and the last one
+/// a stretch, in their order. A device is a reader there, its lines are the ports, and each second that
+/// it told is a tick at the nearest true edge. `whole` is then how many there are, and `verdict` says
+/// whether the premises held. The answers are those of [`irig_scene_c_run_entries`].
 #[unsafe(no_mangle)]
 pub extern "C" fn irig_scene_c_run_stretches(
     alloc: Global,
@@ -234,8 +236,7 @@ pub extern "C" fn irig_scene_c_run_stretches(
 /// The same run, of which is written into `lanes` what a picture of it shows, as many as it has room
 /// for: each lane where its reader's next tick ends it, and each mark at its tick, and then the lanes
 /// that are open, reader by reader. `whole` is then how many there are, and `verdict` says whether the
-/// premises held.
-/// The answers are those of [`irig_scene_c_run_entries`].
+/// premises held. The answers are those of [`irig_scene_c_run_entries`].
 #[unsafe(no_mangle)]
 pub extern "C" fn irig_scene_c_run_lanes(
     alloc: Global,

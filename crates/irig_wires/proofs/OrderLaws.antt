@@ -457,24 +457,24 @@ ends_join None next other = refl
 ends_join (Some f) None other = refl
 ends_join (Some f) (Some g) other = elim (cases_Bool (nat_lt g.flight.end_us f.flight.end_us)) [
   | inl under ↦ elim (cases_Bool (nat_le g.flight.end_us other.time_us)) [
-      | inl soon ↦
-          let later : nat_le f.flight.end_us g.flight.end_us ≡ false = lt-leb f.flight.end_us g.flight.end_us (ltb-true g.flight.end_us f.flight.end_us under) in
-          rw (under, soon, later) refl
-      | inr late ↦
-          let later : nat_le f.flight.end_us other.time_us ≡ false = lt-leb f.flight.end_us other.time_us (omega (arith, leb-false g.flight.end_us other.time_us late, ltb-true g.flight.end_us f.flight.end_us under)) in
-          rw (under, late, later) refl
-    ]
+    | inl soon ↦
+        let later : nat_le f.flight.end_us g.flight.end_us ≡ false = lt-leb f.flight.end_us g.flight.end_us (ltb-true g.flight.end_us f.flight.end_us under) in
+        rw (under, soon, later) refl
+    | inr late ↦
+        let later : nat_le f.flight.end_us other.time_us ≡ false = lt-leb f.flight.end_us other.time_us (omega (arith, leb-false g.flight.end_us other.time_us late, ltb-true g.flight.end_us f.flight.end_us under)) in
+        rw (under, late, later) refl
+  ]
   | inr over ↦ elim (cases_Bool (nat_le f.flight.end_us other.time_us)) [
-      | inl soon ↦ elim (cases_Bool (nat_le g.flight.end_us other.time_us)) [
-          | inl both ↦
-              let first : nat_le f.flight.end_us g.flight.end_us ≡ true = le-leb f.flight.end_us g.flight.end_us (ltb-false g.flight.end_us f.flight.end_us over) in
-              rw (over, both, first, soon) refl
-          | inr one ↦ rw (over, one, soon) refl
-        ]
-      | inr late ↦
-          let none : nat_le g.flight.end_us other.time_us ≡ false = lt-leb g.flight.end_us other.time_us (omega (arith, leb-false f.flight.end_us other.time_us late, ltb-false g.flight.end_us f.flight.end_us over)) in
-          rw (over, none, late) refl
+    | inl soon ↦ elim (cases_Bool (nat_le g.flight.end_us other.time_us)) [
+      | inl both ↦
+          let first : nat_le f.flight.end_us g.flight.end_us ≡ true = le-leb f.flight.end_us g.flight.end_us (ltb-false g.flight.end_us f.flight.end_us over) in
+          rw (over, both, first, soon) refl
+      | inr one ↦ rw (over, one, soon) refl
     ]
+    | inr late ↦
+        let none : nat_le g.flight.end_us other.time_us ≡ false = lt-leb g.flight.end_us other.time_us (omega (arith, leb-false f.flight.end_us other.time_us late, ltb-false g.flight.end_us f.flight.end_us over)) in
+        rw (over, none, late) refl
+  ]
 ]
 
 -- so what happens next is found line by line

@@ -6,9 +6,9 @@ ghost use Rattle.report_run.specs.EitherStays.{either_stays};
 
 use crate::chosen::Chosen;
 use crate::either::{Either, EitherOutcome};
-use irig_device::Watched;
 use crate::play::Play;
 use crate::stop::{Failure, Stop};
+use irig_device::Watched;
 use std::alloc::Global;
 use std::io::Write;
 
