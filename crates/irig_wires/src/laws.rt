@@ -69,9 +69,9 @@ pub fn a_line_left_alone_loses_none()
         → AreElements (sendings calls) → carried late calls ≡ as_sent late (sendings calls) }
 {}
 
-/// What `next` answers comes first of all that is to come, and nothing else does; what `next_end`
-/// answers is the end that comes first. When generators send next, no line has a pulse that has ended
-/// and was not taken.
+/// What `next` answers comes first of all that is to come, and nothing else does; of ends alone the
+/// first is `next_end`, by its definition. When generators send next, no line has a pulse that has
+/// ended and was not taken.
 pub fn what_comes_next_comes_first()
     ensures next { (wires : Wires) (tick : Option ℕ) (send : ℕ) (coming : Coming)
         → ComesFirst wires tick send coming ↔ (coming ≡ coming_of wires tick send) }

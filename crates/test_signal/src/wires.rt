@@ -37,7 +37,7 @@ fn send(time_us: u64) -> Coming {
 fn what_happens_to_a_device_comes_in_order(rt: HostRuntime) {
     let mut wires = Wires::new(&[0, 350, 700]);
     wires.be_late(2, 350);
-    assert!(rt; wires.next_end().is_none() && wires.next(Some(8_350), 0) == send(0));
+    assert!(rt; wires.flight(0).is_none() && wires.next(Some(8_350), 0) == send(0));
     for line in 0u8..3 {
         wires.send(line, 0, 8_000);
     }
