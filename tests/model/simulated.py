@@ -11,6 +11,7 @@ from .wires import END, SECOND, SEND, TICK, Cable, first_shown, next_of, shown
 
 WITHIN = 450  # a pulse rises less than so far from its place
 ELEMENT = 10_000
+LONGEST = 2_000_000  # from tick to tick of a device that is ticked as it asks
 WIDTHS = {"0": 2_000, "1": 5_000, "P": 8_000}
 
 
@@ -59,9 +60,11 @@ class Simulated:
     # ---- when it is ticked
 
     def end_of_wait(self, now: int, least: int) -> int:
-        """When what it asks to wait is over, and its counter shows so much more at least."""
-        wait = max(least, self.keeper.wait(self.count(now) % WRAP))
-        return max(now, first_shown(self.setup.counter, self.setup.gain, self.count(now) + wait))
+        """When what it asks to wait is over, or 2 s behind its last tick, and its counter shows so much more at
+        least."""
+        count = self.count(now)
+        wait = min(self.keeper.wait(count % WRAP), self.premises.last_tick + LONGEST - count)
+        return max(now, first_shown(self.setup.counter, self.setup.gain, count + max(least, wait)))
 
     def tick_behind(self, now: int, least: int) -> int | None:
         """Its next tick, behind one that comes now, or behind its begin."""

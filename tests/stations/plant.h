@@ -224,7 +224,8 @@ extern uint64_t counts[COUNTED];
     X(FORGETS_FLIGHTS)   /* or forgets what is on its way */                                       \
     X(STAMPS_BEFORE)     /* a stamp is by the second before */                                     \
     X(BOUND_STAYS)       /* a bound does not grow in holdover */                                   \
-    X(TICKS_BY_TIME)     /* a device waits by true time, and not by its counter */                 \
+    X(TICKS_BY_TIME)     /* a device waits by true time, and not by its counter, */                \
+    X(PUTS_OFF_TICKS)    /* or for longer than 2 s */                                              \
     X(ROUNDS_UP)         /* a counter shows what comes next */                                     \
     X(FAULTS_AT_ONCE)    /* a fault within a second begins with that frame */                      \
     X(STICKS_BEFORE)     /* a generator that is stuck repeats the frame before */                  \

@@ -11,6 +11,7 @@ enum {
     MOST_ENTRIES = 12000,
     MOST_RISEN = 2048, /* on a line, in 1.2 s */
     STUCK_US = 500000,
+    LONGEST_US = 2000000, /* from tick to tick of a device that is ticked as it asks */
     GAP_US = 1799496000
 };
 static const uint64_t NEVER = UINT64_MAX / 8;
@@ -167,10 +168,12 @@ static void ask_for_truth(uint64_t now) {
 
 /* ---- ticks */
 
-/* It asks how long to wait. It is not ticked twice at one count. */
+/* It asks how long to wait, and is never left without a tick for long. It is not ticked twice at one
+ * count. */
 static void ask_wait(void) {
-    uint64_t now = count_at(d.now_us);
+    uint64_t now = count_at(d.now_us), latest = d.last_tick + LONGEST_US;
     uint64_t due = now + model_subject.wait((uint32_t)now);
+    if (due > latest && !has_mistake(PUTS_OFF_TICKS)) due = latest;
     if (d.has_ticked && due <= d.last_tick) due = d.last_tick + 1;
     uint64_t due_us = has_mistake(TICKS_BY_TIME) ? d.now_us + (due - now) : time_of(due);
     d.tick_us = due_us > d.now_us ? due_us : d.now_us;

@@ -308,20 +308,25 @@ module _ (k : Kind) (moves : MovesOn k) (slow : k.rate ≤ 1001000) where
       | inr wide ↦ absurd (let none : 0 ≡ 100 = rw wide at last in omega (arith, none))
     ]
 
-    -- what it names then
-    named_is : place_heard k x.calls x.now e ≡ 100 → named new x.calls call ≡ count k x.now + wait_after k (call ∷ x.calls) x.now
-    named_is last = ap (λ (n : ℕ). n + wait_at (after_calls new (call ∷ x.calls)) (n % 2 ^ 32)) (made_last last)
+    -- what it asks for then, but for how long it may be without a tick
+    asked_is : place_heard k x.calls x.now e ≡ 100 → wait_at (after_calls new (call ∷ x.calls)) (made_at call % 2 ^ 32) ≡ wait_at (keeping_after k.made (call ∷ x.calls)) (count k x.now % 2 ^ 32)
+    asked_is last = ap (λ (n : ℕ). wait_at (after_calls new (call ∷ x.calls)) (n % 2 ^ 32)) (made_last last)
+
+    -- it waits no longer than to the time that it names then
+    named_is : place_heard k x.calls x.now e ≡ 100 → count k x.now + wait_after k x.start (call ∷ x.calls) x.now ≤ named new x.calls call
+    named_is last = (let asked = asked_is last in let made = made_last last in omega (arith, asked, made))
 
     -- what was named before serves no later than the tick that was to come
     still_served : (time : ℕ) → place_heard k x.calls x.now e ≡ 100 → (place_heard k x.calls x.now e == 100) ≡ true → count k x.now ≤ time
-        → served_by new x.calls e.line (count k e.flight.rise_us) (width_by k e.flight.rise_us x.now) (count k (counted_on k.first k.rate x.now (wait_after k (call ∷ x.calls) x.now))) ≤ time
+        → served_by new x.calls e.line (count k e.flight.rise_us) (width_by k e.flight.rise_us x.now) (count k (counted_on k.first k.rate x.now (wait_after k x.start (call ∷ x.calls) x.now))) ≤ time
     still_served time last asks later =
         let wait = wait_at (after_calls new (call ∷ x.calls)) (made_at call % 2 ^ 32) in
-        let same : wait ≡ wait_after k (call ∷ x.calls) x.now = ap (λ (n : ℕ). wait_at (after_calls new (call ∷ x.calls)) (n % 2 ^ 32)) (made_last last) in
+        let same = asked_is last in
         elim (cases_Bool (wait == 0)) [
           | inl over ↦
-              let none : wait_after k (call ∷ x.calls) x.now ≡ 0 = sym same ∙ eqb-true wait 0 over in
-              let at : counted_on k.first k.rate x.now (wait_after k (call ∷ x.calls) x.now) ≡ x.now = ap (counted_on k.first k.rate x.now) none ∙ counted_now k.first k.rate x.now moves.counts in
+              let zero = eqb-true wait 0 over in
+              let none : wait_after k x.start (call ∷ x.calls) x.now ≡ 0 = omega (arith, same, zero) in
+              let at : counted_on k.first k.rate x.now (wait_after k x.start (call ∷ x.calls) x.now) ≡ x.now = ap (counted_on k.first k.rate x.now) none ∙ counted_now k.first k.rate x.now moves.counts in
               rw (asks, over) (subst (λ (n : ℕ). count k n ≤ time) (sym at) later)
           | inr ahead ↦ rw (asks, ahead) (let made = made_last last in omega (arith, made, later))
         ]
@@ -337,7 +342,7 @@ module _ (k : Kind) (moves : MovesOn k) (slow : k.rate ≤ 1001000) where
           }
       | inl asks ↦
           let r = h.ready is in
-          let wait = wait_after k (call ∷ x.calls) x.now in
+          let wait = wait_after k x.start (call ∷ x.calls) x.now in
           let most = counted_most k.first k.rate x.now wait moves.counts slow in
           let later = counted_by x.now r.time (tick_at x r.time h.tick r.tick) in
           record {
@@ -354,13 +359,13 @@ module _ (k : Kind) (moves : MovesOn k) (slow : k.rate ≤ 1001000) where
     tick_heard : (us : ℕ) → k.ticking ≡ Each us → (heard k x e).tick ≡ x.tick
     tick_heard us is = elim (cases_Bool (place_heard k x.calls x.now e == 100)) [
       | inr other ↦ rw other refl
-      | inl asks ↦ rw asks (ap (λ (t : Ticking). tick_after_frame t k.first k.rate x.now (wait_after k (call ∷ x.calls) x.now) x.tick) is)
+      | inl asks ↦ rw asks (ap (λ (t : Ticking). tick_after_frame t k.first k.rate x.now (wait_after k x.start (call ∷ x.calls) x.now) x.tick) is)
     ]
 
     not_before_heard : IsNotBefore (heard k x e).tick x.now
     not_before_heard = elim (cases_Bool (place_heard k x.calls x.now e == 100)) [
       | inr other ↦ rw other h.tick
-      | inl asks ↦ rw asks (frame_to_come k.ticking k.first k.rate x.now (wait_after k (call ∷ x.calls) x.now) x.tick h.tick)
+      | inl asks ↦ rw asks (frame_to_come k.ticking k.first k.rate x.now (wait_after k x.start (call ∷ x.calls) x.now) x.tick h.tick)
     ]
 
     heard_on : IsOnLoop (heard k x e)
@@ -380,7 +385,7 @@ module _ (k : Kind) (moves : MovesOn k) (slow : k.rate ≤ 1001000) where
 
   module _ (x : Course) (h : IsOnLoop x) where
     abbrev wait : ℕ
-    wait = max 1 (wait_after k (Tick (count k x.now) ∷ x.calls) x.now)
+    wait = max 1 (wait_after k x.start (Tick (count k x.now) ∷ x.calls) x.now)
 
     pub ticked_on : IsOnLoop (ticked k x)
     ticked_on = record {
@@ -472,22 +477,22 @@ module _ (k : Kind) (moves : MovesOn k) (slow : k.rate ≤ 1001000) where
   begins_on : (x : Course) → x.calls ≡ [] → x.start ≡ count k x.now → x.tick ≡ tick_at_first k x.now → AreAhead x.now x.wires → x.now ≤ x.send → IsOnLoop x
   begins_on x none start tick wires send = record {
     wires = wires;
-    tick = subst (λ (o : Option ℕ). IsNotBefore o x.now) (sym tick) (tick_to_come k.ticking k.first k.rate x.now (wait_after k [] x.now));
+    tick = subst (λ (o : Option ℕ). IsNotBefore o x.now) (sym tick) (tick_to_come k.ticking k.first k.rate x.now (wait_after k (count k x.now) [] x.now));
     send = send;
     by = subst (λ (c : List Call). latest x.start c ≤ count k x.now) (sym none) (omega (arith, start));
     turn = subst (InTurn x.start) (sym none) tt;
     ready = λ is.
         record {
-          time = counted_on k.first k.rate x.now (wait_after k [] x.now);
-          tick = tick ∙ ap (λ (t : Ticking). next_tick t k.first k.rate x.now (wait_after k [] x.now)) is;
-          soon = subst (SoonBehind 2 new (count k (counted_on k.first k.rate x.now (wait_after k [] x.now)))) (sym none) tt;
+          time = counted_on k.first k.rate x.now (wait_after k (count k x.now) [] x.now);
+          tick = tick ∙ ap (λ (t : Ticking). next_tick t k.first k.rate x.now (wait_after k (count k x.now) [] x.now)) is;
+          soon = subst (SoonBehind 2 new (count k (counted_on k.first k.rate x.now (wait_after k (count k x.now) [] x.now)))) (sym none) tt;
         };
     goes = λ is. subst (GoesSoon 2 new) (sym none) tt;
     due = λ us is few.
         (let most = each_most k.first k.rate x.now us slow few in
         record {
           time = x.now + us;
-          tick = tick ∙ ap (λ (t : Ticking). next_tick t k.first k.rate x.now (wait_after k [] x.now)) is;
+          tick = tick ∙ ap (λ (t : Ticking). next_tick t k.first k.rate x.now (wait_after k (count k x.now) [] x.now)) is;
           soon = subst (λ (c : List Call). count k (x.now + us) ≤ last_tick x.start c + 95000) (sym none) (omega (arith, start, most));
         });
     each = λ us is few. subst (TicksSo 95000 x.start) (sym none) tt;

@@ -36,7 +36,7 @@ use Rattle.irig_wires.proofs.OscillatorLaws.{at_edges, monotone, rate_near}
 use Rattle.irig_witness.specs.declared.device.Device.{Device}
 use Rattle.irig_witness.specs.Elements.{element_near}
 use Rattle.irig_witness.specs.Witness.{HaveEnded, IsSaidOf}
-use Rattle.irig_witness.specs.Devices.{HearsOn, IsDeviceOf, element_on, risen_on}
+use Rattle.irig_witness.specs.Devices.{HearsOn, IsDeviceOf, element_on, risen_on, wait_until_asked}
 use Rattle.irig_simulated.specs.declared.second.Second.{Second}
 use Rattle.irig_simulated.specs.declared.simulated.Simulated.{Simulated}
 use Rattle.irig_simulated.specs.Kinds.{Kind, count, no_delay}
@@ -146,9 +146,8 @@ module _ {P : Type 0} {g : Ghosts P} (s : Simulated P g) (k : Kind) (symbol : �
 
 -- how long it asks to wait
 pub waited : {P : Type 0} {g : Ghosts P} (device : Device P g) (k : Kind) (symbol : ℕ → ℕ → Symbol) (start now wait time : ℕ) (calls : List Call) → IsDeviceOf device k.made symbol start calls
-    → ForKeeping device.keeper (λ keeping. wait ≡ wait_at keeping (now % 2 ^ 32)) → now ≡ count k time → wait ≡ wait_after k calls time
-waited device k symbol start now wait time calls is says at =
-    says (keeping_after k.made calls) (keeping_is device.keeper k.made calls is.lived) ∙ ap (λ (n : ℕ). wait_at (keeping_after k.made calls) (n % 2 ^ 32)) at
+    → ((made : MadeOf) (symbol : ℕ → ℕ → Symbol) (start : ℕ) (calls : List Call) → IsDeviceOf device made symbol start calls → wait ≡ wait_until_asked made start calls now) → now ≡ count k time → wait ≡ wait_after k start calls time
+waited device k symbol start now wait time calls is says at = says k.made symbol start calls is ∙ ap (wait_until_asked k.made start calls) at
 
 -- what it answers
 pub answered : {P : Type 0} {g : Ghosts P} (device : Device P g) (k : Kind) (symbol : ℕ → ℕ → Symbol) (start now time : ℕ) (beat : Option Beat) (calls : List Call) → IsDeviceOf device k.made symbol start calls

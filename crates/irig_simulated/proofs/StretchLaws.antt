@@ -130,7 +130,7 @@ module _ (k : Kind) (moves : MovesOn k) (signal : (line element : ℕ) → Optio
 
   tick_less : (x : Course) (now : ℕ) → (next x).what ≡ Tick → (next x).time_us ≤ now → due (ticked k (then_at x now)) < due (then_at x now)
   tick_less x now is past =
-      let none : tick_due (ticked k (then_at x now)).tick now ≡ 0 = later_tick k.ticking k.first k.rate now (wait_after k (ticked k (then_at x now)).calls now) moves.counts moves.later in
+      let none : tick_due (ticked k (then_at x now)).tick now ≡ 0 = later_tick k.ticking k.first k.rate now (wait_after k x.start (ticked k (then_at x now)).calls now) moves.counts moves.later in
       let at : x.tick ≡ Some (next x).time_us = ((comes_first x.wires x.tick x.send).is_tick is).0 in
       let was : tick_due x.tick now ≡ 1 = (let come : nat_le (next x).time_us now ≡ true = le-leb _ _ past in rw (at, come) refl) in
       omega (arith, none, was)

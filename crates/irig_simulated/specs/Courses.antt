@@ -7,7 +7,7 @@ use Rattle.irig_frame.specs.Symbols.{width_of}
 use Rattle.irig_sync.specs.Sync.{clock_gap}
 use Rattle.irig_timekeeper.specs.declared.clock.Beat.{Beat}
 use Rattle.irig_timekeeper.specs.declared.stamp.Stamp.{Stamp}
-use Rattle.irig_timekeeper.specs.Keeping.{answer_at, place_told, stamp_at, wait_at}
+use Rattle.irig_timekeeper.specs.Keeping.{answer_at, place_told, stamp_at}
 use Rattle.irig_timekeeper.specs.Life.{Call}
 use Rattle.irig_timekeeper.specs.Life.Call.{Hear, Tick}
 use Rattle.irig_timekeeper.specs.Lived.{keeping_after}
@@ -22,6 +22,7 @@ use Rattle.irig_wires.specs.Oscillator.{counter_at, edges_by, time_of}
 use Rattle.irig_wires.specs.Wires.{sent, wire_at, wires_of, with_wire}
 use Rattle.irig_wires.specs.Happenings.{coming_of}
 use Rattle.irig_wires.specs.Order.{behind_end}
+use Rattle.irig_witness.specs.Devices.{wait_until_asked}
 use Rattle.irig_witness.specs.Witness.{is_kept, lines_by}
 use Rattle.irig_simulated.specs.declared.setup.Ticking.{Ticking}
 use Rattle.irig_simulated.specs.declared.setup.Ticking.TheVariants.{ByWait, Each, ByHand}
@@ -42,9 +43,9 @@ pub record Course : Type 0 where
 
 -- ---- when it is ticked
 
--- how long it asks to wait at a time
-abbrev pub wait_after : Kind → List Call → (time : ℕ) → ℕ
-wait_after k calls time = wait_at (keeping_after k.made calls) (count k time % 2 ^ 32)
+-- how long it asks at a time to wait, in a life that began when its counter showed so much
+abbrev pub wait_after : Kind → (start : ℕ) → List Call → (time : ℕ) → ℕ
+wait_after k start calls time = wait_until_asked k.made start calls (count k time)
 
 -- when a counter first shows so much more than at a time, and not before that time
 abbrev pub counted_on : (first rate time more : ℕ) → ℕ
@@ -64,7 +65,7 @@ tick_after_frame _ first rate time wait tick = tick
 
 -- when it is made or restarted at a time
 abbrev pub tick_at_first : Kind → (time : ℕ) → Option ℕ
-tick_at_first k time = next_tick k.ticking k.first k.rate time (wait_after k [] time)
+tick_at_first k time = next_tick k.ticking k.first k.rate time (wait_after k (count k time) [] time)
 
 -- ---- a pulse has ended
 
@@ -89,7 +90,7 @@ heard k x e = record x {
   wires = behind_end x.wires e;
   tick = if place_heard k x.calls x.now e == 100
       then tick_after_frame k.ticking k.first k.rate x.now
-      (wait_after k (hearing k x.now e ∷ x.calls) x.now) x.tick
+      (wait_after k x.start (hearing k x.now e ∷ x.calls) x.now) x.tick
       else x.tick;
 }
 
@@ -123,7 +124,7 @@ abbrev pub ticked : Kind → Course → Course
 ticked k x = record x {
   calls = Tick (count k x.now) ∷ x.calls;
   tick = next_tick k.ticking k.first k.rate x.now
-      (max 1 (wait_after k (Tick (count k x.now) ∷ x.calls) x.now));
+      (max 1 (wait_after k x.start (Tick (count k x.now) ∷ x.calls) x.now));
   told = x.told ++ told_if k (count k x.now)
       (answer_at (keeping_after k.made x.calls) (count k x.now % 2 ^ 32));
 }

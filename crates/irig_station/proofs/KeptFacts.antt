@@ -75,8 +75,8 @@ module _ (k : Kind) (hand : k.ticking ≡ ByHand) (signal : (line element : ℕ)
   heard_light : (x : Course) (e : Ending) → heard k x e ≡ lightly k signal (happens.End e) x
   heard_light x e =
       ap (λ (t : Option ℕ). record x { calls = hearing k x.now e ∷ x.calls; wires = behind_end x.wires e; tick = t })
-      (either (place_heard k x.calls x.now e == 100) x.tick (tick_after_frame k.ticking k.first k.rate x.now (wait_after k (hearing k x.now e ∷ x.calls) x.now) x.tick)
-      (tick_same k.ticking hand k.first k.rate x.now (wait_after k (hearing k x.now e ∷ x.calls) x.now) x.tick))
+      (either (place_heard k x.calls x.now e == 100) x.tick (tick_after_frame k.ticking k.first k.rate x.now (wait_after k x.start (hearing k x.now e ∷ x.calls) x.now) x.tick)
+      (tick_same k.ticking hand k.first k.rate x.now (wait_after k x.start (hearing k x.now e ∷ x.calls) x.now) x.tick))
 
   happened_light : (what : Happening) (x : Course) → happened k signal what x ≡ lightly k signal what x
   happened_light (happens.End e) x = heard_light x e

@@ -1,6 +1,6 @@
 -- A device that is audited as it goes, and what it then promises.
 -- Source: docs/WIRES.md; this project's profile.
-use Rattle.std.specs.Prelude.{◌≡◌, ℕ, ◌+◌, ◌-◌, ◌*◌, ◌≤◌, ◌<◌, true, List, ◌∷◌, Option, Some, if◌then◌else◌, ℤ, pos, int_lt, unsigned_abs}
+use Rattle.std.specs.Prelude.{◌≡◌, ℕ, ◌+◌, ◌-◌, ◌*◌, ◌%◌, ◌^◌, ◌≤◌, ◌<◌, min, true, List, ◌∷◌, Option, Some, if◌then◌else◌, ℤ, pos, int_lt, unsigned_abs}
 use Rattle.irig_frame.specs.declared.symbol.Symbol.{Symbol}
 use Rattle.irig_time.specs.declared.second.UtcSecond.{UtcSecond}
 use Rattle.irig_time.specs.Timelines.{TimelineValue}
@@ -8,9 +8,10 @@ use Rattle.irig_port.specs.declared.port.Port.{Ghosts}
 use Rattle.irig_lines.specs.Delays.{delay_at}
 use Rattle.irig_timekeeper.specs.declared.clock.Beat.{Beat}
 use Rattle.irig_timekeeper.specs.declared.stamp.Stamp.{Stamp}
-use Rattle.irig_timekeeper.specs.Life.{Call}
+use Rattle.irig_timekeeper.specs.Keeping.{wait_at}
+use Rattle.irig_timekeeper.specs.Life.{Call, last_tick}
 use Rattle.irig_timekeeper.specs.Life.Call.{Hear, Tick}
-use Rattle.irig_timekeeper.specs.Lived.{MadeOf, HasLived}
+use Rattle.irig_timekeeper.specs.Lived.{MadeOf, HasLived, keeping_after}
 use Rattle.irig_timekeeper.specs.Truth.{IsToldInHoldover}
 use Rattle.irig_witness.specs.declared.device.Device.{Device}
 use Rattle.irig_witness.specs.Elements.{element_near}
@@ -42,6 +43,12 @@ edges_of device = edges_by device.oscillator.first (rate_of device.oscillator.ga
 abbrev pub lines_on : {P : Type 0} {g : Ghosts P} → Device P g
     → (symbol : (line element : ℕ) → Symbol) → TrueLines
 lines_on device symbol = lines_by symbol device.oscillator.first (rate_of device.oscillator.gain_us)
+
+-- how long until it is ticked as it asks: until it has something to do, if no call comes before that, and
+-- 2 s behind its last tick at the latest
+abbrev pub wait_until_asked : MadeOf → (start : ℕ) → List Call → (now : ℕ) → ℕ
+wait_until_asked made start calls now =
+    min (wait_at (keeping_after made calls) (now % 2 ^ 32)) (last_tick start calls + 2000000 - now)
 
 -- it was made of this, its life began at a time, and these calls came since, the newest first; its
 -- audit is of them, beside lines of these symbols

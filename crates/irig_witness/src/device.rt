@@ -7,7 +7,7 @@ ghost use Rattle.irig_lines.specs.Refusals.{clock_fault};
 ghost use Rattle.irig_reader.specs.Rules.{IsReaderRules};
 ghost use Rattle.irig_timekeeper.specs.Clock.{SaysOfUtc, TellsOfUtc};
 ghost use Rattle.irig_timekeeper.specs.Keepers.{ForKeeping};
-ghost use Rattle.irig_timekeeper.specs.Keeping.{answer_at, place_told, stamp_at, wait_at};
+ghost use Rattle.irig_timekeeper.specs.Keeping.{answer_at, place_told, stamp_at};
 ghost use Rattle.irig_timekeeper.specs.Life.{Call};
 ghost use Rattle.irig_timekeeper.specs.Life.Call.{Tick};
 ghost use Rattle.irig_timekeeper.specs.Lived.{MadeOf};
@@ -25,6 +25,10 @@ use irig_time::{LeapTable, Rules};
 use irig_timekeeper::{Beat, Stamp, Timekeeper};
 use irig_wires::Oscillator;
 
+// How long it is without a tick at most that is ticked as it asks: while it knows no edge, each frame of
+// a line that is heard alone names a time a second later.
+const LONGEST_US: u64 = 2_000_000;
+
 /// A simulated device: a timekeeper by a counter of which the true rate is known, and its audit.
 ///
 /// Its times are those of that counter in 64 bits, where it does not wrap, and less than 2^56. The
@@ -39,7 +43,7 @@ pub struct Device<P: Port> {
 }
 
 impl<P: Port> Device<P> {
-    ghost use Rattle.irig_witness.specs.Devices.{HearsOn, IsDeviceOf, IsSetAs, StampsTruly, TellsTruly, TicksOn, element_on, lines_on, risen_on};
+    ghost use Rattle.irig_witness.specs.Devices.{HearsOn, IsDeviceOf, IsSetAs, StampsTruly, TellsTruly, TicksOn, element_on, lines_on, risen_on, wait_until_asked};
     ghost use Rattle.irig_witness.specs.Witness.{is_kept};
     ghost use Rattle.irig_witness.specs.Watches.{may_tick};
 
@@ -196,11 +200,15 @@ impl<P: Port> Device<P> {
         self.watch.may_tick(now)
     }
 
-    /// How long until a tick has something to do, if no call comes before it, in microseconds.
+    /// How long until it is ticked, in microseconds, if that comes as it asks: until a tick has
+    /// something to do, if no call comes before it, and 2 s behind the last tick at the latest.
     pub fn wait(&self, now: u64) -> u32
-        ensures { ForKeeping self.now.keeper (λ k. result ≡ wait_at k (now % 2 ^ 32)) }
+        ensures { (made : MadeOf) (symbol : ℕ → ℕ → Symbol) (start : ℕ) (calls : List Call)
+            → IsDeviceOf self.now made symbol start calls
+            → result ≡ wait_until_asked made start calls now }
     {
-        self.keeper.wait(low(now))
+        let left_us = (self.watch.last_tick + LONGEST_US).saturating_sub(now);
+        u64::from(self.keeper.wait(low(now))).min(left_us) as u32
     }
 }
 
