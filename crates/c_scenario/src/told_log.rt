@@ -22,6 +22,7 @@ pub(crate) struct ToldLog {
 }
 
 impl StationListener for ToldLog {
+    ghost use Rattle.std.specs.Prelude.{false};
     ghost use Rattle.irig_station_scene.specs.StationStays.{quiet_reads, quiet_stays};
     ghost use Rattle.irig_station_scene.specs.StationTexts.{quiet_texts};
     ghost use Rattle.c_scenario.specs.ToldRuns.{HoldsTold};
@@ -30,12 +31,22 @@ impl StationListener for ToldLog {
 
     ghost texts = { λ asked. quiet_texts };
 
+    ghost hears = { false };
+
     ghost stands_for = { λ asked log x. HoldsTold log x };
 
     ghost stays = { λ asked. quiet_stays };
 
     ghost reads = { λ asked. quiet_reads (λ log plan entries.
         log.entries.items ≡ map device_entry_for entries) };
+
+    fn hears() -> bool {
+        false
+    }
+
+    fn first(_asked: ()) -> &'static str {
+        ""
+    }
 
     fn new(
         alloc: Global,

@@ -1,6 +1,6 @@
 -- What explains a refused line is of the refusal that the answer has; and who listened stands as the
 -- player that it listened to.
-use Rattle.std.proofs.Common.{◌≡◌, ℕ, List, Option, Some, None, Result, Ok, Err, refl, sym, subst, inl, inr}
+use Rattle.std.proofs.Common.{◌≡◌, ℕ, Bool, List, Option, Some, None, Result, Ok, Err, refl, sym, subst, inl, inr}
 use Rattle.std.specs.Prelude.{option_map}
 use Rattle.std.proofs.lemmas.Option.{none-some}
 use Rattle.irig_port.specs.declared.port.Port.{Ghosts}
@@ -33,10 +33,10 @@ explained (Err Read) is here = nothing_in is here
 explained (Err Write) is here = nothing_in is here
 explained (Err Memory) is here = nothing_in is here
 
-module _ {L M P : Type 0} {g : Ghosts P} (stands_for : L → Scene → Type 0) (stands_beside : M → StationScene → Type 0) where
+module _ {L M P : Type 0} {g : Ghosts P} (hears : Bool) (stands_for : L → Scene → Type 0) (stands_beside : M → StationScene → Type 0) where
   -- a player stands so
   abbrev pub PlayerIsAt : Option (Either (Player L P g) (StationPlayer M P g)) → Option AnyScene → Type 0
-  PlayerIsAt r at = IsAt (StandsForEither (IsPlayerAt {L = L} {P = P} {g = g} stands_for) (IsStationPlayerAt {L = M} {P = P} {g = g} stands_beside)) r at
+  PlayerIsAt r at = IsAt (StandsForEither (IsPlayerAt {L = L} {P = P} {g = g} stands_for) (IsStationPlayerAt {L = M} {P = P} {g = g} hears stands_beside)) r at
 
   -- who listened to readers
   pub of_readers : (r : Option (Either (Player L P g) (StationPlayer M P g))) (p : Player L P g) (l : L) (at : Option AnyScene) → r ≡ Some (First p) → l ≡ p.stage.listener

@@ -86,7 +86,7 @@ fn end_player<L: Listener, M: StationListener<Asked = L::Asked>, P: Port>(
 ) -> (Option<Either<L, M>>, Option<WhyRefused>)
     ensures listener { (asked : L.Asked) (at : Option AnyScene)
         → IsAt (StandsForEither (IsPlayerAt (L.stands_for asked))
-        (IsStationPlayerAt (M.stands_for asked))) player at
+        (IsStationPlayerAt M.hears (M.stands_for asked))) player at
         → IsAt (StandsForEither (L.stands_for asked) (M.stands_for asked)) result.0 at }
     ensures refused { option_map explained_by result.1 ≡ refusal }
 {

@@ -2,6 +2,7 @@ pub mod NearLaws
 pub mod FlightLaws
 pub mod AskedLaws
 pub mod StandsLaws
+pub mod HeardLaws
 pub mod CourseLaws
 pub mod StretchLaws
 pub mod LoopCourses

@@ -1,6 +1,7 @@
 pub mod Setups
 pub mod Kinds
 pub mod Courses
+pub mod Heard
 pub mod Doings
 pub mod Announced
 pub mod Seconds

@@ -1,15 +1,18 @@
 -- What a simulated device stands for: its course.
 -- Source: this project's profile.
-use Rattle.std.specs.Prelude.{◌≡◌, ℕ, Option}
+use Rattle.std.specs.Prelude.{◌≡◌, ℕ, List, Option}
 use Rattle.irig_frame.specs.declared.symbol.Symbol.{Symbol}
 use Rattle.irig_port.specs.declared.port.Port.{Ghosts}
 use Rattle.irig_wires.specs.Oscillator.{rate_of}
 use Rattle.irig_witness.specs.Witness.{HaveEnded}
 use Rattle.irig_witness.specs.Devices.{IsDeviceOf}
 use Rattle.irig_simulated.specs.declared.second.Second.{Second}
+use Rattle.irig_simulated.specs.declared.heard.HeardPulse.{HeardPulse}
+use Rattle.irig_simulated.specs.declared.heard.HeardPulses.{HeardPulses}
 use Rattle.irig_simulated.specs.declared.simulated.Simulated.{Simulated}
 use Rattle.irig_simulated.specs.Kinds.{Kind, count}
 use Rattle.irig_simulated.specs.Courses.{Course}
+use Rattle.irig_simulated.specs.Heard.{HaveMore}
 use Rattle.irig_simulated.specs.Seconds.{IsSecondOf}
 
 -- it is a device of this kind, whose audit is beside lines of these symbols, and stands there in
@@ -48,3 +51,12 @@ GoesOnIn second old new course =
     (k : Kind) (signal : (line element : ℕ) → Option Symbol)
     (symbol : (line element : ℕ) → Symbol) (x : Course) → IsSecondOf second signal symbol
     → IsSimulationOf old k symbol x → IsSimulationOf new k symbol (course k signal x)
+
+-- there are so many more of the pulses that are kept, by what generators send in a second
+abbrev pub HearsIn : {P : Type 0} {g : Ghosts P} → Second → (device : Simulated P g)
+    → (old new : HeardPulses)
+    → (Kind → (signal : (line element : ℕ) → Option Symbol) → Course → List HeardPulse) → Type 0
+HearsIn second device old new more =
+    (k : Kind) (signal : (line element : ℕ) → Option Symbol)
+    (symbol : (line element : ℕ) → Symbol) (x : Course) → IsSecondOf second signal symbol
+    → IsSimulationOf device k symbol x → HaveMore old new (more k signal x)

@@ -1,12 +1,14 @@
 //! What happens to a simulated device by itself.
 
-ghost use Rattle.std.specs.Prelude.{◌≡◌, ◌≤◌, ◌<◌, ◌+◌, ◌*◌, ◌^◌, ◌==◌, ◌/◌, ◌%◌, ℕ, Option, OnOk, vec_len, if◌then◌else◌};
+ghost use Rattle.std.specs.Prelude.{◌≡◌, ◌∷◌, [], ◌≤◌, ◌<◌, ◌+◌, ◌*◌, ◌^◌, ◌==◌, ◌/◌, ◌%◌, ℕ, Option, OnOk, vec_len, if◌then◌else◌};
 ghost use Rattle.irig_frame.specs.declared.symbol.Symbol.{Symbol};
 ghost use Rattle.irig_vote.specs.Vote.{ports_in};
 ghost use Rattle.irig_wires.specs.Wires.{wire_at, with_wire};
 ghost use Rattle.irig_simulated.specs.Courses.{has_sent, heard, sent_if, ticked};
+ghost use Rattle.irig_simulated.specs.Heard.{HaveMore, ended_pulse};
 ghost use Rattle.irig_simulated.specs.Simulations.{GoesOn, GoesOnIn};
 
+use crate::heard::{HeardPulse, HeardPulses};
 use crate::second::Second;
 use crate::simulated::Simulated;
 use crate::ticking::{next_tick, tick_after_frame};
@@ -17,17 +19,33 @@ use irig_wires::{Ending, Wires};
 use std::alloc::AllocError;
 
 impl<P: Port> Simulated<P> {
-    // A pulse has ended, and the device is told it.
-    pub(crate) fn hear(&mut self, second: &Second, ending: Ending)
+    // A pulse has ended, and the device, of this number, is told it. `AllocError` if it is to be kept
+    // and there is no memory for that.
+    pub(crate) fn hear(
+        &mut self,
+        second: &Second,
+        ending: Ending,
+        device: u8,
+        kept: &mut HeardPulses,
+    ) -> Result<(), AllocError>
         requires line { ending.line < ports_in self.old.device.clock.redundancy }
         requires rise { ending.flight.rise_us ≤ self.old.now_us }
         requires begun { second.now.number * 1000000 ≤ self.old.now_us }
         requires within { self.old.now_us < (second.now.number + 1) * 1000000 }
-        ensures stands { GoesOnIn second.now self.old self.new (λ k signal x. heard k x ending) }
+        ensures stands { OnOk result (GoesOnIn second.now self.old self.new
+            (λ k signal x. heard k x ending)) }
+        ensures kept { OnOk result
+            (HaveMore kept.old kept.new (ended_pulse device self.old.now_us ending ∷ [])) }
         ensures now { self.new.now_us ≡ self.old.now_us }
         ensures same { self.new.device.clock ≡ self.old.device.clock }
     {
         let Ending { line, flight } = ending;
+        kept.add(HeardPulse {
+            device,
+            line,
+            rise_us: flight.rise_us,
+            end_us: self.now_us,
+        })?;
         let now = self.oscillator.count_at(self.now_us);
         let rise = self.oscillator.count_at(flight.rise_us);
         let width_us = (now - rise).min(u64::from(u32::MAX)) as u32;
@@ -45,6 +63,7 @@ impl<P: Port> Simulated<P> {
                 self.tick_us,
             );
         }
+        Ok(())
     }
 
     /// The device is ticked now, by hand or by itself. What it tells is kept; `AllocError` if there

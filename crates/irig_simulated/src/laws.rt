@@ -1,6 +1,6 @@
 //! Laws of courses over their definitions. They have no code.
 
-ghost use Rattle.std.specs.Prelude.{◌≡◌, ◌≤◌, ◌+◌, ◌-◌, ◌++◌, ℕ, List, Option, All, true};
+ghost use Rattle.std.specs.Prelude.{◌≡◌, ◌≤◌, ◌+◌, ◌-◌, ◌++◌, ℕ, List, Option, All, map, reverse, true};
 ghost use Rattle.irig_frame.specs.declared.symbol.Symbol.{Symbol};
 ghost use Rattle.irig_time.specs.Timelines.{TimelineValue, IsSecond};
 ghost use Rattle.irig_lines.specs.Lines.{IsTrueLately};
@@ -15,6 +15,7 @@ ghost use Rattle.irig_simulated.specs.Kinds.{Kind, MovesOn, edges_by_kind};
 ghost use Rattle.irig_simulated.specs.Courses.{Course, coming, keeps_so_far, most_in, passed, played, ticked};
 ghost use Rattle.irig_simulated.specs.Doings.{AreCounted, Doing, IsTickedInTime, course_behind, told_by};
 ghost use Rattle.irig_simulated.specs.Announced.{HasTold, IsAmong};
+ghost use Rattle.irig_simulated.specs.Heard.{call_of, heard_until, pulses_told};
 ghost use Rattle.irig_simulated.specs.Truth.{IsToldOfItsEdge};
 
 use crate::setup::Ticking;
@@ -87,4 +88,17 @@ pub fn a_course_announces()
     ensures passes { (k : Kind) (signal : ℕ → ℕ → Option Symbol) (stop : ℕ) (x : Course)
         → HasTold k x (passed k signal stop x) }
     ensures ticks { (k : Kind) (x : Course) → HasTold k x (ticked k x) }
+{}
+
+/// What a device hears can be written as pulses, of which each shows when it rose and when it had
+/// ended. A device that is told these has the same calls: those that tell a pulse, in a stretch of
+/// time, are the calls of the pulses that it heard there, one after another. So what it tells, which
+/// its calls answer, is a function of these pulses and its ticks.
+pub fn a_course_is_told_what_it_hears()
+    ensures passes { (k : Kind) (r : ℕ) (signal : ℕ → ℕ → Option Symbol) (stop : ℕ) (x : Course)
+        → pulses_told (passed k signal stop x).calls
+        ≡ reverse (map (call_of k) (heard_until k r signal stop x)) ++ pulses_told x.calls }
+    // A tick tells none.
+    ensures ticks { (k : Kind) (x : Course)
+        → pulses_told (ticked k x).calls ≡ pulses_told x.calls }
 {}

@@ -7,8 +7,10 @@ ghost use Rattle.irig_lines.specs.Refusals.{clock_fault};
 ghost use Rattle.irig_vote.specs.Vote.{ports_in};
 ghost use Rattle.irig_simulated.specs.Kinds.{IsDevicePlan, kind_of};
 ghost use Rattle.irig_simulated.specs.Courses.{begun_with, coming_from, passed, stepped};
-ghost use Rattle.irig_simulated.specs.Simulations.{GoesOnIn, IsSimulationOf};
+ghost use Rattle.irig_simulated.specs.Heard.{HaveMore, heard_by, heard_until};
+ghost use Rattle.irig_simulated.specs.Simulations.{GoesOnIn, HearsIn, IsSimulationOf};
 
+use crate::heard::HeardPulses;
 use crate::second::Second;
 use crate::setup::{DeviceSetup, clock_in};
 use crate::simulated::Simulated;
@@ -62,9 +64,15 @@ impl<P: Port> Simulated<P> {
     }
 
     /// True time passes up to another within a second: pulses that have ended are heard, the device
-    /// is ticked, and generators send. What it tells is kept; `AllocError` if there is no memory for
-    /// that.
-    pub fn play(&mut self, second: &Second, stop_us: u64) -> Result<(), AllocError>
+    /// is ticked, and generators send. What it tells is kept, and so are the pulses, as those of the
+    /// device with this number, if they are to be kept; `AllocError` if there is no memory for that.
+    pub fn play(
+        &mut self,
+        second: &Second,
+        stop_us: u64,
+        device: u8,
+        kept: &mut HeardPulses,
+    ) -> Result<(), AllocError>
         requires begun { second.now.number * 1000000 ≤ self.old.now_us }
         requires within { stop_us ≤ (second.now.number + 1) * 1000000 }
         requires early { second.now.number < 2 ^ 32 }
@@ -74,6 +82,8 @@ impl<P: Port> Simulated<P> {
         ensures same { self.new.device.clock ≡ self.old.device.clock }
         ensures stands { OnOk result (GoesOnIn second.now self.old self.new
             (λ k signal x. passed k signal stop_us x)) }
+        ensures heard { OnOk result (HearsIn second.now self.old kept.old kept.new
+            (λ k signal x. heard_until k device signal stop_us x)) }
     {
         let most = 23 * (stop_us - self.now_us) + 23;
         for _ in 0..most {
@@ -81,7 +91,7 @@ impl<P: Port> Simulated<P> {
             if coming.time_us >= stop_us {
                 break;
             }
-            self.step(second, coming)?;
+            self.step(second, coming, device, kept)?;
         }
         self.now_us = stop_us;
         Ok(())
@@ -100,7 +110,13 @@ impl<P: Port> Simulated<P> {
     }
 
     // It happens.
-    fn step(&mut self, second: &Second, coming: Coming) -> Result<(), AllocError>
+    fn step(
+        &mut self,
+        second: &Second,
+        coming: Coming,
+        device: u8,
+        kept: &mut HeardPulses,
+    ) -> Result<(), AllocError>
         requires coming { coming
             ≡ coming_from self.old.now_us self.old.wires self.old.tick_us self.old.send_us }
         requires begun { second.now.number * 1000000 ≤ self.old.now_us }
@@ -109,12 +125,14 @@ impl<P: Port> Simulated<P> {
         requires lines { vec_len second.now.lines ≤ ports_in self.old.device.clock.redundancy }
         ensures stands { OnOk result (GoesOnIn second.now self.old self.new
             (λ k signal x. stepped k signal x)) }
+        ensures heard { OnOk result
+            (HaveMore kept.old kept.new (heard_by device coming.time_us coming.what)) }
         ensures now { self.new.now_us ≡ coming.time_us }
         ensures same { self.new.device.clock ≡ self.old.device.clock }
     {
         self.now_us = coming.time_us;
         match coming.what {
-            Happening::End(ending) => self.hear(second, ending),
+            Happening::End(ending) => self.hear(second, ending, device, kept)?,
             Happening::Tick => self.tick()?,
             Happening::Send => self.send(second),
         }

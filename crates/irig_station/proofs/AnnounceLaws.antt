@@ -148,7 +148,9 @@ module _ (s : StationSetup) (r : ℕ) where
 
   devices_pass : (stop devices : ℕ) (x : StationStanding) → IsOnCourse stop x → IsOnCourse stop (devices_gone s stop devices x)
   devices_pass stop zero x h = h
-  devices_pass stop (suc q) x h = passes stop q (devices_gone s stop q x) (devices_pass stop q x h)
+  devices_pass stop (suc q) x h =
+      let gone = passes stop q (devices_gone s stop q x) (devices_pass stop q x h) in
+      record { doings = gone.doings; course = gone.course; now = gone.now; logged = gone.logged }
 
   -- so between events, at the present time
   abbrev Stands : StationStanding → Type 0

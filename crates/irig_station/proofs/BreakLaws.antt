@@ -163,7 +163,8 @@ module _ (s : StationSetup) (ago : ℕ) (is : IsStationSetup s) where
   devices_cut : (stop devices : ℕ) → devices ≤ length s.devices → (x : StationStanding) → x.now ≤ stop → Cut x → Cut (devices_gone s stop devices x)
   devices_cut stop zero few x later h = h
   devices_cut stop (suc r) few x later h =
-      device_cut stop r few (devices_gone s stop r x) (omega (arith, later, stays_now stop r x)) (devices_cut stop r (omega (arith, few)) x later h)
+      let gone = device_cut stop r few (devices_gone s stop r x) (omega (arith, later, stays_now stop r x)) (devices_cut stop r (omega (arith, few)) x later h) in
+      record { near = gone.near; none = gone.none; few = gone.few; kept = gone.kept; broken = gone.broken }
 
   -- and each that has passed on stands there
   passed_to : (stop devices : ℕ) (x : StationStanding) (q : ℕ) → q < devices → ((devices_gone s stop devices x).courses q).now ≡ stop

@@ -31,6 +31,8 @@ use Rattle.irig_wires.specs.Order.{behind_end}
 use Rattle.irig_wires.specs.Wires.{most_late_us}
 use Rattle.irig_simulated.specs.declared.setup.Ticking.{Ticking}
 use Rattle.irig_simulated.specs.declared.setup.Ticking.TheVariants.{ByWait, Each, ByHand}
+use Rattle.irig_simulated.specs.declared.heard.HeardPulse.{HeardPulse}
+use Rattle.irig_simulated.specs.Heard.{heard_until}
 use Rattle.irig_simulated.specs.Setups.{DevicePlan}
 use Rattle.irig_simulated.specs.Kinds.{IsDevicePlan, Kind}
 use Rattle.irig_simulated.specs.Courses.{Course, coming, happened, has_sent, heard, hearing, keeps_so_far, may_stamp, stamp_said, most_in, passed, place_heard, played, stepped, tick_after_frame, ticked, wait_after}
@@ -112,9 +114,13 @@ module _ (k : Kind) (hand : k.ticking ≡ ByHand) (signal : (line element : ℕ)
       let over : nat_lt (coming (light k signal stop n x)).time_us stop ≡ false = ap (λ (y : Course). nat_lt (coming y).time_us stop) there ∙ ap (λ (m : ℕ). nat_lt (coming c).time_us m) same ∙ done in
       light_passed stop n x few over ∙ ap (λ (y : Course). record y { now = stop }) there ∙ ap (λ (m : ℕ). record c { now = m }) same
 
+-- what device 0 heard up to a time, which is not counted out
+abbrev heard_to : StationSetup → (stop : ℕ) → StationStanding → List HeardPulse
+heard_to s stop x = x.heard ++ heard_until (kind_of_device s 0) 0 (signal_by x.seconds) stop (x.courses 0)
+
 part_by : (s : StationSetup) (x : StationStanding) (stop : ℕ) (c : Course) → length s.devices ≡ 1 → passed (kind_of_device s 0) (signal_by x.seconds) stop (x.courses 0) ≡ c
-    → part_gone s stop x ≡ record (has_gone s 0 c x) { now = stop }
-part_by s x stop c one e = rw one (ap (λ (y : Course). record (has_gone s 0 y x) { now = stop }) e)
+    → part_gone s stop x ≡ record (has_gone s 0 c x) { now = stop; heard = heard_to s stop x }
+part_by s x stop c one e = rw one (ap (λ (y : Course). record (has_gone s 0 y x) { now = stop; heard = heard_to s stop x }) e)
 
 -- what a tick by hand does, and a stamp
 tick_by : (s : StationSetup) (x y : StationStanding) → length s.devices ≡ 1 → has_gone s 0 (ticked (kind_of_device s 0) (x.courses 0)) x ≡ y → (play_event s (Tick 0) x).standing ≡ y
@@ -171,6 +177,10 @@ sent_next : sent_second noon (source 1) ≡ record { sent = Some next_frame; pla
 unfolding sent_of frame_of second_at frame_of_second frame_of_coded time_shown word_of ones is_month_end four_years
 sent_next = refl
 
+-- devices have heard these pulses too
+abbrev hearing_also : List HeardPulse → StationStanding → StationStanding
+hearing_also h x = record x { heard = h }
+
 -- ---- the first second
 
 abbrev kind : Kind
@@ -196,22 +206,22 @@ unfolding in_order is_after have_risen is_pulse_of is_same
 keeps_first = refl
 
 abbrev after_first : StationStanding
-after_first = record { now = 1000000; generators = source 1 ∷ source 1 ∷ source 1 ∷ []; seconds = sent_thrice frame ∷ []; courses = with_course 0 course_first begun.courses; log = []; audit = Kept; vouched = 0 }
+after_first = record { now = 1000000; generators = source 1 ∷ source 1 ∷ source 1 ∷ []; seconds = sent_thrice frame ∷ []; courses = with_course 0 course_first begun.courses; log = []; audit = Kept; vouched = 0; heard = [] }
 
-first_part : (stop : ℕ) → stop ≡ 1000000 → part_gone station stop begun ≡ after_first
+first_part : (stop : ℕ) → stop ≡ 1000000 → part_gone station stop begun ≡ hearing_also (heard_to station stop begun) after_first
 first_part stop same =
     part_by station begun stop course_first refl
     (passes_to kind refl (signal_by begun.seconds) stop 1000000 430 (begun.courses 0) heard_first same (omega (arith, same)) refl refl)
-    ∙ ap (λ (n : ℕ). record (has_gone station 0 course_first begun) { now = n }) same
-    ∙ ap (λ (b : Bool). record (with_entries [] (audit_seen Kept 0 0 b) (at_course 0 course_first begun)) { now = 1000000 }) keeps_first
+    ∙ ap (λ (n : ℕ). record (has_gone station 0 course_first begun) { now = n; heard = heard_to station stop begun }) same
+    ∙ ap (λ (b : Bool). record (with_entries [] (audit_seen Kept 0 0 b) (at_course 0 course_first begun)) { now = 1000000; heard = heard_to station stop begun }) keeps_first
 
 -- ---- the next one, of which 50 ms pass
 
 abbrev begun_next : StationStanding
 begun_next = record after_first { generators = source 2 ∷ source 2 ∷ source 2 ∷ []; seconds = sent_thrice next_frame ∷ sent_thrice frame ∷ [] }
 
-begins_next : has_begun_if_due station after_first ≡ begun_next
-begins_next = ap (λ (x : SentSecond). record after_first { generators = source 2 ∷ source 2 ∷ source 2 ∷ []; seconds = (x ∷ x ∷ x ∷ []) ∷ sent_thrice frame ∷ [] }) sent_next
+begins_next : (h : List HeardPulse) → has_begun_if_due station (hearing_also h after_first) ≡ hearing_also h begun_next
+begins_next h = ap (λ (x : SentSecond). record (hearing_also h after_first) { generators = source 2 ∷ source 2 ∷ source 2 ∷ []; seconds = (x ∷ x ∷ x ∷ []) ∷ sent_thrice frame ∷ [] }) sent_next
 
 abbrev heard_next : Course
 heard_next = light kind (signal_by begun_next.seconds) 1050000 40 (begun_next.courses 0)
@@ -224,14 +234,15 @@ unfolding in_order is_after have_risen is_pulse_of is_same
 keeps_next = refl
 
 abbrev after_next : StationStanding
-after_next = record { now = 1050000; generators = begun_next.generators; seconds = begun_next.seconds; courses = with_course 0 course_next begun_next.courses; log = []; audit = Kept; vouched = 0 }
+after_next = record { now = 1050000; generators = begun_next.generators; seconds = begun_next.seconds; courses = with_course 0 course_next begun_next.courses; log = []; audit = Kept; vouched = 0; heard = [] }
 
-next_part : (stop : ℕ) → stop ≡ 1050000 → part_gone station stop begun_next ≡ after_next
-next_part stop same =
-    part_by station begun_next stop course_next refl
+next_part : (h : List HeardPulse) (stop : ℕ) → stop ≡ 1050000 → part_gone station stop (hearing_also h begun_next) ≡ hearing_also (heard_to station stop (hearing_also h begun_next)) after_next
+next_part h stop same =
+    let heard = heard_to station stop (hearing_also h begun_next) in
+    part_by station (hearing_also h begun_next) stop course_next refl
     (passes_to kind refl (signal_by begun_next.seconds) stop 1050000 40 (begun_next.courses 0) heard_next same (omega (arith, same)) refl refl)
-    ∙ ap (λ (n : ℕ). record (has_gone station 0 course_next begun_next) { now = n }) same
-    ∙ ap (λ (b : Bool). record (with_entries [] (audit_seen Kept 0 1 b) (at_course 0 course_next begun_next)) { now = 1050000 }) keeps_next
+    ∙ ap (λ (n : ℕ). record (has_gone station 0 course_next begun_next) { now = n; heard = heard }) same
+    ∙ ap (λ (b : Bool). record (with_entries [] (audit_seen Kept 0 1 b) (at_course 0 course_next begun_next)) { now = 1050000; heard = heard }) keeps_next
 
 -- ---- both
 
@@ -243,23 +254,35 @@ has_next : lacks_second station after_first ≡ false
 unfolding second_at
 has_next = refl
 
-next_passes : (us : ℕ) → us ≡ 50000 → time_gone station 2 us after_first ≡ goes_to after_next
-next_passes us same =
+-- it leads there, and the device has heard some pulses
+abbrev LeadsTo : StationStep → StationStanding → Type 0
+LeadsTo step x = (h : List HeardPulse) × (step ≡ goes_to (hearing_also h x))
+
+next_passes : (h : List HeardPulse) (us : ℕ) → us ≡ 50000 → LeadsTo (time_gone station 2 us (hearing_also h after_first)) after_next
+next_passes h us same =
     let part = part_us us begun_next in
     let size : part ≡ 50000 = ap (λ (u : ℕ). part_us u begun_next) same in
-    time_step station 1 us after_first begun_next part (λ e. omega (arith, same, e)) has_next (sym begins_next) refl
-    ∙ ap (time_gone station 1 (us - part)) (next_part (begun_next.now + part) (omega (arith, size)))
-    ∙ time_over station 1 (us - part) after_next (omega (arith, same, size))
+    let stop = begun_next.now + part in
+    let heard = heard_to station stop (hearing_also h begun_next) in (
+      heard,
+      time_step station 1 us (hearing_also h after_first) (hearing_also h begun_next) part (λ e. omega (arith, same, e)) has_next (sym (begins_next h)) refl
+          ∙ ap (time_gone station 1 (us - part)) (next_part h stop (omega (arith, size)))
+          ∙ time_over station 1 (us - part) (hearing_also heard after_next) (omega (arith, same, size)),
+    )
 
-passes : (us : ℕ) → us ≡ 1050000 → time_gone station (most_parts us) us (station_at_start station) ≡ goes_to after_next
+passes : (us : ℕ) → us ≡ 1050000 → LeadsTo (time_gone station (most_parts us) us (station_at_start station)) after_next
 passes us same =
     let part = part_us us begun in
     let size : part ≡ 1000000 = ap (λ (u : ℕ). part_us u begun) same in
     let count : most_parts us ≡ 3 = ap (λ (u : ℕ). most_parts u) same in
-    ap (λ (parts : ℕ). time_gone station parts us (station_at_start station)) count
-    ∙ time_step station 2 us (station_at_start station) begun part (λ e. omega (arith, same, e)) has_first (sym begins) refl
-    ∙ ap (time_gone station 2 (us - part)) (first_part (begun.now + part) (omega (arith, size)))
-    ∙ next_passes (us - part) (omega (arith, same, size))
+    let stop = begun.now + part in
+    let rest = next_passes (heard_to station stop begun) (us - part) (omega (arith, same, size)) in (
+      rest.0,
+      ap (λ (parts : ℕ). time_gone station parts us (station_at_start station)) count
+          ∙ time_step station 2 us (station_at_start station) begun part (λ e. omega (arith, same, e)) has_first (sym begins) refl
+          ∙ ap (time_gone station 2 (us - part)) (first_part stop (omega (arith, size)))
+          ∙ rest.1,
+    )
 
 -- ---- a tick, and a stamp
 
@@ -313,8 +336,8 @@ keeps_ticked = ap (λ (symbol : ℕ → ℕ → Symbol). keeps_so_far kind symbo
 abbrev after_tick : StationStanding
 after_tick = with_entries (map (λ told. Told 0 told) course_ticked.told) Kept (at_course 0 (record course_ticked { told = [] }) after_next)
 
-tick_gone : has_gone station 0 course_ticked after_next ≡ after_tick
-tick_gone = ap (λ (b : Bool). with_entries (map (λ told. Told 0 told) course_ticked.told) (audit_seen Kept 0 1 b) (at_course 0 (record course_ticked { told = [] }) after_next)) keeps_ticked
+tick_gone : (h : List HeardPulse) → has_gone station 0 course_ticked (hearing_also h after_next) ≡ hearing_also h after_tick
+tick_gone h = ap (λ (b : Bool). hearing_also h (with_entries (map (λ told. Told 0 told) course_ticked.told) (audit_seen Kept 0 1 b) (at_course 0 (record course_ticked { told = [] }) after_next))) keeps_ticked
 
 told_is : map shown after_tick.log ≡ (6209 ∷ 43201 ∷ 0 ∷ 1 ∷ 0 ∷ 450 ∷ []) ∷ []
 unfolding step_checked goes_against step_of second_at told_of frame_told ones values_of field_at coded_told utc_minute control_of offset_in is_month_end four_years
@@ -327,8 +350,8 @@ may_be_stamped = ap (λ (b : Bool). b && true) keeps_ticked
 abbrev after_stamp : StationStanding
 after_stamp = with_entries (Stamped 0 1010000 (stamp_said (kind_of_device station 0) (after_tick.courses 0) 1010000) ∷ []) Kept after_tick
 
-stamp_gone : has_stamped station 0 1010000 after_tick ≡ after_stamp
-stamp_gone = stamped_by station 1010000 after_tick refl may_be_stamped
+stamp_gone : (h : List HeardPulse) → has_stamped station 0 1010000 (hearing_also h after_tick) ≡ hearing_also h after_stamp
+stamp_gone h = ap (hearing_also h) (stamped_by station 1010000 after_tick refl may_be_stamped)
 
 stamp_is : map shown (Stamped 0 1010000 (stamp_said (kind_of_device station 0) (after_tick.courses 0) 1010000) ∷ []) ≡ (6209 ∷ 43201 ∷ 0 ∷ 1010000 ∷ 10000 ∷ 450 ∷ []) ∷ []
 unfolding step_checked goes_against step_of second_at told_of frame_told ones values_of field_at coded_told utc_minute control_of offset_in is_month_end four_years
@@ -339,17 +362,22 @@ logged = joined after_tick _ _ _ told_is stamp_is
 
 -- ---- all of it: these microseconds are a variable, since else time would be counted out
 
-ends_there : (us : ℕ) → us ≡ 1050000 → standing_after station (Stamp 0 40000 ∷ Tick 0 ∷ Pass us ∷ []) ≡ after_stamp
+ends_there : (us : ℕ) → us ≡ 1050000 → (h : List HeardPulse) × (standing_after station (Stamp 0 40000 ∷ Tick 0 ∷ Pass us ∷ []) ≡ hearing_also h after_stamp)
 ends_there us same =
-    all_by station us 40000 after_next after_tick after_stamp (ap (λ (x : StationStep). x.standing) (passes us same)) (tick_by station after_next after_tick refl tick_gone)
-    (stamp_by station 40000 after_tick after_stamp refl refl stamp_gone)
+    let there = passes us same in
+    let h = there.0 in (
+      h,
+      all_by station us 40000 (hearing_also h after_next) (hearing_also h after_tick) (hearing_also h after_stamp) (ap (λ (x : StationStep). x.standing) there.1)
+          (tick_by station (hearing_also h after_next) (hearing_also h after_tick) refl (tick_gone h))
+          (stamp_by station 40000 (hearing_also h after_tick) (hearing_also h after_stamp) refl refl (stamp_gone h)),
+    )
 
 pub kept_instance : (us : ℕ) → us ≡ 1050000
     → (audit_of_station station (Stamp 0 40000 ∷ Tick 0 ∷ Pass us ∷ []) ≡ Kept)
     × (map shown (log_of_station station (Stamp 0 40000 ∷ Tick 0 ∷ Pass us ∷ [])) ≡ (6209 ∷ 43201 ∷ 0 ∷ 1 ∷ 0 ∷ 450 ∷ []) ∷ (6209 ∷ 43201 ∷ 0 ∷ 1010000 ∷ 10000 ∷ 450 ∷ []) ∷ [])
 kept_instance us same = (
-  ap (λ (x : StationStanding). x.audit) (ends_there us same),
-  ap (λ (x : StationStanding). map shown x.log) (ends_there us same) ∙ logged,
+  ap (λ (x : StationStanding). x.audit) (ends_there us same).1,
+  ap (λ (x : StationStanding). map shown x.log) (ends_there us same).1 ∙ logged,
 )
 
 -- of such a setup the laws of a log speak

@@ -11,6 +11,7 @@ pub mod BeginLaws
 pub mod PassLaws
 pub mod GrowthLaws
 pub mod PartLaws
+pub mod ToldLaws
 pub mod StationFacts
 pub mod KeptFacts
 pub mod UtcEntries

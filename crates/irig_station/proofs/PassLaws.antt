@@ -12,7 +12,7 @@ use Rattle.irig_station.specs.declared.fault.StationFault.TheVariants.{EndOfYear
 use Rattle.irig_station.specs.declared.station.Station.{Station}
 use Rattle.irig_station.specs.StationSetups.{StationSetup}
 use Rattle.irig_station.specs.StationStandings.{StationStanding, StationStep, goes_to, has_begun_if_due, is_at_edge, lacks_second, part_gone, part_us, refused_at, time_gone}
-use Rattle.irig_station.specs.Stations.{HasPlayed, IsStationAt}
+use Rattle.irig_station.specs.Stations.{HasPlayed, IsStationAt, LetGo}
 use Rattle.irig_station.specs.Together.{IsDeviceAt}
 
 -- all but the devices, the log and the audit is as it was
@@ -67,22 +67,22 @@ module _ {P : Type 0} {g : Ghosts P} (ports : ℕ) (xs : List (Simulated P g)) (
 -- ---- where it leads
 
 -- what is left leads to where all of it leads
-pub led : {P : Type 0} {g : Ghosts P} (p : Station P g) (s : StationSetup) (shown : ℕ) (part whole : StationStep) → part ≡ whole → (y : StationStanding) → part ≡ goes_to y → IsStationAt p s y shown
+pub led : {P : Type 0} {g : Ghosts P} (p : Station P g) (s : StationSetup) (shown : LetGo) (part whole : StationStep) → part ≡ whole → (y : StationStanding) → part ≡ goes_to y → IsStationAt p s y shown
     → (whole.refusal ≡ None) × IsStationAt p s whole.standing shown
 led p s shown part whole same y done at = subst (λ (z : StationStep). (z.refusal ≡ None) × IsStationAt p s z.standing shown) (sym done ∙ same) (refl, at)
 
-pub led_end : {P : Type 0} {g : Ghosts P} (p : Station P g) (s : StationSetup) (shown : ℕ) (part whole : StationStep) (fault : StationFault) → part ≡ whole → (y : StationStanding) → part ≡ refused_at y fault → IsStationAt p s y shown
+pub led_end : {P : Type 0} {g : Ghosts P} (p : Station P g) (s : StationSetup) (shown : LetGo) (part whole : StationStep) (fault : StationFault) → part ≡ whole → (y : StationStanding) → part ≡ refused_at y fault → IsStationAt p s y shown
     → (whole.refusal ≡ Some fault) × IsStationAt p s whole.standing shown
 led_end p s shown part whole fault same y done at = subst (λ (z : StationStep). (z.refusal ≡ Some fault) × IsStationAt p s z.standing shown) (sym done ∙ same) (refl, at)
 
 -- a fault is handed on
-pub refused_as : {P : Type 0} {g : Ghosts P} (p : Station P g) (s : StationSetup) (step : StationStep) (shown : ℕ) (result : Result Unit StationFault) (fault : StationFault) → IsErrAnd result (λ e. e ≡ fault)
+pub refused_as : {P : Type 0} {g : Ghosts P} (p : Station P g) (s : StationSetup) (step : StationStep) (shown : LetGo) (result : Result Unit StationFault) (fault : StationFault) → IsErrAnd result (λ e. e ≡ fault)
     → ((fault ≡ Memory) ⊎ ((step.refusal ≡ Some fault) × IsStationAt p s step.standing shown)) → HasPlayed p s step shown result
 refused_as p s step shown (Ok done) fault is how = absurd is
 refused_as p s step shown (Err e) fault is how = subst (λ (f : StationFault). (f ≡ Memory) ⊎ ((step.refusal ≡ Some f) × IsStationAt p s step.standing shown)) (sym is) how
 
 -- so is what a second that does not begin leads to
-pub no_second : {P : Type 0} {g : Ghosts P} (p : Station P g) (s : StationSetup) (shown : ℕ) (parts us : ℕ) (y : StationStanding) (whole : StationStep) (fault : StationFault) → us ≢ 0 → time_gone s (suc parts) us y ≡ whole
+pub no_second : {P : Type 0} {g : Ghosts P} (p : Station P g) (s : StationSetup) (shown : LetGo) (parts us : ℕ) (y : StationStanding) (whole : StationStep) (fault : StationFault) → us ≢ 0 → time_gone s (suc parts) us y ≡ whole
     → ((fault ≡ Memory) ⊎ ((fault ≡ EndOfYears) × (lacks_second s y ≡ true) × IsStationAt p s y shown)) → (fault ≡ Memory) ⊎ ((whole.refusal ≡ Some fault) × IsStationAt p s whole.standing shown)
 no_second p s shown parts us y whole fault some same (inl memory) = inl memory
 no_second p s shown parts us y whole fault some same (inr h) =

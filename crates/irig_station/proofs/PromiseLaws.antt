@@ -108,7 +108,9 @@ module _ (s : StationSetup) (is : IsStationSetup s) where
 
   devices_vouched : (stop devices : ℕ) → devices ≤ length s.devices → (x : StationStanding) → IsVouched s x → IsVouched s (devices_gone s stop devices x)
   devices_vouched stop zero few x h = h
-  devices_vouched stop (suc r) few x h = device_vouched stop r few (devices_gone s stop r x) (devices_vouched stop r (omega (arith, few)) x h)
+  devices_vouched stop (suc r) few x h =
+      let gone = device_vouched stop r few (devices_gone s stop r x) (devices_vouched stop r (omega (arith, few)) x h) in
+      record { entries = gone.entries; few = gone.few; all = gone.all; start = gone.start; none = gone.none }
 
   part_vouched : (stop : ℕ) (x : StationStanding) → IsVouched s x → IsVouched s (part_gone s stop x)
   part_vouched stop x h = (let d = devices_vouched stop (length s.devices) (omega arith) x h in record { entries = d.entries; few = d.few; all = d.all; start = d.start; none = d.none })

@@ -244,7 +244,9 @@ module _ (s : StationSetup) (is : IsStationSetup s) (words : AreWordCounters s) 
 
   devices_in : (stop devices : ℕ) → stop < 2 ^ 53 → devices ≤ length s.devices → (x : StationStanding) → IsInRange x → IsInRange (devices_gone s stop devices x)
   devices_in stop zero low few x h = h
-  devices_in stop (suc r) low few x h = passes_in stop r low (omega (arith, few)) (devices_gone s stop r x) (devices_in stop r low (omega (arith, few)) x h)
+  devices_in stop (suc r) low few x h =
+      let gone = passes_in stop r low (omega (arith, few)) (devices_gone s stop r x) (devices_in stop r low (omega (arith, few)) x h) in
+      record { begun = gone.begun; few = gone.few; courses = gone.courses; log = gone.log }
 
   -- the same seconds have begun
   same_seconds : (stop devices : ℕ) (x : StationStanding) → (devices_gone s stop devices x).seconds ≡ x.seconds

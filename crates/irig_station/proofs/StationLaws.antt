@@ -1,6 +1,6 @@
 -- What one event does to what each part of a station stands for.
-use Rattle.std.proofs.Common.{◌≡◌, ◌≢◌, ◌∙◌, ℕ, zero, suc, ◌<◌, ◌≤◌, List, [], ◌∷◌, ◌++◌, length, drop, set, refl, sym, arith, subst}
-use Rattle.std.proofs.lemmas.List.{length-set}
+use Rattle.std.proofs.Common.{◌≡◌, ◌≢◌, ◌∙◌, ℕ, zero, suc, ◌<◌, ◌≤◌, List, [], ◌∷◌, ◌++◌, length, drop, set, refl, sym, ap, arith, subst}
+use Rattle.std.proofs.lemmas.List.{length-append, length-set}
 use Rattle.std.proofs.lemmas.List.Elements.{All-set}
 use Rattle.std.proofs.lemmas.Bool.{eq-eqb, le-ltb, lt-ltb}
 use Rattle.irig_frame.specs.declared.symbol.Symbol.{Symbol}
@@ -10,13 +10,16 @@ use Rattle.irig_wires.specs.declared.wire.Wire.{Wire}
 use Rattle.irig_plant.proofs.ListLaws.{apart, each_set}
 use Rattle.irig_simulated.specs.declared.second.Second.{Second}
 use Rattle.irig_simulated.specs.declared.simulated.Simulated.{Simulated}
+use Rattle.irig_simulated.specs.declared.heard.HeardPulse.{HeardPulse}
+use Rattle.irig_simulated.specs.declared.heard.HeardPulses.{HeardPulses}
 use Rattle.irig_simulated.specs.Courses.{Course}
+use Rattle.irig_simulated.specs.Heard.{HaveMore}
 use Rattle.irig_simulated.specs.Simulations.{IsSimulationOf}
 use Rattle.irig_station.specs.declared.fault.StationFault.TheVariants.{NoSuchDevice, NoSuchGenerator}
 use Rattle.irig_station.specs.StationSetups.{StationSetup, kind_of_device}
 use Rattle.irig_station.specs.StationStandings.{StationStanding, StationStep, goes_to, refused_at, with_course}
 use Rattle.irig_station.specs.StationPlay.{unless_device, unless_source, with_cable, with_cable_if}
-use Rattle.irig_station.specs.Stations.{AreOnCourse}
+use Rattle.irig_station.specs.Stations.{AreKeptSince, AreOnCourse, LetGo}
 use Rattle.irig_station.specs.Together.{IsDeviceAt, StandTogether}
 
 -- ---- refusals
@@ -55,6 +58,15 @@ pub drop_more : {X : Type 0} (k : ℕ) (xs ys : List X) → k ≤ length xs → 
 drop_more zero xs ys h = refl
 drop_more (suc k) [] ys h = absurd (omega arith)
 drop_more (suc k) (x ∷ xs) ys h = drop_more k xs ys (omega arith)
+
+-- ---- pulses that are kept
+
+pub kept_more : (gone : LetGo) (old new : HeardPulses) (pulses more : List HeardPulse) → AreKeptSince gone old pulses → HaveMore old new more → AreKeptSince gone new (pulses ++ more)
+kept_more gone old new pulses more are have = record {
+  keeps = have.keeps ∙ are.keeps;
+  few = (let upto = are.few in omega (arith, upto, length-append pulses more));
+  are = λ keeps. have.pulses (are.keeps ∙ keeps) ∙ ap (λ (l : List HeardPulse). l ++ more) (are.are keeps) ∙ sym (drop_more gone.pulses pulses more are.few);
+}
 
 -- ---- a line is another
 

@@ -4,6 +4,7 @@ pub mod StationAudits
 pub mod StationStandings
 pub mod StationPlay
 pub mod StationPromise
+pub mod StationHeard
 pub mod Together
 pub mod Stations
 pub mod ValidEntries

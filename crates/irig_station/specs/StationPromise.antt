@@ -10,6 +10,7 @@ use Rattle.irig_timekeeper.specs.Announcing.{ComesWhole}
 use Rattle.irig_timekeeper.specs.Life.{Call, HaveRisen, last_tick}
 use Rattle.irig_timekeeper.specs.Lived.{keeping_after}
 use Rattle.irig_witness.specs.Promise.{IsStampedInTime}
+use Rattle.irig_simulated.specs.declared.heard.HeardPulse.{HeardPulse}
 use Rattle.irig_simulated.specs.declared.told_second.ToldSecond.{ToldSecond}
 use Rattle.irig_simulated.specs.Kinds.{edges_by_kind}
 use Rattle.irig_simulated.specs.Truth.{IsToldOfItsEdge}
@@ -46,10 +47,13 @@ pub record AreStampedTogether (t : TimelineValue) (one two : Stamp) (apart : ℕ
   pub least : m * 1000000 + one.offset_us ≤ n * 1000000 + two.offset_us + apart
   pub most : n * 1000000 + two.offset_us ≤ m * 1000000 + one.offset_us + apart
 
--- a station's log has so many entries more, at its end, and its audit was kept if it is kept now
+-- a station's log has so many entries more, at its end, so many pulses more were heard, and its audit
+-- was kept if it is kept now
 pub record LogHasGrown (before now : StationStanding) : Type 0 where
   pub more : List Entry
   pub log : now.log ≡ before.log ++ more
+  pub pulses : List HeardPulse
+  pub heard : now.heard ≡ before.heard ++ pulses
   pub kept : now.audit ≡ Kept → before.audit ≡ Kept
 
 -- ---- a log whose premises broke

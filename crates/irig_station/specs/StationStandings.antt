@@ -6,6 +6,8 @@ use Rattle.irig_time.specs.Timelines.{second_at}
 use Rattle.irig_gen.specs.Frames.{GeneratorValue}
 use Rattle.irig_plant.specs.Schedule.{generator_at_next_edge}
 use Rattle.irig_simulated.specs.Setups.{DevicePlan}
+use Rattle.irig_simulated.specs.declared.heard.HeardPulse.{HeardPulse}
+use Rattle.irig_simulated.specs.Heard.{heard_until}
 use Rattle.irig_simulated.specs.Courses.{Course, begun_with, keeps_so_far, may_stamp, passed, stamp_said, told_taken}
 use Rattle.irig_station.specs.declared.audit.Audit.{Audit}
 use Rattle.irig_station.specs.declared.audit.Audit.TheVariants.{Kept, FalseTable, Drift, Broken}
@@ -19,8 +21,8 @@ use Rattle.irig_station.specs.StationAudits.{audit_at_start, audit_seen}
 
 -- the present time, in true microseconds behind edge 0; the generators, each at the edge that
 -- begins next; what they sent in the seconds that have begun, the newest first; the course of each
--- device; the log, the oldest entry first; the audit; and how many entries, from the oldest on, were
--- logged while that was kept
+-- device; the log, the oldest entry first; the audit; how many entries, from the oldest on, were
+-- logged while that was kept; and the pulses that devices heard, the oldest first
 pub record StationStanding : Type 0 where
   pub now : ℕ
   pub generators : List GeneratorValue
@@ -29,6 +31,7 @@ pub record StationStanding : Type 0 where
   pub log : List Entry
   pub audit : Audit
   pub vouched : ℕ
+  pub heard : List HeardPulse
 
 -- how late the lines of device r are at first
 abbrev pub late_of : Option DevicePlan → List ℕ
@@ -45,6 +48,7 @@ station_at_start s = record {
   log = [];
   audit = audit_at_start s;
   vouched = 0;
+  heard = [];
 }
 
 -- what true lines have, as far as seconds have begun
@@ -118,14 +122,21 @@ lacks_second s x = is_at_edge x && is_none (second_at s.times (length x.seconds)
 abbrev pub has_begun_if_due : StationSetup → StationStanding → StationStanding
 has_begun_if_due s x = if is_at_edge x then has_begun_second s x else x
 
+-- devices have heard these pulses
+abbrev pub with_heard : List HeardPulse → StationStanding → StationStanding
+with_heard pulses x = record x { heard = x.heard ++ pulses }
+
+-- device r passes on to a time: what it told is logged, it is seen, and it has heard pulses
+abbrev pub device_gone : StationSetup → (stop r : ℕ) → StationStanding → StationStanding
+device_gone s stop r x =
+    with_heard (heard_until (kind_of_device s r) r (signal_by x.seconds) stop (x.courses r))
+    (has_gone s r (passed (kind_of_device s r) (signal_by x.seconds) stop (x.courses r)) x)
+
 -- the first so many devices pass on to a time, one after another
 abbrev pub devices_gone : StationSetup → (stop : ℕ) → (devices : ℕ) → StationStanding
     → StationStanding
 devices_gone s stop zero x = x
-devices_gone s stop (suc r) x =
-    let before = devices_gone s stop r x in
-    has_gone s r
-    (passed (kind_of_device s r) (signal_by before.seconds) stop (before.courses r)) before
+devices_gone s stop (suc r) x = device_gone s stop r (devices_gone s stop r x)
 
 -- a part of a second has passed, up to a time
 abbrev pub part_gone : StationSetup → (stop : ℕ) → StationStanding → StationStanding

@@ -1,12 +1,14 @@
 -- What a station stands for: where events leave it.
 -- Source: this project's profile.
-use Rattle.std.specs.Prelude.{◌≡◌, ℕ, ◌<◌, ◌≤◌, ◌⊎◌, All, drop, List, length, None, Some, slice_get, slice_index_or, vec_len, Result, Ok, Err}
+use Rattle.std.specs.Prelude.{◌≡◌, ℕ, Bool, true, ◌<◌, ◌≤◌, ◌⊎◌, All, drop, List, length, None, Some, slice_get, slice_index_or, vec_len, Result, Ok, Err}
 use Rattle.irig_frame.specs.declared.symbol.Symbol.{Symbol}
 use Rattle.irig_port.specs.declared.port.Port.{Ghosts}
 use Rattle.irig_time.specs.declared.rules.Rules.{Rules}
 use Rattle.irig_vote.specs.declared.redundancy.Redundancy.{Redundancy}
 use Rattle.irig_vote.specs.Vote.{ports_in}
 use Rattle.irig_simulated.specs.Setups.{DevicePlan}
+use Rattle.irig_simulated.specs.declared.heard.HeardPulse.{HeardPulse}
+use Rattle.irig_simulated.specs.declared.heard.HeardPulses.{HeardPulses}
 use Rattle.irig_simulated.specs.declared.simulated.Simulated.{Simulated}
 use Rattle.irig_simulated.specs.Kinds.{IsDevicePlan, kind_of}
 use Rattle.irig_simulated.specs.Seconds.{IsSecondOf}
@@ -30,9 +32,28 @@ AreOnCourse {P} {g} s symbol courses devices =
     (r : ℕ) (d : Simulated P g) → r < length s.devices
     → IsSimulationOf (slice_index_or devices r d) (kind_of_device s r) symbol (courses r)
 
--- a station of this setup stands there, and has let go so many entries of its log
+-- what a station has let go: so many entries of its log, and so many pulses that devices heard; and
+-- whether these are kept at all
+pub record LetGo : Type 0 where
+  pub entries : ℕ
+  pub pulses : ℕ
+  pub keeps : Bool
+
+-- all that there is so far is let go
+abbrev pub all_let_go : (keeps : Bool) → StationStanding → LetGo
+all_let_go keeps x =
+    record { entries = length x.log; pulses = length x.heard; keeps = keeps }
+
+-- of these pulses those that were not let go are kept, if they are kept at all
+pub record AreKeptSince (gone : LetGo) (kept : HeardPulses) (pulses : List HeardPulse)
+    : Type 0 where
+  pub keeps : kept.keeps ≡ gone.keeps
+  pub few : gone.pulses ≤ length pulses
+  pub are : gone.keeps ≡ true → kept.pulses.items ≡ drop gone.pulses pulses
+
+-- a station of this setup stands there, and has let this go
 pub record IsStationAt {P : Type 0} {g : Ghosts P} (p : Station P g) (s : StationSetup)
-    (x : StationStanding) (shown : ℕ)
+    (x : StationStanding) (shown : LetGo)
     : Type 0 where
   pub timeline : p.timeline ≡ s.times
   pub rules : p.rules ≡ s.rules
@@ -44,14 +65,15 @@ pub record IsStationAt {P : Type 0} {g : Ghosts P} (p : Station P g) (s : Statio
   pub now : p.now_us ≡ x.now
   pub device_count : vec_len p.devices ≡ length s.devices
   pub devices : AreOnCourse s (symbols_so_far s x) x.courses p.devices.items
-  pub log : p.log.items ≡ drop shown x.log
-  pub few : shown ≤ length x.log
+  pub log : p.log.items ≡ drop shown.entries x.log
+  pub few : shown.entries ≤ length x.log
   pub audit : p.audit ≡ x.audit
+  pub heard : AreKeptSince shown p.heard x.heard
 
 -- an event has led there: or it was refused for this reason; if there was no memory, nothing is
 -- known
 abbrev pub HasPlayed : {P : Type 0} {g : Ghosts P} → Station P g → StationSetup → StationStep
-    → (shown : ℕ) → Result Unit StationFault → Type 0
+    → (shown : LetGo) → Result Unit StationFault → Type 0
 HasPlayed p s step shown (Ok done) =
     (step.refusal ≡ None) × IsStationAt p s step.standing shown
 HasPlayed p s step shown (Err fault) =
@@ -61,7 +83,7 @@ HasPlayed p s step shown (Err fault) =
 abbrev pub PlaysEvent : {P : Type 0} {g : Ghosts P} → (old : Station P g) → Event
     → (new : Station P g) → Result Unit StationFault → Type 0
 PlaysEvent old event new result =
-    (s : StationSetup) (x : StationStanding) (shown : ℕ) → IsStationAt old s x shown
+    (s : StationSetup) (x : StationStanding) (shown : LetGo) → IsStationAt old s x shown
     → HasPlayed new s (play_event s event x) shown result
 
 -- 1 to 16 devices that there may be

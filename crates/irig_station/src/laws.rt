@@ -15,6 +15,7 @@ ghost use Rattle.irig_station.specs.StationSetups.{IsStationSetup, StationSetup,
 ghost use Rattle.irig_station.specs.StationAudits.{audit_at_start};
 ghost use Rattle.irig_station.specs.StationPlay.{audit_of_station, doubtful_log, log_of_station, passed_in_turn, play_event, standing_after, vouched_log};
 ghost use Rattle.irig_station.specs.StationPromise.{AreStampedTogether, AreWholeInARow, IsAnnounced, IsAskedWithin, IsLoggedFrom, LogHasGrown, IsTrueEntry, drift_of_device};
+ghost use Rattle.irig_station.specs.StationHeard.{IsToldWhatItHeard};
 ghost use Rattle.irig_station.specs.ValidEntries.{AreWordCounters, IsEntryInRange};
 
 use crate::audit::Audit;
@@ -40,8 +41,8 @@ pub fn a_log_of_devices_is_true()
         + 2 * drift_of_device s r + 2 * drift_of_device s q) }
 {}
 
-/// A log grows at its end, whatever happens, and an audit that is broken stays broken. So what was
-/// logged before an event that breaks it stays true.
+/// A log grows at its end, whatever happens, and so do the pulses that devices heard; and an audit that
+/// is broken stays broken. So what was logged before an event that breaks it stays true.
 pub fn a_log_of_devices_grows()
     ensures grows { (s : StationSetup) (e : Event) (ev : List Event)
         → LogHasGrown (standing_after s ev) (standing_after s (e ∷ ev)) }
@@ -106,4 +107,12 @@ pub fn time_passes_by_seconds()
     ensures { (s : StationSetup) (ev : List Event) (us : ℕ)
         → play_event s (Event.Pass us) (standing_after s ev)
         ≡ passed_in_turn s us (standing_after s ev) }
+{}
+
+/// What a device of a station hears can be written, and a device that hears that is told the same:
+/// since it was made or restarted the calls that told it a pulse are those of its own pulses that were
+/// heard since, one after another. What it tells is what its calls answer, of which the others are
+/// ticks. If it was never restarted, these are all pulses that it heard.
+pub fn a_device_is_told_what_it_hears()
+    ensures { (s : StationSetup) (ev : List Event) (r : ℕ) → IsToldWhatItHeard s r ev }
 {}

@@ -1,10 +1,10 @@
 //! How a station is made, and what it answers.
 
-ghost use Rattle.std.specs.Prelude.{◌≡◌, ◌<◌, ◌≤◌, ℕ, All, drop, length, IfErr, IfOk};
+ghost use Rattle.std.specs.Prelude.{◌≡◌, ◌<◌, ◌≤◌, ℕ, All, drop, true, IfErr, IfOk};
 ghost use Rattle.irig_plant.specs.History.{AreGenerators};
 ghost use Rattle.irig_station.specs.StationSetups.{StationSetup, redundancy_of_station, station_setup, truth_before};
 ghost use Rattle.irig_station.specs.StationStandings.{StationStanding, left_of_second, station_at_start};
-ghost use Rattle.irig_station.specs.Stations.{AreDevices, AreNewDevices, IsStationAt};
+ghost use Rattle.irig_station.specs.Stations.{AreDevices, AreNewDevices, IsStationAt, LetGo, all_let_go};
 ghost use Rattle.irig_station.specs.ValidEntries.{IsValidEntry};
 
 use crate::audit::{Audit, audit_at_start};
@@ -14,7 +14,7 @@ use crate::frames::lines_of;
 use crate::station::Station;
 use irig_gen::Generator;
 use irig_port::Port;
-use irig_simulated::{DeviceSetup, Second, Simulated};
+use irig_simulated::{DeviceSetup, HeardPulse, HeardPulses, Second, Simulated};
 use irig_time::{Claim, Rules, Timeline};
 use irig_vote::Redundancy;
 use std::alloc::{AllocError, Global};
@@ -23,20 +23,23 @@ impl<P: Port> Station<P> {
     /// A station over this timeline, with these generators, whose frames are read by these rules,
     /// and with devices of these setups, to which nothing has happened.
     ///
-    /// There must be three or five generators, made with these rules, at edge 0 and without fault.
-    /// `Memory` if there is none.
+    /// There must be three or five generators, made with these rules, at edge 0 and without fault. The
+    /// pulses that devices hear are kept if that is asked for. `Memory` if there is none.
     pub fn new(
         alloc: Global,
         timeline: Timeline,
         generators: Vec<Generator>,
         rules: Rules,
         setups: &[DeviceSetup],
+        keeps_heard: bool,
     ) -> Result<Self, StationFault>
         requires generators { AreGenerators rules generators.items }
         requires devices { AreDevices setups.now }
         ensures stands { IfOk result (λ p. IsStationAt p
             (station_setup timeline generators.items rules setups.now)
-            (station_at_start (station_setup timeline generators.items rules setups.now)) 0) }
+            (station_at_start (station_setup timeline generators.items rules setups.now))
+            (all_let_go keeps_heard (station_at_start
+            (station_setup timeline generators.items rules setups.now)))) }
         ensures memory { IfErr result (λ fault. fault ≡ StationFault.Memory) }
     {
         let redundancy = Redundancy::of_ports(generators.len());
@@ -58,6 +61,7 @@ impl<P: Port> Station<P> {
             now_us: 0,
             log: Vec::new(alloc),
             audit,
+            heard: HeardPulses::new(alloc, keeps_heard),
             is_spent: false,
         })
     }
@@ -87,23 +91,36 @@ impl<P: Port> Station<P> {
     /// [`a_log_of_devices_is_true`](crate::a_log_of_devices_is_true).
     pub fn log(&self) -> &[Entry]
         ensures valid { All IsValidEntry result.now }
-        ensures value { (s : StationSetup) (x : StationStanding) (shown : ℕ)
-            → IsStationAt self.now s x shown → result.now ≡ drop shown x.log }
+        ensures value { (s : StationSetup) (x : StationStanding) (shown : LetGo)
+            → IsStationAt self.now s x shown → result.now ≡ drop shown.entries x.log }
     {
         self.log.as_slice()
     }
 
-    /// Empties the log, and changes nothing else.
+    /// The pulses that devices heard, in the order in which they had ended, device after device in
+    /// each part of a second that was played at once, since the log was last cleared; if they are kept,
+    /// and else none.
+    pub fn heard(&self) -> &[HeardPulse]
+        ensures { (s : StationSetup) (x : StationStanding) (shown : LetGo)
+            → IsStationAt self.now s x shown → shown.keeps ≡ true
+            → result.now ≡ drop shown.pulses x.heard }
+    {
+        self.heard.as_slice()
+    }
+
+    /// Empties the log, and lets the pulses go that devices heard. It changes nothing else.
     pub fn clear_log(&mut self)
-        ensures { (s : StationSetup) (x : StationStanding) (shown : ℕ)
-            → IsStationAt self.old s x shown → IsStationAt self.new s x (length x.log) }
+        ensures { (s : StationSetup) (x : StationStanding) (shown : LetGo)
+            → IsStationAt self.old s x shown
+            → IsStationAt self.new s x (all_let_go shown.keeps x) }
     {
         self.log.clear();
+        self.heard.clear();
     }
 
     /// Whether the premises hold so far, and if not the first place at which they broke.
     pub fn audit(&self) -> Audit
-        ensures { (s : StationSetup) (x : StationStanding) (shown : ℕ)
+        ensures { (s : StationSetup) (x : StationStanding) (shown : LetGo)
             → IsStationAt self.now s x shown → result ≡ x.audit }
     {
         self.audit
@@ -111,7 +128,7 @@ impl<P: Port> Station<P> {
 
     /// How many lines each device has.
     pub fn redundancy(&self) -> Redundancy
-        ensures { (s : StationSetup) (x : StationStanding) (shown : ℕ)
+        ensures { (s : StationSetup) (x : StationStanding) (shown : LetGo)
             → IsStationAt self.now s x shown → result ≡ redundancy_of_station s }
     {
         match self.generators.len() {
@@ -126,7 +143,7 @@ impl<P: Port> Station<P> {
     pub fn left_us(&self) -> u64
         ensures some { 0 < result }
         ensures most { result ≤ 1000000 }
-        ensures value { (s : StationSetup) (x : StationStanding) (shown : ℕ)
+        ensures value { (s : StationSetup) (x : StationStanding) (shown : LetGo)
             → IsStationAt self.now s x shown → result ≡ left_of_second x }
     {
         1_000_000 - self.now_us % 1_000_000
@@ -135,7 +152,7 @@ impl<P: Port> Station<P> {
     /// What a line tells at an edge of a true frame: the claim of the second that ended there. None
     /// at edge 0, and where the timeline has no such second.
     pub fn truth(&self, edge: u64) -> Option<Claim>
-        ensures { (s : StationSetup) (x : StationStanding) (shown : ℕ)
+        ensures { (s : StationSetup) (x : StationStanding) (shown : LetGo)
             → IsStationAt self.now s x shown → result ≡ truth_before s edge }
     {
         match edge.checked_sub(1) {

@@ -3,7 +3,7 @@
 ghost use Rattle.std.specs.Prelude.{◌≡◌, ◌≤◌, ◌<◌, ◌*◌, ◌^◌, ◌⊎◌, false, true, IfErr, OnOk, ℕ};
 ghost use Rattle.irig_station.specs.StationSetups.{StationSetup};
 ghost use Rattle.irig_station.specs.StationStandings.{StationStanding, has_begun_if_due, has_begun_second, lacks_second, part_gone};
-ghost use Rattle.irig_station.specs.Stations.{IsStationAt, PlaysEvent};
+ghost use Rattle.irig_station.specs.Stations.{IsStationAt, LetGo, PlaysEvent};
 
 use crate::event::Event;
 use crate::fault::StationFault;
@@ -37,11 +37,11 @@ impl<P: Port> Station<P> {
         requires { self.old.is_spent ≡ false }
         ensures whole { self.new.is_spent ≡ false }
         ensures due { OnOk result (self.new.now_us < self.new.begun * 1000000) }
-        ensures stands { OnOk result ((s : StationSetup) (x : StationStanding) (shown : ℕ)
+        ensures stands { OnOk result ((s : StationSetup) (x : StationStanding) (shown : LetGo)
             → IsStationAt self.old s x shown → (lacks_second s x ≡ false)
             × IsStationAt self.new s (has_begun_if_due s x) shown) }
         ensures refused { IfErr result (λ fault. (s : StationSetup) (x : StationStanding)
-            (shown : ℕ) → IsStationAt self.old s x shown → (fault ≡ StationFault.Memory)
+            (shown : LetGo) → IsStationAt self.old s x shown → (fault ≡ StationFault.Memory)
             ⊎ ((fault ≡ StationFault.EndOfYears) × (lacks_second s x ≡ true)
             × IsStationAt self.new s x shown)) }
     {
@@ -62,7 +62,7 @@ impl<P: Port> Station<P> {
         requires due { self.old.now_us ≡ self.old.begun * 1000000 }
         ensures whole { self.new.is_spent ≡ false }
         ensures due { OnOk result (self.new.now_us < self.new.begun * 1000000) }
-        ensures stands { OnOk result ((s : StationSetup) (x : StationStanding) (shown : ℕ)
+        ensures stands { OnOk result ((s : StationSetup) (x : StationStanding) (shown : LetGo)
             → IsStationAt self.old s x shown
             → IsStationAt self.new s (has_begun_second s x) shown) }
     {
@@ -85,7 +85,7 @@ impl<P: Port> Station<P> {
         requires forward { self.old.now_us ≤ stop_us }
         requires within { stop_us ≤ self.old.begun * 1000000 }
         ensures whole { OnOk result (self.new.is_spent ≡ false) }
-        ensures stands { OnOk result ((s : StationSetup) (x : StationStanding) (shown : ℕ)
+        ensures stands { OnOk result ((s : StationSetup) (x : StationStanding) (shown : LetGo)
             → IsStationAt self.old s x shown
             → IsStationAt self.new s (part_gone s stop_us x) shown) }
     {
@@ -93,7 +93,7 @@ impl<P: Port> Station<P> {
         self.is_spent = true;
         for r in 0..self.devices.len() {
             let device = &mut self.devices[r];
-            device.play(&self.second, stop_us)?;
+            device.play(&self.second, stop_us, r as u8, &mut self.heard)?;
             see(device, r as u8, edge, &mut self.log, &mut self.audit)?;
         }
         self.now_us = stop_us;

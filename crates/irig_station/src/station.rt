@@ -8,7 +8,7 @@ use crate::audit::Audit;
 use crate::entry::Entry;
 use irig_gen::Generator;
 use irig_port::Port;
-use irig_simulated::{Second, Simulated};
+use irig_simulated::{HeardPulses, Second, Simulated};
 use irig_time::{Rules, Timeline};
 use std::alloc::Global;
 
@@ -27,6 +27,7 @@ pub struct Station<P: Port> {
     pub(crate) now_us: u64,
     pub(crate) log: Vec<Entry>,
     pub(crate) audit: Audit,
+    pub(crate) heard: HeardPulses,
     /// There was no memory in the midst of an event: devices stand at different times.
     pub(crate) is_spent: bool,
     ghost valid: { ∥ All IsValidEntry log.items ∥₁ },

@@ -17,7 +17,7 @@ use Rattle.irig_station.specs.declared.entry.Entry.{Entry}
 use Rattle.irig_station.specs.declared.event.Event.{Event}
 use Rattle.irig_station.specs.declared.fault.StationFault.{StationFault}
 use Rattle.irig_station.specs.declared.station.Station.{Station}
-use Rattle.irig_station.specs.Stations.{HasPlayed, IsStationAt}
+use Rattle.irig_station.specs.Stations.{HasPlayed, IsStationAt, LetGo}
 use Rattle.irig_station.specs.ValidEntries.{IsOfDevice}
 use Rattle.irig_station.proofs.DeviceEntries.{each_is_of_a_device}
 use Rattle.irig_station.proofs.GrowthLaws.{grows}
@@ -42,7 +42,7 @@ use Rattle.irig_station_scene.specs.StationRuns.{IsStationPlayerAt}
 -- ---- a refused event
 
 -- by the fault of the station
-pub refused_by : {P : Type 0} {g : Ghosts P} (p : Station P g) (x : StationScene) (e : Event) (shown : ℕ) (fault : StationFault) (k : Refusal) → refusal_of_fault fault ≡ Some k
+pub refused_by : {P : Type 0} {g : Ghosts P} (p : Station P g) (x : StationScene) (e : Event) (shown : LetGo) (fault : StationFault) (k : Refusal) → refusal_of_fault fault ≡ Some k
     → HasPlayed p x.plan.setup (station_step x e) shown (Err fault) → ((event_in_scene x e).refusal ≡ Some k) × IsStationAt p x.plan.setup (station_step x e).standing shown
 refused_by p x e shown fault k named (inl memory) = let none : None ≡ Some k = sym (ap refusal_of_fault memory) ∙ named in absurd cc
 refused_by p x e shown fault k named (inr (refused, stands)) = (ap (option_and_then refusal_of_fault) refused ∙ named, stands)
@@ -103,10 +103,10 @@ added_alone t from to old new empty h =
 joined : (t : Texts StationScene) (first : List ℕ) (x to : StationScene) (more : List ℕ) → t.said to ≡ t.said x ++ more → text_of t first (Some to) ≡ text_of t first (Some x) ++ more
 joined t first x to more said = ap (λ l. t.first first ++ l) said ∙ sym (append_assoc (t.first first) (t.said x) more)
 
-module _ {L P : Type 0} {g : Ghosts P} (stands_for : L → StationScene → Type 0) (t : Texts StationScene) (stays : StaysBehind t.said) (x : StationScene) (first : List ℕ) where
+module _ {L P : Type 0} {g : Ghosts P} (hears : Bool) (stands_for : L → StationScene → Type 0) (t : Texts StationScene) (stays : StaysBehind t.said) (x : StationScene) (first : List ℕ) where
   -- this was taken so
   abbrev pub Takes : Next StationScene → Result (Unit {0}) Stop → StationPlayer L P g → Option (List ℕ) → Option (List ℕ) → Type 0
-  Takes next r p old new = Took (IsStationPlayerAt {L = L} {P = P} {g = g} stands_for) t r (step_of_next next) first (Some x) (Some p) old new
+  Takes next r p old new = Took (IsStationPlayerAt {L = L} {P = P} {g = g} hears stands_for) t r (step_of_next next) first (Some x) (Some p) old new
 
   module _ (e : Event) where
     -- nothing was written
@@ -121,11 +121,11 @@ module _ {L P : Type 0} {g : Ghosts P} (stands_for : L → StationScene → Type
       writing_fails f p old new h = record { text = text; more = joined t first x _ text said; wrote = h }
 
       -- all was
-      pub event_taken : (p : StationPlayer L P g) (old new : Option (List ℕ)) → (event_in_scene x e).refusal ≡ None → IsStationPlayerAt stands_for p (event_in_scene x e).scene
+      pub event_taken : (p : StationPlayer L P g) (old new : Option (List ℕ)) → (event_in_scene x e).refusal ≡ None → IsStationPlayerAt hears stands_for p (event_in_scene x e).scene
           → Appends old new text → Takes (event_in_scene x e) (Ok tt) p old new
       event_taken p old new accepted stands h = record { refused = accepted; stands = stands; grew = record { text = text; more = joined t first x _ text said; wrote = h } }
 
-      pub event_refused : (k : Refusal) (p : StationPlayer L P g) (old new : Option (List ℕ)) → (event_in_scene x e).refusal ≡ Some k → IsStationPlayerAt stands_for p (event_in_scene x e).scene
+      pub event_refused : (k : Refusal) (p : StationPlayer L P g) (old new : Option (List ℕ)) → (event_in_scene x e).refusal ≡ Some k → IsStationPlayerAt hears stands_for p (event_in_scene x e).scene
           → Appends old new text → Takes (event_in_scene x e) (Err (Refused k)) p old new
       event_refused k p old new refused stands h = record { refused = refused; stands = stands; grew = record { text = text; more = joined t first x _ text said; wrote = h } }
 
@@ -137,7 +137,7 @@ module _ {L P : Type 0} {g : Ghosts P} (stands_for : L → StationScene → Type
 
     -- or none
     pub line_stops : (fault : LineFault) (p : StationPlayer L P g) (out : Option (List ℕ)) → IsUnlessMemory (λ (e : Event). e) (event_in_station_line x.plan.names line) (Err fault)
-        → IsStationPlayerAt stands_for p x → Takes (next_in_scene x (event_in_station_line x.plan.names line)) (Err (stop_of fault)) p out out
+        → IsStationPlayerAt hears stands_for p x → Takes (next_in_scene x (event_in_station_line x.plan.names line)) (Err (stop_of fault)) p out out
     line_stops (line_fault.Refused k) p out is stands =
         subst (λ (o : Result Event Refusal). Takes (next_in_scene x o) (Err (Refused k)) p out out) (sym is) (record { refused = refl; stands = stands; grew = nothing_more t first (Some x) out })
     line_stops line_fault.Memory p out is stands =
@@ -147,9 +147,9 @@ module _ {L P : Type 0} {g : Ghosts P} (stands_for : L → StationScene → Type
 -- ---- a player
 
 -- who listened to it stands as it
-pub listener_stands : {L P : Type 0} {g : Ghosts P} (stands_for : L → StationScene → Type 0) (r : Option (StationPlayer L P g)) (p : StationPlayer L P g) (l : L) (at : Option StationScene)
-    → r ≡ Some p → l ≡ p.listener → IsAt (IsStationPlayerAt {L = L} {P = P} {g = g} stands_for) r at → IsAt stands_for (Some l) at
-listener_stands stands_for r p l None is same stands = absurd (subst (λ r. IsAt (IsStationPlayerAt stands_for) r None) is stands)
-listener_stands stands_for r p l (Some x) is same stands =
-    let at = subst (λ r. IsAt (IsStationPlayerAt stands_for) r (Some x)) is stands in
+pub listener_stands : {L P : Type 0} {g : Ghosts P} (hears : Bool) (stands_for : L → StationScene → Type 0) (r : Option (StationPlayer L P g)) (p : StationPlayer L P g) (l : L) (at : Option StationScene)
+    → r ≡ Some p → l ≡ p.listener → IsAt (IsStationPlayerAt {L = L} {P = P} {g = g} hears stands_for) r at → IsAt stands_for (Some l) at
+listener_stands hears stands_for r p l None is same stands = absurd (subst (λ r. IsAt (IsStationPlayerAt hears stands_for) r None) is stands)
+listener_stands hears stands_for r p l (Some x) is same stands =
+    let at = subst (λ r. IsAt (IsStationPlayerAt hears stands_for) r (Some x)) is stands in
     subst (λ l. stands_for l x) (sym same) at.listener

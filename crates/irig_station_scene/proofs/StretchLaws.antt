@@ -1,6 +1,6 @@
 -- A stretch of time that is played second by second: what is said of its parts is what is said of the
 -- whole.
-use Rattle.std.proofs.Common.{◌≡◌, ◌∙◌, ℕ, ◌-◌, ◌<◌, List, ◌∷◌, ◌++◌, Option, Some, None, Result, Ok, Err, refl, ap, sym, subst, inl, inr, append_assoc}
+use Rattle.std.proofs.Common.{◌≡◌, ◌∙◌, ℕ, Bool, ◌-◌, ◌<◌, List, ◌∷◌, ◌++◌, Option, Some, None, Result, Ok, Err, refl, ap, sym, subst, inl, inr, append_assoc}
 use Rattle.std.specs.Prelude.{◌⊎◌, option_and_then}
 use Rattle.std.specs.Io.KnownBytes.{Appends}
 use Rattle.std.proofs.KnownBytes.{Appends-trans}
@@ -76,7 +76,7 @@ module _ (x : StationScene) (ev : List Event) (left part : ℕ) where
       let accepted : (event_in_scene y (Pass part)).refusal ≡ None = ap (option_and_then refusal_of_fault) h.accepted in
       absurd cc
 
-module _ {L : Type 0} (stands_for : L → StationScene → Type 0) (t : Texts StationScene) (reads : ReadsView stands_for t.said) (first : List ℕ) where
+module _ {L : Type 0} (hears : Bool) (stands_for : L → StationScene → Type 0) (t : Texts StationScene) (reads : ReadsView stands_for t.said) (first : List ℕ) where
   text_alike : (x y : StationScene) → view_of x ≡ view_of y → text_of t first (Some x) ≡ text_of t first (Some y)
   text_alike x y same = ap (λ (l : List ℕ). t.first first ++ l) (reads.says x y same)
 
@@ -89,7 +89,7 @@ module _ {L : Type 0} (stands_for : L → StationScene → Type 0) (t : Texts St
 
   module _ {P : Type 0} {g : Ghosts P} where
     abbrev At : StationPlayer L P g → StationScene → Type 0
-    At p x = IsStationPlayerAt {L = L} {P = P} {g = g} stands_for p x
+    At p x = IsStationPlayerAt {L = L} {P = P} {g = g} hears stands_for p x
 
     -- ---- scenes that look alike
 
@@ -100,6 +100,7 @@ module _ {L : Type 0} (stands_for : L → StationScene → Type 0) (t : Texts St
         station = subst (λ (v : StationView). IsStationAt p.station v.plan.setup v.standing at.shown) same at.stands.station;
         named = at.stands.named ∙ ap (λ (v : StationView). v.plan.names) same;
       };
+      keeps = at.keeps;
       listener = reads.stands p.listener x y same at.listener;
     }
 

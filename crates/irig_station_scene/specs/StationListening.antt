@@ -1,16 +1,17 @@
 -- What a listener of a station is told: a station, the names of its devices, and what was logged of
 -- an event; and how it may answer.
 -- Source: this project's profile.
-use Rattle.std.specs.Prelude.{◌≡◌, ℕ, List, [], ◌++◌, drop, length}
+use Rattle.std.specs.Prelude.{◌≡◌, ℕ, Bool, List, [], ◌++◌, drop, length}
 use Rattle.irig_port.specs.declared.port.Port.{Ghosts}
+use Rattle.irig_simulated.specs.declared.heard.HeardPulse.{HeardPulse}
 use Rattle.irig_station.specs.declared.entry.Entry.{Entry}
 use Rattle.irig_station.specs.declared.event.Event.{Event}
 use Rattle.irig_station.specs.declared.station.Station.{Station}
 use Rattle.irig_station.specs.StationStandings.{StationStanding}
-use Rattle.irig_station.specs.Stations.{IsStationAt}
+use Rattle.irig_station.specs.Stations.{IsStationAt, LetGo, all_let_go}
 use Rattle.scenario_devices.specs.StationLine.{StationPlan}
 use Rattle.report_run.specs.Texts.{Texts}
-use Rattle.irig_station_scene.specs.StationScenes.{StationScene, event_in_scene, standing_in, station_log}
+use Rattle.irig_station_scene.specs.StationScenes.{StationScene, event_in_scene, standing_in, station_heard, station_log}
 
 -- a station to which nothing has happened, with these names of devices and so many lines of each, is
 -- that of a scene
@@ -24,18 +25,23 @@ pub record IsStationOf (names : List (List ℕ)) (lines : ℕ) (x : StationScene
 abbrev pub entries_by : StationScene → Event → List Entry
 entries_by x e = drop (length (station_log x)) (station_log (event_in_scene x e).scene)
 
--- an event that came after a scene has just happened in a station, of which these entries are
-pub record HasHappened {P : Type 0} {g : Ghosts P} (station : Station P g)
+-- the pulses that devices hear by it
+abbrev pub pulses_by : StationScene → Event → List HeardPulse
+pulses_by x e = drop (length (station_heard x)) (station_heard (event_in_scene x e).scene)
+
+-- an event that came after a scene has just happened in a station, of which these entries are; and
+-- the pulses that devices heard by it are kept there, if they are to be heard
+pub record HasHappened {P : Type 0} {g : Ghosts P} (hears : Bool) (station : Station P g)
     (names : List (List ℕ)) (entries : List Entry) (e : Event) (x : StationScene) : Type 0 where
   pub stands : IsStationAt station x.plan.setup (standing_in (event_in_scene x e).scene)
-      (length (station_log x))
+      (all_let_go hears (standing_in x))
   pub logged : entries ≡ entries_by x e
   pub named : names ≡ x.plan.names
 
--- a station of a scene, of whose log so many entries were let go, and the names of its devices
+-- a station of a scene, which has let go what was said, and the names of its devices
 pub record NamesStation {P : Type 0} {g : Ghosts P} (station : Station P g)
     (names : List (List ℕ)) (x : StationScene) : Type 0 where
-  pub shown : ℕ
+  pub shown : LetGo
   pub stands : IsStationAt station x.plan.setup (standing_in x) shown
   pub named : names ≡ x.plan.names
 

@@ -3,6 +3,7 @@
 use Rattle.std.specs.Prelude.{ℕ, List, [], ◌∷◌, length, reverse, Option, Some, None, option_and_then, Result, Ok, Err}
 use Rattle.text_faults.specs.declared.refusal.Refusal.{Refusal}
 use Rattle.text_faults.specs.declared.refusal.Refusal.TheVariants as refusal
+use Rattle.irig_simulated.specs.declared.heard.HeardPulse.{HeardPulse}
 use Rattle.irig_station.specs.declared.audit.Audit.{Audit}
 use Rattle.irig_station.specs.declared.entry.Entry.{Entry}
 use Rattle.irig_station.specs.declared.event.Event.{Event}
@@ -35,7 +36,12 @@ station_log x = log_of_station x.plan.setup x.events
 abbrev pub newest_first : StationScene → List Entry
 newest_first x = reverse (station_log x)
 
--- how many entries that is
+-- the pulses that its devices heard, in the order in which they had ended, device after device in
+-- each part of a second that is played at once
+abbrev pub station_heard : StationScene → List HeardPulse
+station_heard x = (standing_in x).heard
+
+-- how many entries its log has
 abbrev pub station_entries : StationScene → ℕ
 station_entries x = length (station_log x)
 

@@ -23,7 +23,7 @@ impl<L: StationListener, P: Port> StationPlayer<L, P> {
         event: &Event,
         output: &mut Watched<W>,
     ) -> Result<(), Stop>
-        ensures takes { TakesEvent (L.stands_for asked) (L.texts asked) self.old event.now result
+        ensures takes { TakesEvent L.hears (L.stands_for asked) (L.texts asked) self.old event.now result
             self.new (W.contents (device_of output.old)) (W.contents (device_of output.new)) }
         ensures note { has_failed output.new ≡ (has_failed output.old || stopped_write result) }
     {
@@ -42,7 +42,7 @@ impl<L: StationListener, P: Port> StationPlayer<L, P> {
         us: u64,
         output: &mut Watched<W>,
     ) -> Result<(), Stop>
-        ensures takes { TakesEvent (L.stands_for asked) (L.texts asked) self.old (Event.Pass us)
+        ensures takes { TakesEvent L.hears (L.stands_for asked) (L.texts asked) self.old (Event.Pass us)
             result self.new (W.contents (device_of output.old))
             (W.contents (device_of output.new)) }
         ensures note { has_failed output.new ≡ (has_failed output.old || stopped_write result) }
@@ -65,7 +65,7 @@ impl<L: StationListener, P: Port> StationPlayer<L, P> {
         output: &mut Watched<W>,
     ) -> Result<(), Stop>
         requires { IsShort event.now }
-        ensures takes { TakesEvent (L.stands_for asked) (L.texts asked) self.old event.now result
+        ensures takes { TakesEvent L.hears (L.stands_for asked) (L.texts asked) self.old event.now result
             self.new (W.contents (device_of output.old)) (W.contents (device_of output.new)) }
         ensures note { has_failed output.new ≡ (has_failed output.old || stopped_write result) }
     {

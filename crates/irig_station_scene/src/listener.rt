@@ -1,6 +1,6 @@
 //! What every listener of a station does.
 
-ghost use Rattle.std.specs.Prelude.{All, ◌≡◌, ◌++◌, [], ◌≤◌, ℕ, List, IfOk, OnOk, length, string_bytes};
+ghost use Rattle.std.specs.Prelude.{All, Bool, ◌≡◌, ◌++◌, [], ◌≤◌, ℕ, List, IfOk, OnOk, length, string_bytes};
 ghost use Rattle.report_log.specs.Text.{texts_of};
 ghost use Rattle.report_run.specs.Texts.{Texts, last_of};
 ghost use Rattle.irig_station.specs.ValidEntries.{IsValidEntry};
@@ -23,11 +23,23 @@ pub trait StationListener: Drop {
     // What it says.
     ghost texts: { Self.Asked → Texts StationScene };
 
+    // It is to be shown the pulses that devices hear.
+    ghost hears: { Bool };
+
     // It stands as this scene leaves it.
     ghost stands_for: { Self.Asked → Self → StationScene → Type 0 };
 
+    /// Whether it is to be shown the pulses that devices hear. Then the station keeps those of each
+    /// event.
+    fn hears() -> bool
+        ensures { result ≡ hears };
+
+    /// What it says first, whatever the plant line is.
+    fn first(asked: Self::Asked) -> &'static str
+        ensures { (line : List ℕ) → (texts asked).first line ≡ result.now };
+
     /// The listener of a station to which nothing has happened, whose devices have these names, 16
-    /// at most, and so many lines each. Nothing is said before the first event.
+    /// at most, and so many lines each. Nothing more is said before the first event.
     fn new(
         alloc: Global,
         asked: Self::Asked,
@@ -37,8 +49,7 @@ pub trait StationListener: Drop {
         requires { length names.now.keys ≤ 16 }
         ensures stands { IfOk result (λ listener. (x : StationScene)
             → IsStationOf (texts_of names.now.keys) lines x → stands_for asked listener x) }
-        ensures quiet { (plan : StationPlan) → (texts asked).said (station_scene plan []) ≡ [] }
-        ensures first { (line : List ℕ) → (texts asked).first line ≡ [] };
+        ensures quiet { (plan : StationPlan) → (texts asked).said (station_scene plan []) ≡ [] };
 
     /// Adds what is said of an event that has just happened, also if it was refused, and of which
     /// these entries were logged.
@@ -53,11 +64,11 @@ pub trait StationListener: Drop {
         requires names { length names.now.keys ≤ 16 }
         requires valid { All IsValidEntry entries.now }
         ensures said { OnOk result ((x : StationScene) (e : Event) → stands_for asked self.old x
-            → HasHappened station.now (texts_of names.now.keys) entries.now e x
+            → HasHappened hears station.now (texts_of names.now.keys) entries.now e x
             → SaysMore (texts asked) x (event_in_scene x e).scene
             (string_bytes text.old) (string_bytes text.new)) }
         ensures stands { OnOk result ((x : StationScene) (e : Event) → stands_for asked self.old x
-            → HasHappened station.now (texts_of names.now.keys) entries.now e x
+            → HasHappened hears station.now (texts_of names.now.keys) entries.now e x
             → stands_for asked self.new (event_in_scene x e).scene) };
 
     /// Adds what comes last: what is open, if a line is refused, and else what ends the text.

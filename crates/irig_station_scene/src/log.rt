@@ -13,7 +13,7 @@ use std::alloc::{AllocError, Global};
 pub struct StationLog {}
 
 impl StationListener for StationLog {
-    ghost use Rattle.std.specs.Prelude.{⊤};
+    ghost use Rattle.std.specs.Prelude.{false, ⊤};
     ghost use Rattle.irig_station_scene.specs.StationStays.{log_stays, reads_log};
     ghost use Rattle.irig_station_scene.specs.StationText.{station_text};
     ghost use Rattle.irig_station_scene.specs.StationTexts.{station_texts};
@@ -22,12 +22,22 @@ impl StationListener for StationLog {
 
     ghost texts = { λ shown. station_texts shown.all };
 
+    ghost hears = { false };
+
     ghost stands_for = { λ shown log x. ⊤ };
 
     ghost stays = { λ shown. log_stays shown.all };
 
     ghost reads = { λ shown. reads_log (λ log plan entries. ⊤)
         (λ plan. station_text plan.names shown.all) };
+
+    fn hears() -> bool {
+        false
+    }
+
+    fn first(_shown: Shown) -> &'static str {
+        ""
+    }
 
     fn new(
         _alloc: Global,

@@ -11,7 +11,7 @@ use crate::outcome::StationOutcome;
 use crate::player::StationPlayer;
 use irig_device::Watched;
 use irig_port::Port;
-use report_run::{Chosen, Failure, Play, Stop};
+use report_run::{Chosen, Failure, Play, Stop, write_text};
 use scenario_devices::{is_station_line, station_of_line};
 use std::alloc::{AllocError, Global};
 use std::io::Write;
@@ -27,7 +27,7 @@ impl<L: StationListener, P: Port> Play for StationPlayer<L, P> {
 
     ghost texts = { L.texts };
 
-    ghost stands_for = { λ asked. IsStationPlayerAt (L.stands_for asked) };
+    ghost stands_for = { λ asked. IsStationPlayerAt L.hears (L.stands_for asked) };
 
     ghost ends = { StationEnds };
 
@@ -49,10 +49,11 @@ impl<L: StationListener, P: Port> Play for StationPlayer<L, P> {
         alloc: Global,
         asked: L::Asked,
         line: &[u8],
-        _output: &mut Watched<W>,
+        output: &mut Watched<W>,
     ) -> Result<Self, Stop> {
         let station = station_of_line(alloc, line)?;
         let player = StationPlayer::new(alloc, asked, station)?;
+        write_text(output, L::first(asked))?;
         Ok(player)
     }
 

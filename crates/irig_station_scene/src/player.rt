@@ -31,13 +31,14 @@ impl<L: StationListener, P: Port> StationPlayer<L, P> {
     ghost use Rattle.irig_plant.specs.History.{AreGenerators};
     ghost use Rattle.irig_station.specs.declared.event.Event.{Event as EventOf};
     ghost use Rattle.irig_station.specs.StationStandings.{left_of_second};
+    ghost use Rattle.irig_station.specs.Stations.{all_let_go};
     ghost use Rattle.text_faults.specs.Refusals.{IsUnlessMemory};
     ghost use Rattle.scenario_devices.specs.StationEvents.{event_in_station_line};
     ghost use Rattle.scenario_devices.specs.StationLine.{HasDevices, StationPlan, station_of};
     ghost use Rattle.report_run.specs.declared.stop.Failure.TheVariants.{Memory};
     ghost use Rattle.report_run.specs.Faults.{WroteText, failed_write};
     ghost use Rattle.report_run.specs.Texts.{last_of};
-    ghost use Rattle.irig_station_scene.specs.StationScenes.{StationScene, event_in_scene, standing_in, station_audit, station_log, station_scene};
+    ghost use Rattle.irig_station_scene.specs.StationScenes.{StationScene, event_in_scene, standing_in, station_audit, station_scene};
     ghost use Rattle.irig_station_scene.specs.StationRuns.{IsStationPlayerAt, IsStationPlayerPast, PlaysEventOf};
 
     /// The player of a station to which nothing has happened.
@@ -49,11 +50,10 @@ impl<L: StationListener, P: Port> StationPlayer<L, P> {
         requires generators { AreGenerators line.rules line.generators.items }
         requires devices { HasDevices line }
         requires names { length line.names.keys ≡ vec_len line.devices }
-        ensures stands { IfOk result (λ player.
-            IsStationPlayerAt (L.stands_for asked) player (station_scene (station_of line) [])) }
+        ensures stands { IfOk result (λ player. IsStationPlayerAt L.hears (L.stands_for asked)
+            player (station_scene (station_of line) [])) }
         ensures quiet { OnOk result ((plan : StationPlan)
             → (L.texts asked).said (station_scene plan []) ≡ []) }
-        ensures first { OnOk result ((line : List ℕ) → (L.texts asked).first line ≡ []) }
         ensures memory { IfErr result (λ failure. failure ≡ Memory) }
     {
         let BuiltStation {
@@ -67,7 +67,7 @@ impl<L: StationListener, P: Port> StationPlayer<L, P> {
         let Ok(listener) = L::new(alloc, asked, &names, lines) else {
             return Err(Failure::Memory);
         };
-        match Station::new(alloc, timeline, generators, rules, &devices) {
+        match Station::new(alloc, timeline, generators, rules, &devices, L::hears()) {
             Ok(station) => Ok(StationPlayer {
                 listener,
                 station,
@@ -81,7 +81,7 @@ impl<L: StationListener, P: Port> StationPlayer<L, P> {
     /// What a line after the plant line says.
     pub(crate) fn event_of_line(&self, alloc: Global, line: &[u8]) -> Result<Event, LineFault>
         ensures { (asked : L.Asked) (x : StationScene)
-            → IsStationPlayerAt (L.stands_for asked) self.now x
+            → IsStationPlayerAt L.hears (L.stands_for asked) self.now x
             → IsUnlessMemory (λ e. e) (event_in_station_line x.plan.names line.now) result }
     {
         event_of_station_line(alloc, &self.names, line)
@@ -109,7 +109,7 @@ impl<L: StationListener, P: Port> StationPlayer<L, P> {
         ensures some { 0 < result }
         ensures most { result ≤ 1000000 }
         ensures value { (asked : L.Asked) (x : StationScene)
-            → IsStationPlayerAt (L.stands_for asked) self.now x
+            → IsStationPlayerAt L.hears (L.stands_for asked) self.now x
             → result ≡ left_of_second (standing_in x) }
     {
         self.station.left_us()
@@ -120,13 +120,15 @@ impl<L: StationListener, P: Port> StationPlayer<L, P> {
     pub(crate) fn hear(&mut self, alloc: Global, asked: L::Asked) -> Result<String, Failure>
         ensures said { IfOk result (λ text. (x : StationScene) (e : EventOf)
             → L.stands_for asked self.old.listener x
-            → IsStationPlayerPast (length (station_log x)) self.old (event_in_scene x e).scene
+            → IsStationPlayerPast (all_let_go L.hears (standing_in x)) self.old
+            (event_in_scene x e).scene
             → (L.texts asked).said (event_in_scene x e).scene
             ≡ (L.texts asked).said x ++ string_bytes text) }
         ensures stands { OnOk result ((x : StationScene) (e : EventOf)
             → L.stands_for asked self.old.listener x
-            → IsStationPlayerPast (length (station_log x)) self.old (event_in_scene x e).scene
-            → IsStationPlayerAt (L.stands_for asked) self.new (event_in_scene x e).scene) }
+            → IsStationPlayerPast (all_let_go L.hears (standing_in x)) self.old
+            (event_in_scene x e).scene
+            → IsStationPlayerAt L.hears (L.stands_for asked) self.new (event_in_scene x e).scene) }
         ensures memory { IfErr result (λ failure. failure ≡ Memory) }
     {
         let mut text = String::new(alloc);
@@ -148,8 +150,8 @@ impl<L: StationListener, P: Port> StationPlayer<L, P> {
         refused: bool,
         output: &mut Watched<W>,
     ) -> Result<(), Failure>
-        ensures wrote { (x : StationScene) → IsStationPlayerAt (L.stands_for asked) self.now x
-            → WroteText result
+        ensures wrote { (x : StationScene)
+            → IsStationPlayerAt L.hears (L.stands_for asked) self.now x → WroteText result
             (W.contents (device_of output.old)) (W.contents (device_of output.new))
             (last_of (L.texts asked) refused x) }
         ensures note { has_failed output.new ≡ (has_failed output.old || failed_write result) }
@@ -168,7 +170,7 @@ impl<L: StationListener, P: Port> StationPlayer<L, P> {
     /// The audit so far.
     pub(crate) fn audit(&self) -> Audit
         ensures { (asked : L.Asked) (x : StationScene)
-            → IsStationPlayerAt (L.stands_for asked) self.now x → result ≡ station_audit x }
+            → IsStationPlayerAt L.hears (L.stands_for asked) self.now x → result ≡ station_audit x }
     {
         self.station.audit()
     }

@@ -71,7 +71,7 @@ fn end_player<L: StationListener, P: Port>(
     player: Option<StationPlayer<L, P>>,
 ) -> (Option<L>, IndexSet<String>, u8)
     ensures { (asked : L.Asked) (at : Option StationScene)
-        → IsAt (IsStationPlayerAt (L.stands_for asked)) player at
+        → IsAt (IsStationPlayerAt L.hears (L.stands_for asked)) player at
         → IsAt (L.stands_for asked) result.0 at }
 {
     match player {

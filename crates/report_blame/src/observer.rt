@@ -2,7 +2,7 @@
 
 ghost use Rattle.std.specs.Prelude.{◌≡◌, ◌++◌, ◌∷◌, [], ℕ, All, List, OnOk, length, reverse};
 ghost use Rattle.irig_station.specs.declared.entry.Entry.{Entry as EntryOf};
-ghost use Rattle.irig_station.specs.Stations.{IsStationAt};
+ghost use Rattle.irig_station.specs.Stations.{IsStationAt, LetGo};
 ghost use Rattle.irig_station.specs.StationSetups.{StationSetup};
 ghost use Rattle.irig_station.specs.StationStandings.{StationStanding};
 ghost use Rattle.irig_station.specs.ValidEntries.{IsOfDevice, IsValidEntry};
@@ -113,6 +113,7 @@ impl<'a> Listener for Observer<'a> {
 }
 
 impl<'a> StationListener for Observer<'a> {
+    ghost use Rattle.std.specs.Prelude.{false};
     ghost use Rattle.irig_station_scene.specs.StationStays.{reads_log};
     ghost use Rattle.report_found.specs.DeviceScenes.{ended_by_entries};
     ghost use Rattle.report_blame.specs.BlameStays.{blame_stays};
@@ -124,6 +125,8 @@ impl<'a> StationListener for Observer<'a> {
 
     ghost texts = { λ asked. station_blame_texts asked.now };
 
+    ghost hears = { false };
+
     ghost stands_for = { λ asked observer x. IsObserverAtStation observer x };
 
     ghost stays = { λ asked. blame_stays asked.now };
@@ -132,6 +135,16 @@ impl<'a> StationListener for Observer<'a> {
         (λ observer plan entries. HasSeen observer plan.setup (reverse entries))
         (λ plan entries. findings_text asked.now plan.names
         (ended_by_entries plan.setup (reverse entries))) };
+
+    fn hears() -> bool
+        ensures { result ≡ false }
+    {
+        false
+    }
+
+    fn first(_asked: &'a str) -> &'static str {
+        ""
+    }
 
     fn new(
         alloc: Global,
@@ -190,7 +203,7 @@ impl<'a> Observer<'a> {
         entries: &[StationEntry],
     ) -> Result<(), AllocError>
         requires { All IsValidEntry entries.now }
-        ensures seen { OnOk result ((s : StationSetup) (x : StationStanding) (shown : ℕ)
+        ensures seen { OnOk result ((s : StationSetup) (x : StationStanding) (shown : LetGo)
             (before : List EntryOf) → IsStationAt station.now s x shown
             → All (IsOfDevice (length s.devices)) entries.now → HasSeen self.old s before
             → HasSeenSince self.new s before (reverse entries.now)) }
@@ -209,7 +222,7 @@ impl<'a> Observer<'a> {
         entry: &StationEntry,
     ) -> Result<(), AllocError>
         requires { IsValidEntry entry.now }
-        ensures seen { OnOk result ((s : StationSetup) (x : StationStanding) (shown : ℕ)
+        ensures seen { OnOk result ((s : StationSetup) (x : StationStanding) (shown : LetGo)
             (before newest : List EntryOf) → IsStationAt station.now s x shown
             → IsOfDevice (length s.devices) entry.now → HasSeenSince self.old s before newest
             → HasSeenSince self.new s before (entry.now ∷ newest)) }

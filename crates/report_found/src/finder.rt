@@ -3,7 +3,7 @@
 ghost use Rattle.std.specs.Prelude.{◌≡◌, ◌++◌, ◌∷◌, ℕ, All, List, IfOk, OnOk, length, reverse};
 ghost use Rattle.irig_scene.specs.Scene.{Scene};
 ghost use Rattle.irig_station.specs.declared.entry.Entry.{Entry as EntryOf};
-ghost use Rattle.irig_station.specs.Stations.{IsStationAt};
+ghost use Rattle.irig_station.specs.Stations.{IsStationAt, LetGo};
 ghost use Rattle.irig_station.specs.StationSetups.{StationSetup};
 ghost use Rattle.irig_station.specs.StationStandings.{StationStanding};
 ghost use Rattle.irig_station.specs.ValidEntries.{IsOfDevice, IsValidEntry};
@@ -93,6 +93,7 @@ impl Listener for Finder {
 }
 
 impl StationListener for Finder {
+    ghost use Rattle.std.specs.Prelude.{false};
     ghost use Rattle.irig_station_scene.specs.StationStays.{quiet_reads, quiet_stays};
     ghost use Rattle.irig_station_scene.specs.StationTexts.{quiet_texts};
 
@@ -100,12 +101,22 @@ impl StationListener for Finder {
 
     ghost texts = { λ asked. quiet_texts };
 
+    ghost hears = { false };
+
     ghost stands_for = { λ asked finder x. IsFinderAtStation finder x };
 
     ghost stays = { λ asked. quiet_stays };
 
     ghost reads = { λ asked. quiet_reads (λ finder plan entries.
         HasFoundSoFar finder plan.setup (reverse entries)) };
+
+    fn hears() -> bool {
+        false
+    }
+
+    fn first(_asked: ()) -> &'static str {
+        ""
+    }
 
     fn new(
         alloc: Global,
@@ -151,7 +162,7 @@ impl Finder {
         entries: &[StationEntry],
     ) -> Result<(), AllocError>
         requires { All IsValidEntry entries.now }
-        ensures { OnOk result ((s : StationSetup) (x : StationStanding) (shown : ℕ)
+        ensures { OnOk result ((s : StationSetup) (x : StationStanding) (shown : LetGo)
             (before : List EntryOf) → IsStationAt station.now s x shown
             → All (IsOfDevice (length s.devices)) entries.now → HasFoundSoFar self.old s before
             → HasFoundSoFar self.new s (reverse entries.now ++ before)) }
@@ -168,7 +179,7 @@ impl Finder {
         entry: &StationEntry,
     ) -> Result<(), AllocError>
         requires { IsValidEntry entry.now }
-        ensures { OnOk result ((s : StationSetup) (x : StationStanding) (shown : ℕ)
+        ensures { OnOk result ((s : StationSetup) (x : StationStanding) (shown : LetGo)
             (before : List EntryOf) → IsStationAt station.now s x shown
             → IsOfDevice (length s.devices) entry.now → HasFoundSoFar self.old s before
             → HasFoundSoFar self.new s (entry.now ∷ before)) }

@@ -2,7 +2,7 @@
 //! lies nearest.
 
 ghost use Rattle.std.specs.Prelude.{◌≡◌, ℕ, IfSome};
-ghost use Rattle.irig_station.specs.Stations.{IsStationAt};
+ghost use Rattle.irig_station.specs.Stations.{IsStationAt, LetGo};
 ghost use Rattle.irig_station.specs.StationSetups.{StationSetup};
 ghost use Rattle.irig_station.specs.StationStandings.{StationStanding};
 ghost use Rattle.irig_station.specs.ValidEntries.{IsValidEntry};
@@ -17,7 +17,7 @@ use irig_station::{Entry, Station};
 /// A second that a device told, as a tick; none of a stamp.
 pub fn tick_of_told<P: Port>(station: &Station<P>, entry: &Entry) -> Option<Tick>
     requires { IsValidEntry entry.now }
-    ensures exact { (s : StationSetup) (x : StationStanding) (shown : ℕ)
+    ensures exact { (s : StationSetup) (x : StationStanding) (shown : LetGo)
         → IsStationAt station.now s x shown → result ≡ tick_of_told s entry.now }
     ensures sound { IfSome result IsSoundTick }
 {

@@ -6,7 +6,7 @@ ghost use Rattle.irig_plant.specs.Refusals.{refusal};
 ghost use Rattle.irig_scene.specs.Listening.{Gave};
 ghost use Rattle.irig_scene.specs.Scene.{Scene, scene};
 ghost use Rattle.irig_station.specs.declared.entry.Entry.{Entry as EntryOf};
-ghost use Rattle.irig_station.specs.Stations.{IsStationAt};
+ghost use Rattle.irig_station.specs.Stations.{IsStationAt, LetGo};
 ghost use Rattle.irig_station.specs.StationSetups.{StationSetup};
 ghost use Rattle.irig_station.specs.StationStandings.{StationStanding};
 ghost use Rattle.irig_station.specs.ValidEntries.{IsOfDevice, IsValidEntry};
@@ -104,6 +104,7 @@ impl Listener for Drawer {
 }
 
 impl StationListener for Drawer {
+    ghost use Rattle.std.specs.Prelude.{false};
     ghost use Rattle.irig_station_scene.specs.StationStays.{quiet_reads, quiet_stays};
     ghost use Rattle.irig_station_scene.specs.StationTexts.{quiet_texts};
     ghost use Rattle.report_lanes.specs.DeviceRuns.{HasDrawnSoFar, IsDrawerAtStation};
@@ -112,12 +113,22 @@ impl StationListener for Drawer {
 
     ghost texts = { λ asked. quiet_texts };
 
+    ghost hears = { false };
+
     ghost stands_for = { λ asked drawer x. IsDrawerAtStation drawer x };
 
     ghost stays = { λ asked. quiet_stays };
 
     ghost reads = { λ asked. quiet_reads (λ drawer plan entries.
         HasDrawnSoFar drawer plan.setup (reverse entries)) };
+
+    fn hears() -> bool {
+        false
+    }
+
+    fn first(_asked: ()) -> &'static str {
+        ""
+    }
 
     fn new(
         alloc: Global,
@@ -170,7 +181,7 @@ impl Drawer {
         entries: &[StationEntry],
     ) -> Result<(), AllocError>
         requires { All IsValidEntry entries.now }
-        ensures { OnOk result ((s : StationSetup) (x : StationStanding) (shown : ℕ)
+        ensures { OnOk result ((s : StationSetup) (x : StationStanding) (shown : LetGo)
             (before : List EntryOf) → IsStationAt station.now s x shown
             → All (IsOfDevice (length s.devices)) entries.now → HasDrawnSoFar self.old s before
             → HasDrawnSoFar self.new s (reverse entries.now ++ before)) }
@@ -187,7 +198,7 @@ impl Drawer {
         entry: &StationEntry,
     ) -> Result<(), AllocError>
         requires { IsValidEntry entry.now }
-        ensures { OnOk result ((s : StationSetup) (x : StationStanding) (shown : ℕ)
+        ensures { OnOk result ((s : StationSetup) (x : StationStanding) (shown : LetGo)
             (before : List EntryOf) → IsStationAt station.now s x shown
             → IsOfDevice (length s.devices) entry.now → HasDrawnSoFar self.old s before
             → HasDrawnSoFar self.new s (entry.now ∷ before)) }

@@ -13,7 +13,7 @@ pub returns-clause-heard : goal.returns-clause-heard
 returns-clause-heard g c = record {
   notes = _;
   ran = ran_to any_scenario AnyEnds (either_entries entries_in station_entries)
-      (StandsForEither (IsPlayerAt (g.L.Listener.stands_for c.args.asked)) (IsStationPlayerAt (g.M.StationListener.stands_for c.args.asked)))
+      (StandsForEither (IsPlayerAt (g.L.Listener.stands_for c.args.asked)) (IsStationPlayerAt g.M.StationListener.hears (g.M.StationListener.stands_for c.args.asked)))
       (StandsForEither (g.L.Listener.stands_for c.args.asked) (g.M.StationListener.stands_for c.args.asked)) _ _ (c.end_player-listener.ensures.listener c.args.asked) _
       (any_texts (g.L.Listener.texts c.args.asked) (g.M.StationListener.texts c.args.asked)) _ _ _ _ _ _ c.run_lines-answer.ensures.ran;
 }

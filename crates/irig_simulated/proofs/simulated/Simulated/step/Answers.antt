@@ -1,5 +1,4 @@
-use Rattle.std.proofs.Common.{◌≡◌, ◌∙◌, ◌<◌, ◌≤◌, refl, ap, subst, sym, arith}
-use Rattle.irig_vote.specs.Vote.{ports_in}
+use Rattle.std.proofs.Common.{◌∙◌, refl, ap, subst, sym, arith}
 use Rattle.irig_wires.specs.declared.wires.Coming.{Coming}
 use Rattle.irig_wires.specs.declared.wires.Happening.TheVariants.{End, Send, Tick}
 use Rattle.irig_simulated.specs.Courses.{Course}
@@ -19,13 +18,13 @@ hear-requires-clause-rise g c =
     let time = ap (λ (y : Coming). y.time_us) c.requires.coming in
     omega (arith, past, time)
 
-pub returns-in-End-clause-stands : goal.returns-in-End-clause-stands
-returns-in-End-clause-stands g c k signal symbol x of is =
+pub returns-in_ok-hear-in-End-clause-stands : goal.returns-in_ok-hear-in-End-clause-stands
+returns-in_ok-hear-in-End-clause-stands g c k signal symbol x of is =
     let self = c.args.self.now in
     let time = ap (λ (y : Coming). y.time_us) c.requires.coming in
     let now = later self _ k symbol x c.args.coming.time_us refl refl refl refl refl refl refl refl (omega (arith, time)) is in
     subst (λ (y : Course). IsSimulationOf c.hear.new.self k symbol y) (stepped_by k signal x c.args.coming (End c.in-End.ending) (c.requires.coming ∙ coming_is self k symbol x is) c.in-End.is)
-    (c.hear.ensures.stands k signal symbol (record x { now = c.args.coming.time_us }) of now)
+    (c.in_ok-hear-in-End.ensures.stands k signal symbol (record x { now = c.args.coming.time_us }) of now)
 
 pub returns-in_ok-tick-in-Tick-clause-stands : goal.returns-in_ok-tick-in-Tick-clause-stands
 returns-in_ok-tick-in-Tick-clause-stands g c k signal symbol x of is =

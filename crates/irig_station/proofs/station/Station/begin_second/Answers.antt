@@ -71,4 +71,5 @@ returns-clause-stands g c s x shown q =
       log = q.log;
       few = q.few;
       audit = q.audit;
+      heard = q.heard;
     }

@@ -69,4 +69,5 @@ returns-clause-stands g c =
       log = c.new-2.ensures.items;
       few = omega arith;
       audit = c.audit_at_start-audit.ensures;
+      heard = record { keeps = c.new-3.ensures.keeps; few = omega arith; are = λ keeps. c.new-3.ensures.none };
     }

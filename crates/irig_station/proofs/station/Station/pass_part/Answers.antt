@@ -15,7 +15,7 @@ use Rattle.irig_station.specs.StationStandings.{devices_gone, symbols_so_far}
 use Rattle.irig_station.specs.Stations.{IsStationAt}
 use Rattle.irig_station.specs.Together.{IsDeviceAt}
 use Rattle.irig_station.proofs.PassLaws.{gone_set, left_set}
-use Rattle.irig_station.proofs.StationLaws.{course_set, drop_more}
+use Rattle.irig_station.proofs.StationLaws.{course_set, drop_more, kept_more}
 use Rattle.irig_station.proofs.station.Station.pass_part.Goals as goal
 
 pub invariant_of-self-in-Break-1 : goal.invariant_of-self-in-Break-1
@@ -60,14 +60,15 @@ loop-r-preserved g c =
           let stands = c.in_ok-play.ensures.stands k (signal_by v.seconds) symbol (v.courses l.r) (w.second begun) stood in
           let devices = course_set s symbol v.courses xs l.r y (told_taken course) less w.devices (c.in_ok-see.ensures.stands k symbol course stands) in
           let entries = map {B = Entry} (λ told. Told l.r told) course.told in
-          let log : c.see.new.log.items ≡ _ = c.in_ok-see.ensures.logged k symbol course stands ∙ ap (λ (l : List Entry). l ++ entries) w.log ∙ sym (drop_more shown v.log entries w.few) in
-          let few : shown ≤ length (v.log ++ entries) = (let f = w.few in omega (arith, f, length-append v.log entries)) in
+          let log : c.see.new.log.items ≡ _ = c.in_ok-see.ensures.logged k symbol course stands ∙ ap (λ (l : List Entry). l ++ entries) w.log ∙ sym (drop_more shown.entries v.log entries w.few) in
+          let few : shown.entries ≤ length (v.log ++ entries) = (let f = w.few in omega (arith, f, length-append v.log entries)) in
           let kept = keeps_so_far k symbol course in
           let now : old.now_us ≡ v.now = sym inv.rest.now ∙ w.now in
           let audit : c.see.new.audit ≡ audit_seen v.audit l.r (v.now / 1000000) kept =
           c.in_ok-see.ensures.audit k symbol course stands ∙ ap (λ (a : Audit). audit_seen a l.r (old.now_us / 1000000) kept) w.audit ∙ ap (λ (n : ℕ). audit_seen v.audit l.r (n / 1000000) kept) now in
+          let heard = kept_more shown l.self.heard c.play.new.kept v.heard _ w.heard (c.in_ok-play.ensures.heard k (signal_by v.seconds) symbol (v.courses l.r) (w.second begun) stood) in
           let next : l.r + 1 ≡ suc l.r = omega arith in
-          rw next (assumption (w, devices, log, few, audit));
+          rw next (assumption (w, devices, log, few, audit, heard));
     }
 
 pub returns-clause-stands : goal.returns-clause-stands

@@ -46,9 +46,9 @@ returns g c s x shown q =
     let said : Entry = Stamped r time c.stamp-stamp.result in
     let entry : Entry = Stamped r (x.now - ago) (stamp_said k course (x.now - ago)) in
     let same : said ≡ entry = ap (λ (n : ℕ). Stamped r n c.stamp-stamp.result) at ∙ ap (λ (o : Option Stamp). Stamped r (x.now - ago) o) stamp in
-    let log : c.push_reserved.new.self.items ≡ drop shown (x.log ++ entry ∷ []) =
-    c.push_reserved.ensures.items ∙ ap (λ (l : List Entry). l ++ (said ∷ [])) (c.reserve.ensures.items ∙ q.log) ∙ ap (λ (e : Entry). drop shown x.log ++ (e ∷ [])) same ∙ sym (drop_more shown x.log (entry ∷ []) q.few) in
-    let few : shown ≤ length (x.log ++ entry ∷ []) = omega (arith, q.few, length-append x.log (entry ∷ [])) in
+    let log : c.push_reserved.new.self.items ≡ drop shown.entries (x.log ++ entry ∷ []) =
+    c.push_reserved.ensures.items ∙ ap (λ (l : List Entry). l ++ (said ∷ [])) (c.reserve.ensures.items ∙ q.log) ∙ ap (λ (e : Entry). drop shown.entries x.log ++ (e ∷ [])) same ∙ sym (drop_more shown.entries x.log (entry ∷ []) q.few) in
+    let few : shown.entries ≤ length (x.log ++ entry ∷ []) = omega (arith, q.few, length-append x.log (entry ∷ [])) in
     let audit : c.audit_seen-self.result ≡ audit_seen x.audit r (x.now / 1000000) (may_stamp k symbol course (x.now - ago)) =
     c.audit_seen-self.ensures ∙ ap (λ (b : Bool). audit_seen self.audit r (self.now_us / 1000000) b) may ∙ ap (λ (a : Audit). audit_seen a r (self.now_us / 1000000) (may_stamp k symbol course (x.now - ago))) q.audit
     ∙ ap (λ (n : ℕ). audit_seen x.audit r (n / 1000000) (may_stamp k symbol course (x.now - ago))) q.now in

@@ -42,8 +42,8 @@ returns g c s x shown q =
     let stands = c.in_ok-tick.ensures.stands k symbol (x.courses r) stood in
     let devices = course_set s symbol x.courses self.devices.items r c.see.new.device (told_taken course) (omega (arith, c.in_ok-has_device.ensures.ok, self.devices.ok.0)) q.devices (c.in_ok-see.ensures.stands k symbol course stands) in
     let entries = map {B = Entry} (λ told. Told r told) course.told in
-    let log : c.see.new.log.items ≡ _ = c.in_ok-see.ensures.logged k symbol course stands ∙ ap (λ (l : List Entry). l ++ entries) q.log ∙ sym (drop_more shown x.log entries q.few) in
-    let few : shown ≤ length (x.log ++ entries) = omega (arith, q.few, length-append x.log entries) in
+    let log : c.see.new.log.items ≡ _ = c.in_ok-see.ensures.logged k symbol course stands ∙ ap (λ (l : List Entry). l ++ entries) q.log ∙ sym (drop_more shown.entries x.log entries q.few) in
+    let few : shown.entries ≤ length (x.log ++ entries) = omega (arith, q.few, length-append x.log entries) in
     let kept = keeps_so_far k symbol course in
     let audit : c.see.new.audit ≡ audit_seen x.audit r (x.now / 1000000) kept =
     c.in_ok-see.ensures.audit k symbol course stands ∙ ap (λ (a : Audit). audit_seen a r (self.now_us / 1000000) kept) q.audit ∙ ap (λ (n : ℕ). audit_seen x.audit r (n / 1000000) kept) q.now in

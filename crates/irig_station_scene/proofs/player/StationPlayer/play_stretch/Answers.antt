@@ -10,7 +10,7 @@ pub loop-left_us-init : goal.loop-left_us-init
 loop-left_us-init g c =
     let asked = c.args.asked in (
       refl,
-      λ x first at. none_passed (g.L.StationListener.stands_for asked) (g.L.StationListener.texts asked) (g.met.L.StationListener.reads asked) first c.args.us x _ _ at,
+      λ x first at. none_passed g.L.StationListener.hears (g.L.StationListener.stands_for asked) (g.L.StationListener.texts asked) (g.met.L.StationListener.reads asked) first c.args.us x _ _ at,
     )
 
 pub returns-in_err-play_at_once-clause-takes : goal.returns-in_err-play_at_once-clause-takes
@@ -22,7 +22,7 @@ returns-in_err-play_at_once-clause-takes g c =
     let y = station_scene x.plan was.events in
     let is : c.min-part_us.result ≡ first_part c.loop-left_us.left_us (standing_in y) =
     subst (λ (n : ℕ). c.min-part_us.result ≡ min c.loop-left_us.left_us n) (c.left_us.ensures.value asked y was.stands) c.min-part_us.ensures in
-    part_stops (g.L.StationListener.stands_for asked) (g.L.StationListener.texts asked) (g.met.L.StationListener.reads asked) first (g.met.L.StationListener.stays asked) c.args.us c.loop-left_us.left_us c.min-part_us.result c.loop-left_us-test.true x _ _ _ _ _ was
+    part_stops g.L.StationListener.hears (g.L.StationListener.stands_for asked) (g.L.StationListener.texts asked) (g.met.L.StationListener.reads asked) first (g.met.L.StationListener.stays asked) c.args.us c.loop-left_us.left_us c.min-part_us.result c.loop-left_us-test.true x _ _ _ _ _ was
     is c.in_err-play_at_once.field-0.0 (c.in_err-play_at_once.ensures.takes y first was.stands))
 
 pub loop-left_us-preserved : goal.loop-left_us-preserved
@@ -34,7 +34,7 @@ loop-left_us-preserved g c =
           let y = station_scene x.plan was.events in
           let is : c.min-part_us.result ≡ first_part c.loop-left_us.left_us (standing_in y) =
           subst (λ (n : ℕ). c.min-part_us.result ≡ min c.loop-left_us.left_us n) (c.left_us.ensures.value asked y was.stands) c.min-part_us.ensures in
-          part_passes (g.L.StationListener.stands_for asked) (g.L.StationListener.texts asked) (g.met.L.StationListener.reads asked) first (g.met.L.StationListener.stays asked) c.args.us c.loop-left_us.left_us c.min-part_us.result c.loop-left_us-test.true x _ _ _ _ _ was
+          part_passes g.L.StationListener.hears (g.L.StationListener.stands_for asked) (g.L.StationListener.texts asked) (g.met.L.StationListener.reads asked) first (g.met.L.StationListener.stays asked) c.args.us c.loop-left_us.left_us c.min-part_us.result c.loop-left_us-test.true x _ _ _ _ _ was
           is (c.in_ok-play_at_once.ensures.takes y first was.stands),
     )
 
@@ -43,8 +43,8 @@ returns-clause-takes g c =
     let asked = c.args.asked in
     λ x first at.
     let none : c.loop-left_us.left_us ≡ 0 = (let over = c.loop-left_us-test.false in omega (arith, over)) in
-    all_passed (g.L.StationListener.stands_for asked) (g.L.StationListener.texts asked) (g.met.L.StationListener.reads asked) first c.args.us x _ _ _
-    (subst (λ (left : ℕ). HasPassed (g.L.StationListener.stands_for asked) (g.L.StationListener.texts asked) (g.met.L.StationListener.reads asked) first c.args.us left x c.loop-left_us.self (g.W.Write.contents (device_of c.args.output.now)) (g.W.Write.contents (device_of c.loop-left_us.output))) none (c.loop-left_us.invariant.1 x first at))
+    all_passed g.L.StationListener.hears (g.L.StationListener.stands_for asked) (g.L.StationListener.texts asked) (g.met.L.StationListener.reads asked) first c.args.us x _ _ _
+    (subst (λ (left : ℕ). HasPassed g.L.StationListener.hears (g.L.StationListener.stands_for asked) (g.L.StationListener.texts asked) (g.met.L.StationListener.reads asked) first c.args.us left x c.loop-left_us.self (g.W.Write.contents (device_of c.args.output.now)) (g.W.Write.contents (device_of c.loop-left_us.output))) none (c.loop-left_us.invariant.1 x first at))
 
 pub play_at_once-requires : goal.play_at_once-requires
 play_at_once-requires g c =

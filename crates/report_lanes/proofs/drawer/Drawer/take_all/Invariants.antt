@@ -1,7 +1,7 @@
 use Rattle.std.proofs.Common.{ℕ, List, ◌++◌, All, length, take}
 use Rattle.std.specs.Prelude.{reverse}
 use Rattle.irig_station.specs.declared.entry.Entry.{Entry}
-use Rattle.irig_station.specs.Stations.{IsStationAt}
+use Rattle.irig_station.specs.Stations.{IsStationAt, LetGo}
 use Rattle.irig_station.specs.StationSetups.{StationSetup}
 use Rattle.irig_station.specs.StationStandings.{StationStanding}
 use Rattle.irig_station.specs.ValidEntries.{IsOfDevice}
@@ -10,6 +10,6 @@ use Rattle.report_lanes.proofs.drawer.Drawer.take_all.Given as goal
 
 abbrev pub invariant-loop-entry : goal.invariant-loop-entry
 invariant-loop-entry g l =
-    (s : StationSetup) (x : StationStanding) (shown : ℕ) (before : List Entry) → IsStationAt l.station s x shown
+    (s : StationSetup) (x : StationStanding) (shown : LetGo) (before : List Entry) → IsStationAt l.station s x shown
     → All (IsOfDevice (length s.devices)) l.entries → HasDrawnSoFar l.initial.self s before
     → HasDrawnSoFar l.self s (reverse (take l.entry-index l.entries) ++ before)
