@@ -37,6 +37,7 @@ UNSAID = {
         "tick_of_an_unknown_reader", "event_reader_before_replay", "step_of_generator_3",
         "ports_before_a_refusal", "skipped_lines_count", "replay_of_a_future_edge", "end_of_the_years",
         "flatten_up_to_a_refusal", "blame_up_to_a_refusal", "blame_to_the_end_of_years", "blame_devices_up_to_a_refusal",
+        "flatten_devices_up_to_a_refusal", "flatten_devices_to_the_end_of_years",
         "events_at_their_limits", "seconds_at_their_limit",
         *(f"devices_{event}_of_generator_3" for event in ("fault", "repair", "pull", "plug", "late_event", "pulse")),
         *(f"devices_{event}_of_an_unknown_device" for event in ("pull", "plug", "late_event", "tick", "restart", "stamp")),

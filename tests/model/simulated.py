@@ -36,6 +36,15 @@ class ToldSecond:
     behind: int
 
 
+@dataclass(frozen=True)
+class HeardPulse:
+    """A pulse that a device was told: its line, when it rose there, and when it had ended."""
+
+    line: int
+    rise: int
+    end: int
+
+
 class Simulated:
     """A device, its lines, and what comes next, in microseconds of true time."""
 
@@ -45,6 +54,7 @@ class Simulated:
         lines = len(self.cables)
         self.keeper = Device(rules, setup.rules, setup.table, lines, WITHIN, setup.drift, (0,) * lines)
         self.send = 0
+        self.heard: list[HeardPulse] = []
         self.begin(0)
 
     def begin(self, now: int) -> None:
@@ -91,6 +101,7 @@ class Simulated:
     def hear(self, line: int, now: int, seconds: Seconds) -> None:
         """A pulse has ended."""
         rise_time, _ = self.cables[line].take(now)
+        self.heard.append(HeardPulse(line, rise_time, now))
         rise = self.count(rise_time)
         width = min(self.count(now) - rise, WRAP - 1)
         place = self.keeper.hear(line, rise % WRAP, width)

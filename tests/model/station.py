@@ -7,7 +7,7 @@ from .frames import told as word_of
 from .generator import GeneratorFault, Kind, sent
 from .meaning import Event
 from .reader import said_of
-from .simulated import SECOND, Signal, Simulated, ToldSecond
+from .simulated import SECOND, HeardPulse, Signal, Simulated, ToldSecond
 from .station_lines import StationPlan
 from .times import Claim, Mark, is_true_table, second_at, text_of_second, truth_at
 from .wires import KeptCable, Pulse
@@ -31,6 +31,7 @@ class Station:
         self.faults: list[GeneratorFault | None] = [None] * len(plan.generators)
         self.devices = {name: Simulated(setup, plan.rules) for name, setup in plan.devices.items()}
         self.told_seconds: list[tuple[str, ToldSecond]] = []
+        self.heard: list[tuple[str, HeardPulse]] = []
         self.broken = self.broken_at_start()
 
     def keep_pulses(self, name: str) -> list[list[Pulse]]:
@@ -88,6 +89,8 @@ class Station:
             stop = min(end, SECOND * len(self.seconds))
             for name, device in self.devices.items():
                 yield from self.told(name, device.pass_to(stop, self.seconds))
+                self.heard += [(name, pulse) for pulse in device.heard]
+                device.heard.clear()
             self.now = stop
 
     def told(self, name: str, seconds: Iterator[ToldSecond]) -> Iterator[str]:

@@ -249,7 +249,7 @@ fn ports_option<'a>(alloc: Global) -> Arg<'a> {
 }
 
 fn flatten_command<'a>(alloc: Global) -> Result<Command<'a>, AllocError> {
-    let about = "Writes a scenario out as what its readers hear";
+    let about = "Writes a scenario out as what its readers or devices hear";
     described(alloc, "flatten", about, FLATTEN_AFTER).arg(file_argument(alloc))
 }
 

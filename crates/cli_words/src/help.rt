@@ -58,10 +58,15 @@ Example:
 
 /// What follows the options of `flatten`.
 pub const FLATTEN_AFTER: &str =
-    "It writes the plant line as it stands, and then what comes to the readers' ports, event by event, as lines of a
-scenario: the pulses of each frame, each tick, each restart. What happens at generators is played and left out, so
-a log can be had of a recording, and a recording of a scenario: `irig run` prints the same log for both, also with
---all and --ports. It runs 1,000,000 lines at most.
+    "Of a plant of readers it writes the plant line as it stands, and then what comes to the readers' ports, event by
+event, as lines of a scenario: the pulses of each frame, each tick, each restart. What happens at generators is
+played and left out, so a log can be had of a recording, and a recording of a scenario: `irig run` prints the same
+log for both, also with --all and --ports. It runs 1,000,000 lines at most.
+
+Of a plant of devices it writes a row of each pulse that a device hears, when that has ended, below a row of names:
+  device,port,rise_us,width_us
+port is the number of the generator whose line the pulse comes by, rise_us the microsecond of true time behind edge 0
+at which it rises at the device's end of that line, and width_us how many microseconds it lasts.
 
 If a line of FILE is refused, the last line that is written says so, as that of a log does.
 

@@ -1,6 +1,6 @@
 -- What is done for a request.
 -- Source: docs/irig.1, the commands; the exit statuses are those of Status.antt.
-use Rattle.std.specs.Prelude.{◌≡◌, ℕ, ◌≤◌, ◌↔◌, ◌⊎◌, Bool, false, true, ⊤, List, Result, Ok, Err, IfSome, string_bytes}
+use Rattle.std.specs.Prelude.{◌≡◌, ℕ, ◌≤◌, ◌↔◌, ◌⊎◌, Bool, false, true, ⊤, List, Result, Ok, Err, string_bytes}
 use Rattle.std.specs.Io.KnownBytes.{Appends, Keeps}
 use Rattle.std.specs.declared.io.Error.{Error}
 use Rattle.irig_device.specs.Lines.{Bytes}
@@ -12,9 +12,8 @@ use Rattle.text_frame.specs.Letters.{ShowsNoSymbols}
 use Rattle.text_frame.specs.Reading.{IsReadingOf}
 use Rattle.report_run.specs.declared.fault.SceneFault.{SceneFault}
 use Rattle.report_log.specs.declared.shown.Shown.{Shown}
-use Rattle.irig_scene.specs.LogLines.{OfWritten}
 use Rattle.irig_scenario.specs.Scenarios.{RanScenario}
-use Rattle.report_flat.specs.Flattening.{HasTheLog, RanFlat}
+use Rattle.report_flat.specs.Flattening.{RanEither, WroteTheLog}
 use Rattle.report_blame.specs.Blaming.{RanBlame}
 use Rattle.cli_words.specs.declared.request.Request.{Request}
 use Rattle.cli_words.specs.declared.request.Request.TheVariants.{Plain, Play, Frame, Read, Explain}
@@ -56,14 +55,13 @@ abbrev pub EndedWith : {O : Type 0} → Result (Unit {0}) SceneFault
     → (Result O SceneFault → Type 0) → Type 0
 EndedWith {O} run Holds = (answer : Result O SceneFault) × (run ≡ ended answer) × Holds answer
 
--- what is wanted of a scenario was written: its log; the scenario as what its readers hear, which
--- has the same log; or who lied in it
+-- what is wanted of a scenario was written: its log; what its readers hear, as a scenario that has
+-- the same log, or what its devices hear; or who lied in it
 abbrev pub Writes : Wanted → Result (Unit {0}) SceneFault → Bytes → Bytes → Bytes → Bytes → Type 0
 Writes (Log all ports) run input left old new =
     EndedWith run (λ answer. RanScenario (shown all ports) answer input left old new)
 Writes Flat run input left old new =
-    EndedWith run (λ answer. IfSome input (λ x. OfWritten old new (HasTheLog answer x))
-    × RanFlat answer input left old new)
+    EndedWith run (λ answer. WroteTheLog answer input old new × RanEither answer input left old new)
 Writes (Blame lines) run input left old new =
     EndedWith run (λ answer. RanBlame lines.now answer input left old new)
 

@@ -12,7 +12,7 @@ use crate::request::open;
 use cli_words::Wanted;
 use irig_device::Watched;
 use irig_scenario::{WhyRefused, run_scenario};
-use irig_scene::{RefusedLine, SceneFault, Shown};
+use irig_scene::{SceneFault, Shown};
 use report_blame::blame;
 use report_flat::flatten;
 use std::alloc::Global;
@@ -70,22 +70,13 @@ fn write_wanted<I: BufRead, O: Write>(
             end_of(answer)
         }
         Wanted::Flat => {
-            let mut line = None;
-            let answer = flatten(alloc, input, output, &mut line);
-            *refused = why_of(line);
+            let answer = flatten(alloc, input, output, refused);
             end_of(answer)
         }
         Wanted::Blame { lines } => {
             let answer = blame(alloc, lines, input, output, refused);
             end_of(answer)
         }
-    }
-}
-
-fn why_of(line: Option<RefusedLine>) -> Option<WhyRefused> {
-    match line {
-        Some(line) => Some(WhyRefused::Line(line)),
-        None => None,
     }
 }
 

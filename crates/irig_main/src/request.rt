@@ -36,8 +36,8 @@ const PLAIN_LOG: Wanted<'static> = Wanted::Log {
     ports: false,
 };
 
-/// Does what is asked for: plays a scenario and writes its log, what its readers hear, or who lied in
-/// it; writes a frame or what one says; or explains a word. Neither device may have failed before.
+/// Does what is asked for: plays a scenario and writes its log, what its readers or devices hear, or who
+/// lied in it; writes a frame or what one says; or explains a word. Neither device may have failed before.
 ///
 /// `BadTime` if TIME is the text of no second, `BadFrameText` if FRAME has a letter of no
 /// symbol, `CommandLine` if WORD is none that is explained, and then nothing is written; `Refused`

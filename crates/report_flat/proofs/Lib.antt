@@ -7,6 +7,7 @@ pub mod PushLaws
 pub mod RangeLaws
 pub mod ReadLaws
 pub mod RecordingLaws
+pub mod RowLaws
 pub mod RunLaws
 pub mod StandardFacts
 pub mod TakenLaws

@@ -19,9 +19,16 @@ use Rattle.report_flat.specs.EventText.{event_line}
 use Rattle.report_run.specs.Texts.{first_of, meaning_text}
 use Rattle.irig_scene.specs.Texts.{of_scenes, said, whole_text}
 use Rattle.irig_scene.specs.ListenerRuns.{RunFor, RanFor}
+use Rattle.irig_scene.specs.Run.{Ends}
+use Rattle.report_run.specs.Alone.{RanAlone}
+use Rattle.scenario_devices.specs.StationLine.{is_station_line}
+use Rattle.irig_station_scene.specs.StationRuns.{StationEnds}
+use Rattle.irig_station_scene.specs.StationScenes.{station_scenario}
+use Rattle.irig_scenario.specs.Scenarios.{ScenarioEnd, has_devices}
 use Rattle.report_flat.specs.Recording.{heard_of}
 use Rattle.report_flat.specs.FlatText.{heard_line, heard_lines, line_text, heard_text, flat_texts, flat_meaning, flat_text}
-use Rattle.report_flat.specs.Flattening.{FlatRun, RanFlat, HasTheLog}
+use Rattle.report_flat.specs.RowText.{row_texts}
+use Rattle.report_flat.specs.Flattening.{FlatRun, RanFlat, RanEither, HasTheLog, WroteTheLog}
 use Rattle.report_flat.proofs.TextLaws.{same_output}
 
 -- ---- its text
@@ -68,3 +75,27 @@ has_the_log r (Some x) left (Some a) (Some b) ran = λ w is o done few shown.
     let whole : FlatRun (Ok o) x (Some a) (Some b) = subst (λ r. FlatRun r x (Some a) (Some b)) done (subst (λ x. FlatRun r x (Some a) (Some b)) ran.of_input ran.ran) in
     let same : w ≡ flat_text x = append_cancel_left a w (flat_text x) (sym is ∙ whole.1) in
     ap (λ t. output_shown t shown) same ∙ same_output x shown whole.0 (subst (λ t. length (lines t) ≤ max_lines) same few)
+
+-- ---- a run of either
+
+-- alone each does that
+pub ran_either : (r : Result ScenarioEnd SceneFault) (was left old new : Option (List ℕ)) → RanAlone is_station_line scenario station_scenario Ends StationEnds (of_scenes flat_texts) row_texts r was left old new → RanEither r was left old new
+unfolding ran_flat
+ran_either r was left old new h = record {
+  bytes = h.bytes;
+  of_input = h.of_input;
+  readers = λ is.
+      (let first = h.first is in
+      record { answer = first.answer; is = first.is; holds = ((ran_flat first.answer was left old new (record { bytes = h.bytes; of_input = h.of_input; ran = first.holds })).ran, first.holds) });
+  devices = h.second;
+}
+
+pub wrote_the_log : (r : Result ScenarioEnd SceneFault) (was left old new : Option (List ℕ)) → RanEither r was left old new → WroteTheLog r was old new
+wrote_the_log r None left old new ran = tt
+wrote_the_log r (Some x) left old new ran = λ is.
+    let h = ran.readers (ap has_devices ran.of_input ∙ is) in
+    record {
+      answer = h.answer;
+      is = h.is;
+      holds = has_the_log h.answer (Some x) left old new (record { bytes = ran.bytes; of_input = ran.of_input; ran = h.holds.0; read = h.holds.1 });
+    }

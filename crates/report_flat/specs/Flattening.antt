@@ -1,5 +1,5 @@
--- What a run writes that writes what readers hear.
-use Rattle.std.specs.Prelude.{◌≡◌, ℕ, ◌≤◌, List, length, None, Result, Ok, Err}
+-- What a run writes that writes what readers or devices hear.
+use Rattle.std.specs.Prelude.{◌≡◌, ℕ, ◌≤◌, true, false, List, length, None, IfSome, Result, Ok, Err}
 use Rattle.std.specs.Io.KnownBytes.{Appends}
 use Rattle.irig_device.specs.Lines.{Bytes}
 use Rattle.irig_device.specs.Watched.{AppendsPart}
@@ -7,11 +7,20 @@ use Rattle.report_log.specs.declared.shown.Shown.{Shown}
 use Rattle.report_run.specs.declared.fault.SceneFault.{SceneFault}
 use Rattle.report_run.specs.declared.fault.SceneFault.TheVariants as fault
 use Rattle.report_run.specs.Lines.{lines, max_lines}
-use Rattle.report_run.specs.Runs.{IsRefused, AreBytesOf}
+use Rattle.report_run.specs.Alone.{AnswersAs}
+use Rattle.report_run.specs.Runs.{IsRefused, AreBytesOf, RunFor as RunOf}
+use Rattle.report_run.specs.declared.either.EitherOutcome.TheVariants.{First, Second}
 use Rattle.irig_scene.specs.Scene.{scenario, meaning_of, output_shown}
 use Rattle.irig_scene.specs.declared.outcome.Outcome.{Outcome}
 use Rattle.irig_scene.specs.ListenerRuns.{RunFor}
+use Rattle.irig_scene.specs.LogLines.{OfWritten}
+use Rattle.irig_station_scene.specs.StationRuns.{StationEnds}
+use Rattle.irig_station_scene.specs.StationScenes.{station_scenario}
+use Rattle.irig_scenario.specs.Scenarios.{ScenarioEnd, has_devices}
 use Rattle.report_flat.specs.FlatText.{flat_text, flat_texts}
+use Rattle.report_flat.specs.RowText.{row_texts}
+
+-- ---- of a plant of readers
 
 -- all of the text was written, or a prefix of it
 abbrev pub FlatRun : Result Outcome SceneFault → List ℕ → Bytes → Bytes → Type 0
@@ -35,3 +44,24 @@ abbrev pub HasTheLog : Result Outcome SceneFault → List ℕ → List ℕ → T
 HasTheLog r x written =
     (o : Outcome) → r ≡ Ok o → length (lines written) ≤ max_lines → (shown : Shown)
     → output_shown written shown ≡ output_shown x shown
+
+-- ---- of either
+
+-- for the bytes of the input, and if it does not tell them, for some
+pub record RanEither (r : Result ScenarioEnd SceneFault) (was left old new : Bytes) : Type 0 where
+  pub bytes : List ℕ
+  pub of_input : AreBytesOf was bytes
+  -- of a plant of readers what they hear is a scenario
+  pub readers : has_devices bytes ≡ false
+      → AnswersAs First r (λ answer. FlatRun answer bytes old new
+      × RunFor flat_texts answer bytes was left old new)
+  -- of a plant of devices the pulses that they hear are rows
+  pub devices : has_devices bytes ≡ true
+      → AnswersAs Second r (λ answer. RunOf station_scenario StationEnds row_texts answer bytes
+      was left old new)
+
+-- what was written of a plant of readers has the log of the scenario
+abbrev pub WroteTheLog : Result ScenarioEnd SceneFault → (was old new : Bytes) → Type 0
+WroteTheLog r was old new =
+    IfSome was (λ x. has_devices x ≡ false
+    → AnswersAs First r (λ answer. OfWritten old new (HasTheLog answer x)))

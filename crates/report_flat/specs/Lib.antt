@@ -1,4 +1,6 @@
 pub mod EventText
 pub mod Recording
 pub mod FlatText
+pub mod RowText
+pub mod RowStays
 pub mod Flattening
