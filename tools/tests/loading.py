@@ -37,14 +37,15 @@ class InAFolder(unittest.TestCase):
 def compare_pictures(
     case: unittest.TestCase, tool: Path, folder: Path, environment: dict[str, str] | None = None
 ) -> None:
-    """That the pictures of a folder are what a tool draws now, by the same matplotlib."""
+    """That the pictures of a folder, and of those in it, are what a tool draws now, by the same matplotlib."""
     with tempfile.TemporaryDirectory() as made:
         ran = subprocess.run([tool, made], stderr=subprocess.PIPE, text=True, timeout=300, env=environment)
         if ran.returncode == 2 and "missing" in ran.stderr:
             print(f"skipped: {ran.stderr.strip()}")
             case.skipTest(ran.stderr)
         case.assertEqual((ran.returncode, ran.stderr), (0, ""))
-        drawn, kept = ({path.name: path.read_text() for path in at.glob("*.svg")} for at in (Path(made), folder))
+        drawn, kept = ({str(path.relative_to(at)): path.read_text() for path in at.rglob("*.svg")}
+                       for at in (Path(made), folder))
     case.assertLessEqual(set(drawn), set(kept))
     here, there = (set(re.findall(r"Matplotlib v[\d.]+", "".join(of.values()))) for of in (drawn, kept))
     if here != there:

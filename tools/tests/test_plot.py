@@ -1,6 +1,6 @@
 #!/usr/bin/env python3
 """Tests of plot: what it draws of scenarios, where it puts labels, what it says of files that are none, and
-that the pictures of docs/gallery are what it draws now. Needs matplotlib for the pictures."""
+that the pictures of docs/gallery and docs/wires are what tools/gallery draws now. Needs matplotlib for the pictures."""
 import io
 import os
 import re
@@ -25,6 +25,7 @@ import irig
 from irig.scenarios import Leap, Reader, Replay, Scenario
 
 PLOT = ROOT / "tools/plot"
+ENVIRONMENT = {**os.environ, "IRIG": str(ROOT / "crates/irig_main/out/irig_main")}
 START = "2016-06-15T12:00:00Z"
 
 
@@ -445,7 +446,32 @@ class Pictures(unittest.TestCase):
         self.assertEqual(plot(text)[1], plot(text)[1])
 
     def test_the_gallery(self) -> None:
-        compare_pictures(self, ROOT / "tools/gallery", ROOT / "docs/gallery")
+        compare_pictures(self, ROOT / "tools/gallery", ROOT / "docs", ENVIRONMENT)
+
+    def test_what_a_fault_does(self) -> None:
+        """By the table of docs/WIRES.md: most faults are of element 2, in the second behind edge 2. In two_markers a
+        frame begins at element 3, and has 97 pulses. One cable is plugged there, and one is out for a second."""
+        from parts.wire_pictures import FAULTS, pulses_to, words_of
+
+        told = {"no_fault": "ok", "pulse_lost": "Short 2", "pulse_late": "Short 2", "pulse_cut_in_two": "Short 3",
+                "glitch": "Short 3", "first_pulse_lost": "silence", "other_symbol": "Parity", "two_markers": "Short 97",
+                "pulse_too_narrow": "Pulse 2", "pulse_too_wide": "Marker 2"}
+        rows = {name: ["ok", word, "ok", "ok"] for name, word in told.items()}
+        rows["last_pulse_lost"] = ["Short 99", "ok", "ok", "ok"]
+        rows["cable_plugged"] = ["silence", "silence", "ok", "ok"]
+        rows["cable_pulled"] = ["ok", "Short 2", "silence", "ok"]
+        with mock.patch.dict(os.environ, ENVIRONMENT):
+            self.assertEqual({name: words_of(pulses_to(FAULTS, name)) for name in rows}, rows)
+        shown = texts((ROOT / "docs/wires/faults.svg").read_text())
+        self.assertLessEqual({name.replace("_", " ") for name in rows}, set(shown))
+
+    def test_a_second_has_the_numbers_of_its_caption(self) -> None:
+        caption = re.search(r"!\[(The end of a frame.*?)\]", (ROOT / "docs/WIRES.md").read_text(), re.S)
+        shown = "\n".join(texts((ROOT / "docs/wires/second.svg").read_text()))
+        numbers = set(re.findall(r"\d[\d:,]*\d", caption[1]))
+        self.assertEqual(numbers, {"300", "700", "450", "4,000,300", "4,021,300", "21,000", "00:00:00"})
+        for number in numbers:
+            self.assertIn(number, shown)
 
 
 class Names(unittest.TestCase):
