@@ -454,8 +454,9 @@ class Pictures(unittest.TestCase):
         from parts.wire_pictures import FAULTS, pulses_to, words_of
 
         told = {"no_fault": "ok", "pulse_lost": "Short 2", "pulse_late": "Short 2", "pulse_cut_in_two": "Short 3",
-                "glitch": "Short 3", "first_pulse_lost": "silence", "other_symbol": "Parity", "two_markers": "Short 97",
-                "pulse_too_narrow": "Pulse 2", "pulse_too_wide": "Marker 2"}
+                "glitch": "Short 3", "glitch_9_ms_on": "Short 4", "first_pulse_lost": "silence",
+                "first_no_marker": "Marker 0", "other_symbol": "Parity", "pulse_too_narrow": "Pulse 2",
+                "pulse_too_wide": "Marker 2", "two_markers": "Short 97"}
         rows = {name: ["ok", word, "ok", "ok"] for name, word in told.items()}
         rows["last_pulse_lost"] = ["Short 99", "ok", "ok", "ok"]
         rows["cable_plugged"] = ["silence", "silence", "ok", "ok"]
