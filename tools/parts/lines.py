@@ -1,49 +1,62 @@
 """The lines that carry a scenario to one reader or device, a line for each generator, and files of
 them.
 
-`irig flatten` plays a scenario of readers; nothing of it is played here. The pulses of a second rise
-each 10 ms from its edge on, since such a scenario knows no other times. What a device hears is played
-by cables.py. The first edge comes 50 ms behind the beginning, and the end 20 ms behind the last edge,
-or behind the last event of a plant of devices. All is written as it streams: a scenario is flattened
-twice, once to see what has to stand at the head of a file, and once for the file."""
+`irig flatten` plays the scenario; nothing of it is played here. Of readers it writes the pulses of a
+second, which rise each 10 ms from its edge on, since such a scenario knows no other times; of devices
+it writes when each pulse rose. The first edge comes 50 ms behind the beginning, and the end 20 ms
+behind the last edge, or behind the last event of a plant of devices. All is written as it streams:
+a scenario is flattened once to see what has to stand at the head of a file, and once for the file,
+and that of a device before, to see if it is right."""
 from __future__ import annotations
 
 import json
 import os
+import shutil
 import struct
 import subprocess
 import tempfile
 import wave
+from heapq import heappop, heappush
 from itertools import groupby, zip_longest
 from math import gcd
 from pathlib import Path
-from typing import IO, BinaryIO, Dict, Iterator, List, Optional, Sequence, TextIO, Tuple
+from typing import IO, Any, BinaryIO, Dict, Iterator, List, Optional, Sequence, TextIO, Tuple
 
-from parts.cables import ELEMENT_US, SECOND_US, Cables, DeviceScenario, Value, has_devices
 from parts.command import program
 from parts.comtrade import NO_TIME, leap_field
-from parts.oddities import MOST_PULSES, NO_TICK, NO_WIDTH, RESTARTS, RUNS_ON, TOO_MANY, Oddities
+from parts.oddities import (
+    MOST_PULSES, NO_TICK, NO_WIDTH, RESTARTS, RUNS_ON, TOO_MANY, TOUCHES, Oddities,
+)
 
 from irig import Leap, Second
 
+ELEMENT_US, SECOND_US = 10_000, 1_000_000
 FIRST_EDGE_US, TAIL_US = 50_000, 20_000
+MOST_PASS_US = 1_000_000_000  # of a line of a scenario
+DEVICES = 4  # the version of a plant that has them
 COARSEST_US = 100  # the unit of a value change dump, if all changes allow it
 MOST_BYTES = 0xFFFFFFFF - 36  # of a sound, whose head counts them in 32 bits
 LOUD = 24_000  # of 32,767, for a sound of 16 bits
 
+Value = Dict[str, Any]
 # The time in microseconds, and the lines that are high from then on, a bit for each.
 Step = Tuple[int, int]
 # A time in microseconds up to which lines stay as they are, and those that are high, a bit each.
 Span = Tuple[int, int]
+# A time in microseconds from edge 0, and the line whose level changes.
+Change = Tuple[int, int]
 
 
 # ---- a scenario
 
 
+class Refused(ValueError):
+    """The program refuses a line of a scenario."""
+
+
 def flattened(scenario: IO[bytes], again: bool = False) -> Iterator[str]:
-    """The plant line of a file, which is read from its beginning, and then each line of `raw`, `tick`
-    and `restart`. If the program refuses the scenario, it says why on the standard error, and this
-    is a ValueError. What it says there it says once."""
+    """What the program writes of the scenario in a file, which is read from its beginning. If it
+    refuses the scenario, it says why on the standard error. What it says there it says once."""
     os.lseek(scenario.fileno(), 0, os.SEEK_SET)
     command = [program(), "flatten", "-"]
     with subprocess.Popen(
@@ -54,13 +67,31 @@ def flattened(scenario: IO[bytes], again: bool = False) -> Iterator[str]:
         try:
             for line in ran.stdout:
                 if line.startswith("refused: "):
-                    raise ValueError(line.strip())
+                    raise Refused(line.strip())
                 yield line
         except GeneratorExit:
             ran.kill()  # else it would say that its output took no more
             raise
     if ran.returncode:
         raise ValueError(f"'irig flatten' ended with status {ran.returncode}")
+
+
+def values(scenario: BinaryIO) -> Iterator[Any]:
+    """The value of each line of a file, from its beginning on, but for those that are skipped."""
+    scenario.seek(0)
+    for line in scenario:
+        if line.strip(b" \t\r\n"):
+            yield json.loads(line)
+
+
+def has_devices(scenario: BinaryIO) -> bool:
+    """Whether the plant of a scenario has devices in place of readers. If its plant line is wrong,
+    the program says so."""
+    try:
+        plant = next(values(scenario), None)
+    except (RecursionError, ValueError):
+        return False
+    return isinstance(plant, dict) and plant.get("version") == DEVICES
 
 
 class Lines:
@@ -110,54 +141,91 @@ class DeviceLines(Lines):
     """The lines to a device, the first one if none is named."""
 
     def __init__(self, scenario: BinaryIO, device: Optional[str], is_inverted: bool) -> None:
-        self._scenario = DeviceScenario(scenario)
-        name = _chosen(device, self._scenario.names, "device")
-        lines = self._flattened(name)
-        super().__init__(json.loads(next(lines)), name, is_inverted)
-        for time, _ in self._played(lines):
+        self._scenario = scenario
+        for _ in self._flattened():
+            pass  # from here on each line is known to be right
+        events = values(scenario)
+        plant = next(events)
+        name = _chosen(device, [one["name"] for one in plant["devices"]], "device")
+        super().__init__(plant, name, is_inverted)
+        self.oddities = Oddities("edge")
+        self._widest_us = ELEMENT_US  # of the pulses to the device
+        self._over_us = 0  # when the last pulse by an event is over
+        self._read(events)
+        for time, _ in self._played(self.oddities):
             self.unit_us = gcd(self.unit_us, time)
         self.unit_us = gcd(self.unit_us, self.end_us)
 
-    def _flattened(self, name: str, again: bool = False) -> Iterator[str]:
-        """The plant line, and what a reader in the place of the device hears."""
+    def _read(self, events: Iterator[Value]) -> None:
+        """How long the scenario takes, and what its events do to the device."""
+        for event in events:
+            do = event["do"]
+            if do in ("pass", "seconds"):
+                self.length_us += event.get("us", 0) + SECOND_US * event.get("n", 0)
+            elif do == "restart" and event["r"] == self.name:
+                self.oddities.add(RESTARTS, self.length_us // SECOND_US)
+            elif do == "pulse" and event["r"] == self.name:
+                self._widest_us = max(self._widest_us, event["width"])
+                self._over_us = max(self._over_us, self.length_us + event["width"])
+
+    def _tail(self) -> List[Value]:
+        """Events behind those of the scenario: all pulses that it sent end, and no more are sent."""
+        rest = max(TAIL_US, self._over_us + 1 - self.length_us)
+        pulled = [{"do": "pull", "g": line, "r": self.name} for line in range(len(self.names))]
+        return pulled + [{"do": "pass", "us": min(rest - passed, MOST_PASS_US)}
+                         for passed in range(0, rest, MOST_PASS_US)]
+
+    def _flattened(self, tail: Sequence[Value] = ()) -> Iterator[str]:
+        """A row for each pulse that has ended."""
         with tempfile.TemporaryFile() as made:
-            made.writelines(self._scenario.of_readers(name))
+            self._scenario.seek(0)
+            shutil.copyfileobj(self._scenario, made)
+            made.writelines(b"\n" + json.dumps(event).encode() for event in tail)
             made.flush()
-            yield from flattened(made, again)
+            rows = flattened(made, again=bool(tail))
+            next(rows, None)  # the names of the columns
+            yield from rows
+
+    def _rows(self) -> Iterator[Tuple[int, int, int]]:
+        """The line of each pulse to the device, its rise and its width, in the order of their ends."""
+        try:
+            for row in self._flattened(self._tail()):
+                device, *numbers = row.split(",")
+                if device == self.name:
+                    line, rise, width = map(int, numbers)
+                    yield line, rise, width
+        except Refused:
+            return  # the years that are served end within the tail
+
+    def _changes(self, oddities: Oddities) -> Iterator[Change]:
+        """Each change of a line, in the order of time. Until the last row comes, pulses may follow that
+        rose before it ended, by no more than the widest one."""
+        coming: List[Change] = []  # a heap
+        ends: Dict[int, int] = {}  # of the last pulse on each line
+        for line, rise, width in self._rows():
+            if width == 0:
+                oddities.add(NO_WIDTH, rise // SECOND_US)
+                continue
+            if ends.get(line) == rise:
+                oddities.add(TOUCHES, rise // SECOND_US)
+            ends[line] = rise + width
+            heappush(coming, (rise, line))
+            heappush(coming, (rise + width, line))
+            while coming[0][0] < rise + width - self._widest_us:
+                yield heappop(coming)
+        yield from sorted(coming)
 
     def _pulses(self) -> Iterator[Step]:
-        lines = self._flattened(self.name, again=True)
-        next(lines)
-        yield from self._played(lines)
+        return self._played(Oddities("edge"))  # they are known
 
-    def _played(self, lines: Iterator[str]) -> Iterator[Step]:
-        """The steps, by the lines behind the plant line; at its end it is known how long they take."""
-        self.oddities = Oddities("edge")
-        frames, pulses = self._frames(lines), 0
-        cables = Cables(self.name, self._scenario.late(self.name), frames, self.oddities)
-        try:
-            changes = cables.changes(self._scenario.events(), TAIL_US)
-            for time, together in groupby(changes, lambda change: change[0]):
-                before = pulses
-                for _, line in together:
-                    pulses ^= 1 << line
-                if pulses != before:
-                    yield FIRST_EDGE_US + time, pulses
-        except ValueError:
-            list(frames)  # the program may refuse a line before that one
-            raise
-        list(frames)  # or one behind which no second begins
-        self.length_us = cables.now_us
-
-    def _frames(self, lines: Iterator[str]) -> Iterator[List[List[int]]]:
-        """For each second the widths that each generator sends."""
-        sent: List[List[int]] = [[] for _ in self.names]
-        for event in map(json.loads, lines):
-            if event["do"] == "tick":
-                yield sent
-                sent = [[] for _ in self.names]
-            else:
-                sent[event["g"]] = event["widths"]
+    def _played(self, oddities: Oddities) -> Iterator[Step]:
+        changes, pulses = self._changes(oddities), 0
+        for time, together in groupby(changes, lambda change: FIRST_EDGE_US + change[0]):
+            before = pulses
+            for _, line in together:
+                pulses ^= 1 << line
+            if pulses != before and time < self.end_us:
+                yield time, pulses
 
 
 class ReaderLines(Lines):

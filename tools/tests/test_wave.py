@@ -276,6 +276,8 @@ class Devices(InAFolder):
         changes, end = recorded(path)
         self.assertEqual([time for time, line, _ in changes if line == 0], [0, 50_000, 58_000, 59_000])
         self.assertEqual(end, 79_001)
+        for width in (20_000, 20_001):  # to the last microsecond, or just over the end
+            self.compare(station_of(passing(9000), on_line("pulse", 0, width=width), passing(1)))
 
     def test_what_no_line_carries(self) -> None:
         """Of another device nothing is said."""
@@ -321,6 +323,22 @@ class Devices(InAFolder):
         text = station_of(passing(10_000), on_line("late", 0, us=7), passing(1))
         dump = self.made(text).read_bytes()
         self.assertEqual(self.made(" \t\n\n" + text.replace("\n", "\r\n \n"), "b.vcd").read_bytes(), dump)
+        self.assertEqual(self.made(text.rstrip("\n"), "c.vcd").read_bytes(), dump)
+
+    def test_up_to_the_end_of_the_years(self) -> None:
+        """The second behind its last edge is none that is served."""
+        last = station_of(seconds(2)).replace(PLANT["start"], "2099-12-30T23:59:58Z")
+        ran = run("-", "-o", self.folder / "a.vcd", given=last + json.dumps(passing(1)) + "\n")
+        self.assertIn("wave: -: refused: line 3: 22 EndOfYears", ran.stderr)
+        self.compare(last)
+
+    def test_a_pulse_in_which_others_come(self) -> None:
+        """Its row comes last, when it ends."""
+        on = [passing(9000), on_line("pulse", 0, width=2_500_000), seconds(3)]
+        self.compare(station_of(*on))
+        changes = self.changes(*on)
+        self.assertEqual([time for time, line, _ in changes if line == 0][2:4], [9000, 2_509_000])
+        self.assertEqual(changes, sorted(changes))
 
 
 class Forms(InAFolder):
@@ -553,48 +571,46 @@ class Words(InAFolder):
             self.assertTrue(said[0].startswith(said[-1].split("refused: ")[1]), said)
             self.assertEqual(list(self.folder.iterdir()), [])
 
+    def refused_devices(self, given: str, line: int, number: int) -> None:
+        """The program says why, and no file is begun."""
+        said = self.refused("-", "-o", self.folder / "a.vcd", given=given).splitlines()
+        self.assertIn(f"wave: -: refused: line {line}: {number} ", said[-1])
+        self.assertTrue(said[0].startswith(said[-1].split("refused: ")[1]), said)
+        self.assertEqual(len(said), 3)
+        self.assertEqual(list(self.folder.iterdir()), [])
+
     def test_a_refused_scenario_of_devices(self) -> None:
-        """The first line that is refused counts, by the program or by the tool, and no file is begun."""
         fault, wrong = {"do": "fault", "g": 0, "kind": "dance"}, {"do": "seconds", "n": -1}
-        for events, by_program, line in (
-            ([fault, wrong], True, 2), ([wrong, fault], False, 2), ([seconds(1), fault], True, 3),
-            ([{"do": "repair", "g": 3}], True, 2), ([seconds(1), {"do": "fault"}], True, 3),
-            ([passing(0)], False, 2), ([passing(True)], False, 2), ([{"do": "pass"}], False, 2),
-            ([{**passing(1), "g": 0}], False, 2), ([on_line("pull", 3)], False, 2), ([on_line("pull", -1)], False, 2),
-            ([on_line("plug", 0, "none")], False, 2), ([on_line("late", 0, us=2000)], False, 2),
-            ([on_line("pulse", 0, width=2**32)], False, 2), ([raw(0, 2000)], False, 2),
-            ([{"do": "step", "g": 0}], False, 2),
-            ([{"do": "stamp", "r": "relay", "ago": 4_000_001}], False, 2), ([{"do": 1}], False, 2), ([{}], False, 2),
-            ([[]], False, 2), ([seconds(1), {**tick(), "r": 1.0}], False, 3), ([{"do": "pulse", "g": 0.0}], False, 2),
+        for events, line, number in (
+            ([fault, wrong], 2, 25), ([wrong, fault], 2, 26), ([seconds(1), fault], 3, 25),
+            ([{"do": "repair", "g": 3}], 2, 20), ([seconds(1), {"do": "fault"}], 3, 25),
+            ([passing(0)], 2, 26), ([passing(True)], 2, 25), ([{"do": "pass"}], 2, 25),
+            ([{**passing(1), "g": 0}], 2, 25), ([on_line("pull", 3)], 2, 20), ([on_line("pull", -1)], 2, 26),
+            ([on_line("plug", 0, "none")], 2, 19), ([on_line("late", 0, us=2000)], 2, 26),
+            ([on_line("pulse", 0, width=2**32)], 2, 26), ([raw(0, 2000)], 2, 25), ([{"do": "step", "g": 0}], 2, 25),
+            ([{"do": "stamp", "r": "relay", "ago": 4_000_001}], 2, 26), ([{"do": 1}], 2, 25), ([{}], 2, 25),
+            ([[]], 2, 25), ([seconds(1), {**tick(), "r": 1.0}], 3, 25), ([{"do": "pulse", "g": 0.0}], 2, 25),
         ):
             with self.subTest(events):
-                said = self.refused("-", "-o", self.folder / "a.vcd", given=station_of(*events)).splitlines()
-                wanted = f"refused: line {line}: 2" if by_program else f"line {line} is refused; 'irig run' says why"
-                self.assertIn(f"wave: -: {wanted}", said[-1])
-                self.assertEqual(len(said) > 1, by_program)
-                self.assertEqual(list(self.folder.iterdir()), [])
+                self.refused_devices(station_of(*events), line, number)
 
     def test_a_refused_plant_of_devices(self) -> None:
-        own = "line 1 is refused; 'irig run' says why"
-        for devices, reason in (
-            ([], own), ([DEVICE, DEVICE], own), ([{**DEVICE, "late": [0, 0]}], own), ([1], own), ({}, own),
-            ([{**DEVICE, "late": [0, 0, 2000]}], own), ([{"lock_after": 2}], own), ([{**DEVICE, "late": 0}], own),
-            ([{**DEVICE, "lock_after": 0}], "refused: line 1: 2"), ([{**DEVICE, "size": 1}], "refused: line 1: 2"),
+        for devices, number in (
+            ([], 28), ([DEVICE, DEVICE], 28), ([{**DEVICE, "late": [0, 0]}], 26), ([1], 25), ({}, 25),
+            ([{**DEVICE, "late": [0, 0, 2000]}], 26), ([{"lock_after": 2}], 25), ([{**DEVICE, "late": 0}], 25),
+            ([{**DEVICE, "lock_after": 0}], 26), ([{**DEVICE, "size": 1}], 25),
         ):
             with self.subTest(devices):
-                said = self.refused("-", "-o", self.folder / "a.vcd", given=station_of(devices=devices)).splitlines()
-                self.assertIn(f"wave: -: {reason}", said[-1])
+                self.refused_devices(station_of(devices=devices), 1, number)
 
     def test_devices_beside_readers(self) -> None:
-        given = (ROOT / "cases/devices_beside_readers/scenario.jsonl").read_text()
-        said = self.refused("-", "-o", self.folder / "a.vcd", given=given)
-        self.assertEqual(said, "wave: -: line 1 is refused; 'irig run' says why\n")
+        self.refused_devices((ROOT / "cases/devices_beside_readers/scenario.jsonl").read_text(), 1, 25)
 
     def test_lines_that_are_no_objects(self) -> None:
-        for line in ("{", "[" * 100_000, '{"do":"seconds","n":1}' + " " * 65_536, "\ufeff{}"):
-            given = station_of(seconds(1)) + line + "\n"
-            said = self.refused("-", "-o", self.folder / "a.vcd", given=given)
-            self.assertEqual(said, "wave: -: line 3 is refused; 'irig run' says why\n")
+        long = '{"do":"seconds","n":1}' + " " * 65_536
+        for line, number in (("{", 24), ("[" * 100_000, 23), (long, 23), ("\ufeff{}", 24)):
+            with self.subTest(line[:3]):
+                self.refused_devices(station_of(seconds(1)) + line + "\n", 3, number)
 
     def test_a_refusal_behind_blank_lines(self) -> None:
         fault = json.dumps({"do": "fault", "g": 3, "kind": "silent"})
