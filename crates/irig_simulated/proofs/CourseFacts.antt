@@ -13,6 +13,7 @@ use Rattle.irig_timekeeper.specs.Life.Call.{Hear}
 use Rattle.irig_lives.proofs.LifeFacts.{no_table, rules}
 use Rattle.irig_simulated.specs.declared.setup.Ticking.TheVariants.{ByHand}
 use Rattle.irig_simulated.specs.Kinds.{Kind, MovesOn, no_delay}
+use Rattle.irig_simulated.specs.Heard.{heard_until}
 use Rattle.irig_simulated.specs.Courses.{Course, begun_with, coming, most_in, passed, played}
 use Rattle.irig_simulated.proofs.StretchLaws.{to_its_end}
 
@@ -53,6 +54,12 @@ begun = begun_with kind (0 ∷ 350 ∷ 700 ∷ [])
 calls_are_heard : (passed kind signal 9000 begun).calls ≡ heard_calls
 unfolding kind signal heard_calls begun
 calls_are_heard = refl
+
+-- each as it rose at its line, and when it had ended, of a device with the number 7
+pulses_are_heard : heard_until kind 7 signal 9000 begun
+    ≡ record { device = 7; line = 0; rise_us = 0; end_us = 8000 } ∷ record { device = 7; line = 1; rise_us = 350; end_us = 8350 } ∷ record { device = 7; line = 2; rise_us = 700; end_us = 8700 } ∷ []
+unfolding kind signal begun
+pulses_are_heard = refl
 
 moves_on : MovesOn kind
 unfolding kind

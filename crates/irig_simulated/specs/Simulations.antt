@@ -52,7 +52,8 @@ GoesOnIn second old new course =
     (symbol : (line element : ℕ) → Symbol) (x : Course) → IsSecondOf second signal symbol
     → IsSimulationOf old k symbol x → IsSimulationOf new k symbol (course k signal x)
 
--- there are so many more of the pulses that are kept, by what generators send in a second
+-- the pulses that a device hears in a second, by what generators send in it, are kept behind those
+-- before, if they are to be kept
 abbrev pub HearsIn : {P : Type 0} {g : Ghosts P} → Second → (device : Simulated P g)
     → (old new : HeardPulses)
     → (Kind → (signal : (line element : ℕ) → Option Symbol) → Course → List HeardPulse) → Type 0
