@@ -22,7 +22,7 @@ pub use interval::{Interval, by_vote, carried_on, contradicts, cut};
 pub use limits::VoteLimits;
 pub use lines::{
     KeptClaim, KeptFrame, Line, Lines, Vote, agreed, are_uneven, if_come, is_even, is_idle,
-    is_pulse, line_at, lines_of_nothing, quality_told, set_line, settle, take, tells_of, wait_by,
+    is_pulse, line_at, lines_of_nothing, quality_told, settle, take, tells_of, wait_by,
     whole_frame,
 };
 pub use pace::{Pace, carried_by, edge_on, grown_us, is_spent, learned, pace_on};

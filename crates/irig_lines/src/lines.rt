@@ -5,7 +5,7 @@ ghost use Rattle.irig_vote.specs.Vote.{f_of};
 ghost use Rattle.irig_sync.specs.Sync.{clock_gap, is_idle};
 ghost use Rattle.irig_lines.specs.Exactness.{most_drift_us, most_vote_us};
 ghost use Rattle.irig_lines.specs.Widths.{reach_us};
-ghost use Rattle.irig_lines.specs.Steps.{is_pulse, line_at, with_line, still_kept, line_settled, settled, taken, still_seen, is_even, is_uneven, are_uneven, quality_told, whole_frame, frame_tells, tells_of, claim_kept, all_kept, agrees, is_candidate, earlier, first_candidate, place_behind, ends_by, ends_from, ends_near, begins_near, last_behind, first_before, less_behind, least_behind, less_before, least_before, vote_between, vote_with, agreed, if_come, IsNewLine, AreNewLines, no_line, no_lines, until, wait_by};
+ghost use Rattle.irig_lines.specs.Steps.{is_pulse, line_at, still_kept, line_settled, settled, taken, still_seen, is_even, is_uneven, are_uneven, quality_told, whole_frame, frame_tells, tells_of, claim_kept, all_kept, agrees, is_candidate, earlier, first_candidate, place_behind, ends_by, ends_from, ends_near, begins_near, last_behind, first_before, less_behind, least_behind, less_before, least_before, vote_between, vote_with, agreed, if_come, IsNewLine, AreNewLines, no_line, no_lines, until, wait_by};
 
 use crate::counting::{has_come, is_gone, is_late};
 use crate::setup::ClockRules;
@@ -139,19 +139,6 @@ pub fn line_at(lines: &Lines, port: u8) -> Line
         2 => lines.c,
         3 => lines.d,
         _ => lines.e,
-    }
-}
-
-/// Puts a line at a port, 0 to 4.
-pub fn set_line(lines: &mut Lines, port: u8, line: Line)
-    ensures { lines.new ≡ with_line lines.old port line }
-{
-    match port {
-        0 => lines.a = line,
-        1 => lines.b = line,
-        2 => lines.c = line,
-        3 => lines.d = line,
-        _ => lines.e = line,
     }
 }
 

@@ -1,5 +1,5 @@
 -- The frame of a true line, as it is found: the first that does no harm.
-use Rattle.std.proofs.Common.{◌≡◌, ◌∙◌, ℕ, suc, ◌+◌, ◌<◌, List, [], ◌∷◌, ◌++◌, length, get_or, map, take, Option, Some, None, IfSome, refl, sym, ap, arith, inl, inr}
+use Rattle.std.proofs.Common.{◌≡◌, ◌∙◌, ℕ, suc, ◌+◌, ◌<◌, Bool, cond, List, [], ◌∷◌, ◌++◌, length, get_or, map, take, Option, Some, None, IfSome, refl, sym, ap, arith, inl, inr}
 use Rattle.std.specs.Prelude.{option_to_list}
 use Rattle.std.proofs.Math.Seq.{take-suc}
 use Rattle.std.proofs.lemmas.Bool.{cases_Bool, eq-eqb}
@@ -14,8 +14,8 @@ use Rattle.irig_gen.specs.Faults.{sent_edge}
 use Rattle.irig_gen.specs.Frames.{GeneratorValue, IsFrameOrNone, IsSent, IsSentFrom}
 use Rattle.irig_gen.specs.Sent.{frame_of, sent_of}
 use Rattle.irig_port.specs.Told.{told_of}
-use Rattle.irig_witness.specs.TrueFrames.{blank, claims_only, first_harmless, is_harmless}
-use Rattle.irig_station.specs.SentSeconds.{harmless_of, true_frame_of}
+use Rattle.irig_witness.specs.TrueFrames.{claims_only, first_harmless, is_harmless}
+use Rattle.irig_station.specs.SentSeconds.{frame_or_blank, harmless_of, plain_frame_of, true_frame_of}
 
 -- ---- frames of generators have each symbol at its place
 
@@ -51,26 +51,28 @@ first_of_two rules t g s e = go (sent_of g t) e
     ]
 
 -- what is left if the first does harm
-abbrev pub one_or_blank : Option (List Symbol) → List Symbol
-one_or_blank None = blank
-one_or_blank (Some s) = s
-
-one_left : (rules : Rules) (t : TimelineValue) (n : ℕ) (o : Option (List Symbol)) → first_harmless rules t n (option_to_list o) ≡ one_or_blank (harmless_of rules t n o)
+one_left : (rules : Rules) (t : TimelineValue) (n : ℕ) (o : Option (List Symbol)) → first_harmless rules t n (option_to_list o) ≡ frame_or_blank (harmless_of rules t n o)
 one_left rules t n None = refl
 one_left rules t n (Some frame) = elim (cases_Bool (is_harmless rules t n frame)) [
   | inl good ↦ rw good refl
   | inr bad ↦ rw bad refl
 ]
 
-pub second_of_two : (rules : Rules) (t : TimelineValue) (g : GeneratorValue) → harmless_of rules t g.edge (sent_of g t) ≡ None → true_frame_of rules t g ≡ one_or_blank (harmless_of rules t g.edge (frame_of None g t g.edge))
+pub second_of_two : (rules : Rules) (t : TimelineValue) (g : GeneratorValue) → harmless_of rules t g.edge (sent_of g t) ≡ None → true_frame_of rules t g ≡ plain_frame_of rules t g
 second_of_two rules t g e = go (sent_of g t) e
   where
-    go : (o : Option (List Symbol)) → harmless_of rules t g.edge o ≡ None → first_harmless rules t g.edge (option_to_list o ++ option_to_list (frame_of None g t g.edge)) ≡ one_or_blank (harmless_of rules t g.edge (frame_of None g t g.edge))
+    go : (o : Option (List Symbol)) → harmless_of rules t g.edge o ≡ None → first_harmless rules t g.edge (option_to_list o ++ option_to_list (frame_of None g t g.edge)) ≡ plain_frame_of rules t g
     go None e = one_left rules t g.edge (frame_of None g t g.edge)
     go (Some frame) e = elim (cases_Bool (is_harmless rules t g.edge frame)) [
       | inl good ↦ absurd (let h = rw good at e in cc)
       | inr bad ↦ rw bad (one_left rules t g.edge (frame_of None g t g.edge))
     ]
+
+-- the frame that is sent, by what a test says of it
+pub sent_tested : (rules : Rules) (t : TimelineValue) (g : GeneratorValue) (s : List Symbol) (b : Bool) → Some s ≡ sent_of g t → length s ≡ 100 → first_wrong 0 s ≡ None → b ≡ claims_only (truth_at t g.edge) (told_of rules s)
+    → harmless_of rules t g.edge (sent_of g t) ≡ cond b (Some s) None
+sent_tested rules t g s b sent long right says =
+    sym (ap (harmless_of rules t g.edge) sent) ∙ (let same : is_harmless rules t g.edge s ≡ b = harmless_by rules t g.edge s long right ∙ sym says in rw same refl)
 
 -- ---- lists that grow by one
 

@@ -7,7 +7,7 @@ use Rattle.irig_time.specs.declared.rules.Rules.{Rules}
 use Rattle.irig_time.specs.Timelines.{TimelineValue}
 use Rattle.irig_gen.specs.Frames.{GeneratorValue}
 use Rattle.irig_gen.specs.Sent.{frame_of, sent_of}
-use Rattle.irig_witness.specs.TrueFrames.{first_harmless, is_harmless, true_symbol}
+use Rattle.irig_witness.specs.TrueFrames.{blank, first_harmless, is_harmless, true_symbol}
 use Rattle.irig_simulated.specs.declared.second.LineSecond.{LineSecond}
 use Rattle.irig_simulated.specs.Seconds.{symbol_at}
 
@@ -58,6 +58,16 @@ abbrev pub harmless_of : Rules → TimelineValue → (n : ℕ) → Option (List 
     → Option (List Symbol)
 harmless_of rules t n None = None
 harmless_of rules t n (Some frame) = if is_harmless rules t n frame then Some frame else None
+
+-- a frame, a blank one if there is none
+abbrev pub frame_or_blank : Option (List Symbol) → List Symbol
+frame_or_blank None = blank
+frame_or_blank (Some frame) = frame
+
+-- the frame of a true line whose generator sends none that does no harm: the one that it would send
+-- without a fault
+abbrev pub plain_frame_of : Rules → TimelineValue → GeneratorValue → List Symbol
+plain_frame_of rules t g = frame_or_blank (harmless_of rules t g.edge (frame_of None g t g.edge))
 
 -- the frame of a true line
 abbrev pub true_frame_of : Rules → TimelineValue → GeneratorValue → List Symbol

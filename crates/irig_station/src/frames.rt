@@ -5,12 +5,15 @@ ghost use Rattle.std.specs.List.{range_with_len};
 ghost use Rattle.irig_frame.specs.Faults.{first_wrong};
 ghost use Rattle.irig_time.specs.Timelines.{TimelineValue, truth_at};
 ghost use Rattle.irig_port.specs.Told.{told_of};
-ghost use Rattle.irig_gen.specs.Sent.{frame_of, sent_of};
+ghost use Rattle.irig_control.specs.Parity.{with_parity};
+ghost use Rattle.irig_frame.specs.Encoder.{frame_of_coded};
+ghost use Rattle.irig_gen.specs.Sent.{IsValueSent};
 ghost use Rattle.irig_plant.specs.Schedule.{generator_at_next_edge};
 ghost use Rattle.irig_witness.specs.TrueFrames as frames;
-ghost use Rattle.irig_station.specs.SentSeconds.{harmless_of, line_of_generator, true_frame_of};
+ghost use Rattle.irig_station.specs.SentSeconds.{harmless_of, line_of_generator, plain_frame_of};
 
-use irig_frame::{Symbol, is_marker_place};
+use irig_control::{Parity, encode_with_parity};
+use irig_frame::{Coded, Symbol, is_marker_place};
 use irig_gen::Generator;
 use irig_port::{Port, Told};
 use irig_simulated::LineSecond;
@@ -29,10 +32,7 @@ pub(crate) fn lines_of<P: Port>(
 {
     let mut lines = Vec::new(alloc);
     for generator in generators {
-        lines.push(LineSecond {
-            sent: generator.frame(timeline),
-            truth: true_frame::<P>(rules, timeline, generator),
-        })?;
+        lines.push(line_of::<P>(rules, timeline, generator))?;
     }
     Ok(lines)
 }
@@ -62,17 +62,38 @@ pub(crate) fn step_all(generators: &mut Vec<Generator>)
     }
 }
 
-// The frame of a true line from a generator: the one that it sends, if that does no harm, else the
-// one that it would send without a fault.
-fn true_frame<P: Port>(rules: Rules, timeline: &Timeline, generator: &Generator) -> [Symbol; 100]
-    ensures { result ≡ true_frame_of rules timeline.now generator.now }
+// What a generator sends in the second at whose edge it stands, and what a true line of it has: the
+// frame that is sent, if that does no harm.
+fn line_of<P: Port>(rules: Rules, timeline: &Timeline, generator: &Generator) -> LineSecond
+    ensures { result ≡ line_of_generator rules timeline.now generator.now }
+{
+    let Some(coded) = generator.value(timeline) else {
+        return LineSecond {
+            sent: None,
+            truth: plain_frame::<P>(rules, timeline, generator),
+        };
+    };
+    let parity = generator.rules().parity;
+    let frame = encode_with_parity(&coded, parity);
+    let truth = timeline.truth(generator.edge());
+    let is_harmless = claims_only(truth, &told_of_value::<P>(rules, &coded, parity));
+    LineSecond {
+        sent: Some(frame),
+        truth: if is_harmless {
+            frame
+        } else {
+            plain_frame::<P>(rules, timeline, generator)
+        },
+    }
+}
+
+// The frame of a true line whose generator sends none that does no harm: the one that it would send
+// without a fault.
+fn plain_frame<P: Port>(rules: Rules, timeline: &Timeline, generator: &Generator) -> [Symbol; 100]
+    ensures { result ≡ plain_frame_of rules timeline.now generator.now }
 {
     let edge = generator.edge();
     let truth = timeline.truth(edge);
-    let sent = generator.frame(timeline);
-    if let Some(frame) = if_harmless::<P>(rules, truth, sent) {
-        return frame;
-    }
     let plain = generator.frame_at(timeline, edge);
     match if_harmless::<P>(rules, truth, plain) {
         Some(frame) => frame,
@@ -107,6 +128,15 @@ fn told<P: Port>(rules: Rules, frame: &[Symbol; 100]) -> Told
     for symbol in frame {
         port.pulse(symbol.width_us());
     }
+    port.edge()
+}
+
+// The same of the frame that has a value and this parity, at no cost for each of its pulses.
+fn told_of_value<P: Port>(rules: Rules, coded: &Coded, parity: Parity) -> Told
+    requires { IsValueSent coded.now }
+    ensures { result ≡ told_of rules (with_parity parity (frame_of_coded coded.now)) }
+{
+    let mut port = P::with_frame(rules, coded, parity);
     port.edge()
 }
 

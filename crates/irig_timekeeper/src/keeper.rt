@@ -23,7 +23,7 @@ use crate::stamp::{Stamp, stamp_of};
 use crate::states::{LineState, state_of};
 use irig_lines::{
     ClockFault, ClockRules, KeptFrame, Line, Pace, Rate, clock_fault, corrected, delay_at,
-    is_pulse, line_at, rate_of, set_line, whole_frame,
+    is_pulse, rate_of, whole_frame,
 };
 use irig_port::{Limits, Port, Told, edge_within, hear};
 use irig_time::{LeapTable, Rules};
@@ -129,6 +129,7 @@ impl<P: Port> Timekeeper<P> {
         }
     }
 
+    // A pulse at a port, and on its line.
     fn hear_pulse(&mut self, port: u8, rise_us: u32, width_us: u32) -> u8
         requires { port < ports_in self.old.clock.redundancy }
         ensures place { result
@@ -136,34 +137,12 @@ impl<P: Port> Timekeeper<P> {
         ensures heard { Goes self.old self.new (λ k. one_pulse_more k port rise_us width_us) }
         ensures lines { self.new.clock ≡ self.old.clock }
     {
-        let mut line = line_at(&self.state.lines, port);
-        let place = self.hear_port(port, &mut line, rise_us, width_us);
-        set_line(&mut self.state.lines, port, line);
-        place
-    }
-
-    // A pulse at a port, and on its line.
-    fn hear_port(&mut self, port: u8, line: &mut Line, rise_us: u32, width_us: u32) -> u8
-        requires port { port < ports_in self.old.clock.redundancy }
-        requires valid { IsKeptOfUtc line.old.frame }
-        ensures place { result ≡ place_of line.old.sync rise_us width_us }
-        ensures heard { Goes self.old self.new (λ k. record k {
-          heard = with_heard k.heard port (heard_at result (heard_by k.heard port) width_us);
-        }) }
-        ensures line { ForKeeping self.old (λ k. line.new ≡ line_heard k.clock line.old rise_us
-            width_us (told_within (Some k.clock.limits.limits) k.rules
-            (heard_at result (heard_by k.heard port) width_us))
-            (quality_in (heard_at result (heard_by k.heard port) width_us))) }
-        ensures valid { IsKeptOfUtc line.new.frame }
-        ensures state { self.new.state ≡ self.old.state }
-        ensures lines { self.new.clock ≡ self.old.clock }
-    {
         match port {
             0 => hear_line(
                 &self.clock,
                 self.rules,
                 &mut self.a,
-                line,
+                &mut self.state.lines.a,
                 rise_us,
                 width_us,
             ),
@@ -171,7 +150,7 @@ impl<P: Port> Timekeeper<P> {
                 &self.clock,
                 self.rules,
                 &mut self.b,
-                line,
+                &mut self.state.lines.b,
                 rise_us,
                 width_us,
             ),
@@ -179,7 +158,7 @@ impl<P: Port> Timekeeper<P> {
                 &self.clock,
                 self.rules,
                 &mut self.c,
-                line,
+                &mut self.state.lines.c,
                 rise_us,
                 width_us,
             ),
@@ -187,7 +166,7 @@ impl<P: Port> Timekeeper<P> {
                 &self.clock,
                 self.rules,
                 &mut self.d,
-                line,
+                &mut self.state.lines.d,
                 rise_us,
                 width_us,
             ),
@@ -195,7 +174,7 @@ impl<P: Port> Timekeeper<P> {
                 &self.clock,
                 self.rules,
                 &mut self.e,
-                line,
+                &mut self.state.lines.e,
                 rise_us,
                 width_us,
             ),

@@ -13,10 +13,18 @@ parts q rest rate z some =
     let divided : (rest * rate + q * rate * z) / z ≡ rest * rate / z + q * rate = add-mul-div_right (rest * rate) (q * rate) some in
     rw e (omega (arith, divided))
 
--- what is counted in whole seconds and in the rest of one is what is counted in all of them
-pub counted_by_parts : (time rate : ℕ) → time / 1000000 * rate + time % 1000000 * rate / 1000000 ≡ time * rate / 1000000
-counted_by_parts time rate =
-    parts (time / 1000000) (time % 1000000) rate 1000000 (omega arith) ∙ ap (λ n. n * rate / 1000000) (div-add-mod' time 1000000)
+-- what a counter counts in a time that gains so much in each second
+pub counted_faster : (time by : ℕ) → time + time * by / 1000000 ≡ time * (1000000 + by) / 1000000
+counted_faster time by =
+    let all : time * (1000000 + by) ≡ time * 1000000 + time * by = grind arith in
+    omega (arith, all)
+
+-- or that loses so much
+pub counted_slower : (time by rate : ℕ) → rate + by ≡ 1000000 → time - (time * by + 999999) / 1000000 ≡ time * rate / 1000000
+counted_slower time by rate is =
+    let all : time * rate + time * by ≡ time * (rate + by) = grind arith in
+    let whole : time * (rate + by) ≡ time * 1000000 = ap (λ n. time * n) is in
+    omega (arith, all, whole)
 
 -- a counter that gains no more than a thousandth stays small for as long as a scenario can last
 pub counted_few : (time rate : ℕ) → time < 2 ^ 60 → rate ≤ 1001000 → time * rate / 1000000 < 2 ^ 61 - 2 ^ 55

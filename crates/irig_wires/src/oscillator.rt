@@ -41,19 +41,22 @@ impl Oscillator {
         })
     }
 
-    /// What the counter shows at a true time. The longest scenario, of a million lines of 100,000
-    /// seconds, lasts 10^17 us, which is less than 2^57.
+    /// What the counter shows at a true time, less than 2^54 us: 570 years.
     pub fn count_at(self, time_us: u64) -> u64
-        requires { time_us < 2 ^ 60 }
+        requires { time_us < 2 ^ 54 }
         ensures value { result ≡ counter_at self.first (rate_of self.gain_us) time_us }
         ensures few { result < 2 ^ 61 }
         ensures least { self.first ≤ result }
         ensures most { result ≤ self.first + 2 * time_us }
     {
         let rate = self.rate();
-        let seconds = time_us / SECOND_US;
-        let rest_us = time_us % SECOND_US;
-        self.first + (seconds * rate + rest_us * rate / SECOND_US)
+        if rate < SECOND_US {
+            let lost = time_us * (SECOND_US - rate);
+            self.first + (time_us - (lost + (SECOND_US - 1)) / SECOND_US)
+        } else {
+            let gained = time_us * (rate - SECOND_US);
+            self.first + (time_us + gained / SECOND_US)
+        }
     }
 
     /// The first true time at which the counter shows a count, or more: 0 if it does so from the

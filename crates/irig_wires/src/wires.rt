@@ -88,34 +88,30 @@ impl Wires {
         }
     }
 
-    fn set(&mut self, line: u8, wire: Wire)
-        ensures { self.new ≡ with_wire self.old line wire }
-    {
-        match line {
-            0 => self.a = wire,
-            1 => self.b = wire,
-            2 => self.c = wire,
-            3 => self.d = wire,
-            _ => self.e = wire,
-        }
-    }
-
     /// Pulls a line's cable out, 0 to 4 ([`Wire::pull`]).
     pub fn pull(&mut self, line: u8)
         ensures { self.new ≡ with_wire self.old line (pulled (wire_at self.old line)) }
     {
-        let mut wire = self.wire(line);
-        wire.pull();
-        self.set(line, wire);
+        match line {
+            0 => self.a.pull(),
+            1 => self.b.pull(),
+            2 => self.c.pull(),
+            3 => self.d.pull(),
+            _ => self.e.pull(),
+        }
     }
 
     /// Plugs it in again ([`Wire::plug`]).
     pub fn plug(&mut self, line: u8)
         ensures { self.new ≡ with_wire self.old line (plugged (wire_at self.old line)) }
     {
-        let mut wire = self.wire(line);
-        wire.plug();
-        self.set(line, wire);
+        match line {
+            0 => self.a.plug(),
+            1 => self.b.plug(),
+            2 => self.c.plug(),
+            3 => self.d.plug(),
+            _ => self.e.plug(),
+        }
     }
 
     /// Makes a line so late, 0 to 1999 us, for pulses that are sent from now on
@@ -124,9 +120,13 @@ impl Wires {
         requires { late_us ≤ most_late_us }
         ensures { self.new ≡ with_wire self.old line (made_late late_us (wire_at self.old line)) }
     {
-        let mut wire = self.wire(line);
-        wire.be_late(late_us);
-        self.set(line, wire);
+        match line {
+            0 => self.a.be_late(late_us),
+            1 => self.b.be_late(late_us),
+            2 => self.c.be_late(late_us),
+            3 => self.d.be_late(late_us),
+            _ => self.e.be_late(late_us),
+        }
     }
 
     /// A generator sends a pulse on a line ([`Wire::send`]).
@@ -135,9 +135,13 @@ impl Wires {
         ensures { self.new
             ≡ with_wire self.old line (sent now_us width_us (wire_at self.old line)) }
     {
-        let mut wire = self.wire(line);
-        wire.send(now_us, width_us);
-        self.set(line, wire);
+        match line {
+            0 => self.a.send(now_us, width_us),
+            1 => self.b.send(now_us, width_us),
+            2 => self.c.send(now_us, width_us),
+            3 => self.d.send(now_us, width_us),
+            _ => self.e.send(now_us, width_us),
+        }
     }
 
     /// A pulse is added on a line by hand ([`Wire::add`]).
@@ -146,9 +150,13 @@ impl Wires {
         ensures { self.new
             ≡ with_wire self.old line (added now_us width_us (wire_at self.old line)) }
     {
-        let mut wire = self.wire(line);
-        wire.add(now_us, width_us);
-        self.set(line, wire);
+        match line {
+            0 => self.a.add(now_us, width_us),
+            1 => self.b.add(now_us, width_us),
+            2 => self.c.add(now_us, width_us),
+            3 => self.d.add(now_us, width_us),
+            _ => self.e.add(now_us, width_us),
+        }
     }
 
     /// What is on its way on a line, if anything is.
@@ -163,10 +171,13 @@ impl Wires {
         ensures answer { result ≡ ended now_us (wire_at self.old line).flight }
         ensures new { self.new ≡ with_wire self.old line (taken now_us (wire_at self.old line)) }
     {
-        let mut wire = self.wire(line);
-        let flight = wire.take(now_us);
-        self.set(line, wire);
-        flight
+        match line {
+            0 => self.a.take(now_us),
+            1 => self.b.take(now_us),
+            2 => self.c.take(now_us),
+            3 => self.d.take(now_us),
+            _ => self.e.take(now_us),
+        }
     }
 
     /// What happens next to a device that is ticked then, if it is to be ticked, and to which

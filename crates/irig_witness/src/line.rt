@@ -57,21 +57,21 @@ pub(crate) fn new_witness() -> LineWitness
     }
 }
 
-// Behind a pulse. Those of a true line rise less than `within_us` from their elements' begins.
-pub(crate) fn after_rise(line: LineWitness, within_us: u32, pulse: Risen) -> LineWitness
+// A pulse more. Those of a true line rise less than `within_us` from their elements' begins.
+pub(crate) fn hear_rise(line: &mut LineWitness, within_us: u32, pulse: Risen)
     requires within { within_us ≤ most_within_us }
     requires rise { pulse.rise < 2 ^ 58 }
     requires element { pulse.element < 2 ^ 58 }
     requires begins { pulse.begins < 2 ^ 58 }
     ensures { (symbols : ℕ → Symbol) (edges : ℕ → ℕ) → pulse.begins ≡ element_at edges pulse.element
         → IsSaidOf symbols pulse.element pulse.width_us pulse.symbol
-        → result ≡ witness.after_rise within_us symbols edges line pulse.element pulse.rise
+        → line.new ≡ witness.after_rise within_us symbols edges line.old pulse.element pulse.rise
         pulse.width_us }
 {
     if is_true(pulse, within_us) {
-        after_true(line, pulse.element, pulse.rise)
+        hear_true(line, pulse.element, pulse.rise);
     } else {
-        after_false(line, pulse.rise)
+        hear_false(line, pulse.rise);
     }
 }
 
@@ -90,41 +90,30 @@ fn is_true(pulse: Risen, within_us: u32) -> bool
         && is_same(classify(pulse.width_us), pulse.symbol)
 }
 
-fn after_true(line: LineWitness, element: u64, rise: u64) -> LineWitness
+fn hear_true(line: &mut LineWitness, element: u64, rise: u64)
     requires rise { rise < 2 ^ 58 }
     requires element { element < 2 ^ 58 }
-    ensures { result ≡ witness.after_true line element rise }
+    ensures { line.new ≡ witness.after_true line.old element rise }
 {
-    if line.next <= element {
-        return LineWitness {
-            next: element + 1,
-            before: element,
-            clear: line.clear,
-            again: rise + FORGET_US,
-            rise,
-        };
+    if element < line.next {
+        if element < line.before {
+            hear_false(line, rise);
+            return;
+        }
+        line.clear = line.clear.max(line.again);
     }
-    if line.before <= element {
-        return LineWitness {
-            next: element + 1,
-            before: element,
-            clear: line.clear.max(line.again),
-            again: rise + FORGET_US,
-            rise,
-        };
-    }
-    after_false(line, rise)
+    line.next = element + 1;
+    line.before = element;
+    line.again = rise + FORGET_US;
+    line.rise = rise;
 }
 
-fn after_false(line: LineWitness, rise: u64) -> LineWitness
+fn hear_false(line: &mut LineWitness, rise: u64)
     requires { rise < 2 ^ 58 }
-    ensures { result ≡ witness.after_false line rise }
+    ensures { line.new ≡ witness.after_false line.old rise }
 {
-    LineWitness {
-        clear: line.clear.max(rise + FORGET_US),
-        rise,
-        ..line
-    }
+    line.clear = line.clear.max(rise + FORGET_US);
+    line.rise = rise;
 }
 
 #[tactic(auto, unfolding(irig_lives::specs::Decided::is_same))]

@@ -1,13 +1,15 @@
 //! The audit of a device, as it goes.
 
-ghost use Rattle.std.specs.Prelude.{◌≡◌, ◌<◌, ◌∷◌, ◌^◌, if◌then◌else◌, [], ℕ, List};
+ghost use Rattle.std.specs.Prelude.{◌≡◌, ◌≤◌, ◌<◌, ◌∷◌, ◌^◌, if◌then◌else◌, [], ℕ, List};
 ghost use Rattle.irig_sync.specs.Edges.{element_at};
 ghost use Rattle.irig_vote.specs.Vote.{ports_in};
 ghost use Rattle.irig_timekeeper.specs.Life.{Call};
 ghost use Rattle.irig_timekeeper.specs.Life.Call.{Hear, Tick};
-ghost use Rattle.irig_witness.specs.Witness.{IsSaidOf, TrueLines};
+ghost use Rattle.irig_frame.specs.declared.symbol.Symbol.{Symbol};
+ghost use Rattle.irig_lines.specs.Exactness.{most_within_us};
+ghost use Rattle.irig_witness.specs.Witness.{IsSaidOf, TrueLines, after_rise};
 
-use crate::line::{LineWitness, Risen, after_rise, new_witness};
+use crate::line::{LineWitness, Risen, hear_rise, new_witness};
 use irig_lines::{ClockRules, is_pulse};
 
 /// The audit of a device so far. Its times are those of the device's counter, which does not wrap
@@ -68,9 +70,29 @@ impl Watch {
             return;
         }
         let is_kept = self.kept_at_pulse(line, pulse.rise);
-        let witness = after_rise(self.witness_at(line), clock.within.us(), pulse);
-        self.set_witness(line, witness);
+        self.hear_rise(line, clock.within.us(), pulse);
         self.is_kept = is_kept;
+    }
+
+    fn hear_rise(&mut self, line: u8, within_us: u32, pulse: Risen)
+        requires within { within_us ≤ most_within_us }
+        requires rise { pulse.rise < 2 ^ 58 }
+        requires element { pulse.element < 2 ^ 58 }
+        requires begins { pulse.begins < 2 ^ 58 }
+        ensures { (symbols : ℕ → Symbol) (edges : ℕ → ℕ)
+            → pulse.begins ≡ element_at edges pulse.element
+            → IsSaidOf symbols pulse.element pulse.width_us pulse.symbol
+            → self.new ≡ watches.with_witness self.old line
+            (after_rise within_us symbols edges (watches.witness_at self.old line) pulse.element
+            pulse.rise pulse.width_us) }
+    {
+        match line {
+            0 => hear_rise(&mut self.a, within_us, pulse),
+            1 => hear_rise(&mut self.b, within_us, pulse),
+            2 => hear_rise(&mut self.c, within_us, pulse),
+            3 => hear_rise(&mut self.d, within_us, pulse),
+            _ => hear_rise(&mut self.e, within_us, pulse),
+        }
     }
 
     /// Hears of a tick.
@@ -144,18 +166,6 @@ impl Watch {
             2 => self.c,
             3 => self.d,
             _ => self.e,
-        }
-    }
-
-    fn set_witness(&mut self, line: u8, witness: LineWitness)
-        ensures { self.new ≡ watches.with_witness self.old line witness }
-    {
-        match line {
-            0 => self.a = witness,
-            1 => self.b = witness,
-            2 => self.c = witness,
-            3 => self.d = witness,
-            _ => self.e = witness,
         }
     }
 }

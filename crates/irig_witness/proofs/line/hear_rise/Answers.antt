@@ -7,7 +7,7 @@ use Rattle.irig_sync.specs.Lines.{pulse_at}
 use Rattle.irig_lives.specs.Decided.{is_pulse_of, is_same}
 use Rattle.irig_witness.specs.Witness.{IsSaidOf}
 use Rattle.irig_witness.proofs.SaidLaws.{said_same}
-use Rattle.irig_witness.proofs.line.after_rise.Goals as goal
+use Rattle.irig_witness.proofs.line.hear_rise.Goals as goal
 
 -- the test is that of the line's pulses
 test_is : (within : ℕ) (symbols : ℕ → Symbol) (edges : ℕ → ℕ) (element begins rise width : ℕ) (symbol : Symbol) (b : Bool) → begins ≡ element_at edges element → IsSaidOf symbols element width symbol
@@ -20,11 +20,11 @@ returns-then-is_true c symbols edges at is =
     let p = c.args.pulse in
     let e : is_pulse_of c.args.within_us symbols edges p.element (pulse_at p.rise p.width_us) ≡ true =
     test_is c.args.within_us symbols edges p.element p.begins p.rise p.width_us p.symbol true at is (sym c.if-is_true.true ∙ c.is_true.ensures) in
-    rw e c.after_true.ensures
+    rw e c.hear_true.ensures
 
 pub returns-else-is_true : goal.returns-else-is_true
 returns-else-is_true c symbols edges at is =
     let p = c.args.pulse in
     let e : is_pulse_of c.args.within_us symbols edges p.element (pulse_at p.rise p.width_us) ≡ false =
     test_is c.args.within_us symbols edges p.element p.begins p.rise p.width_us p.symbol false at is (sym c.if-is_true.false ∙ c.is_true.ensures) in
-    rw e c.after_false.ensures
+    rw e c.hear_false.ensures
