@@ -1,6 +1,6 @@
 //! Laws of courses over their definitions. They have no code.
 
-ghost use Rattle.std.specs.Prelude.{◌≡◌, ◌≤◌, ◌+◌, ◌-◌, ◌++◌, ℕ, List, Option, All, map, reverse, true};
+ghost use Rattle.std.specs.Prelude.{◌≡◌, ◌≤◌, ◌+◌, ◌-◌, ◌++◌, ℕ, List, Option, Some, All, map, reverse, true};
 ghost use Rattle.irig_frame.specs.declared.symbol.Symbol.{Symbol};
 ghost use Rattle.irig_time.specs.Timelines.{TimelineValue, IsSecond};
 ghost use Rattle.irig_lines.specs.Lines.{IsTrueLately};
@@ -8,11 +8,12 @@ ghost use Rattle.irig_lines.specs.Steps.{AreNewLines, no_lines};
 ghost use Rattle.irig_timekeeper.specs.Life.{Call, device_of};
 ghost use Rattle.irig_timekeeper.specs.Lived.{made_with};
 ghost use Rattle.irig_timekeeper.specs.Loops.{AreMadeInTurn, AreToldInTime, ComeInARow, GoesByLastWait, TicksEach};
+ghost use Rattle.irig_timekeeper.specs.Rows.{AreToldLast};
 ghost use Rattle.irig_timekeeper.specs.Truth.{FollowsTruth};
 ghost use Rattle.irig_witness.specs.TrueFrames.{true_symbol};
 ghost use Rattle.irig_witness.specs.Promise.{IsTrueSetup};
-ghost use Rattle.irig_simulated.specs.Kinds.{Kind, MovesOn, edges_by_kind};
-ghost use Rattle.irig_simulated.specs.Courses.{Course, coming, keeps_so_far, most_in, passed, played, ticked};
+ghost use Rattle.irig_simulated.specs.Kinds.{Kind, MovesOn, count, edges_by_kind};
+ghost use Rattle.irig_simulated.specs.Courses.{Course, coming, keeps_so_far, most_in, passed, played, stamp_said, ticked};
 ghost use Rattle.irig_simulated.specs.Doings.{AreCounted, Doing, IsTickedInTime, course_behind, told_by};
 ghost use Rattle.irig_simulated.specs.Announced.{HasTold, IsAmong};
 ghost use Rattle.irig_simulated.specs.Heard.{call_of, heard_until, pulses_told};
@@ -20,6 +21,7 @@ ghost use Rattle.irig_simulated.specs.Truth.{IsToldOfItsEdge};
 
 use crate::setup::Ticking;
 use irig_time::UtcSecond;
+use irig_timekeeper::{Beat, Stamp};
 
 /// Time passes to its end: whatever is due before a time has happened, since fewer things happen in a
 /// stretch than its bound says, if the counter counts and the device is not ticked again at once.
@@ -88,6 +90,20 @@ pub fn a_course_announces()
     ensures passes { (k : Kind) (signal : ℕ → ℕ → Option Symbol) (stop : ℕ) (x : Course)
         → HasTold k x (passed k signal stop x) }
     ensures ticks { (k : Kind) (x : Course) → HasTold k x (ticked k x) }
+{}
+
+/// It stamps each instant of an announced second: let its setup be true, and its audit kept. Then no
+/// instant between the edges of the two seconds that it told last is without a stamp, if both were
+/// announced and none was missed between; nor is one up to a second and its bound behind the last.
+pub fn a_course_stamps_each_instant()
+    ensures { (t : TimelineValue) (sent : ℕ → ℕ → List (List Symbol)) (k : Kind) (x : Course)
+        (edge next time : ℕ) (beat then : Beat) (u v : UtcSecond) (fresh : AreNewLines no_lines)
+        → IsTrueSetup t k.rate k.made.clock k.made.table
+        → keeps_so_far k (λ line. true_symbol k.made.rules t (sent line)) x ≡ true
+        → AreToldLast (device_of (made_with k.made no_lines fresh)) x.calls beat then edge next
+        → beat.report.announce ≡ Some u → then.report.announce ≡ Some v → then.missed ≡ 0
+        → edge ≤ count k time → count k time ≤ next + 1000000 + then.bound_us
+        → (stamp : Stamp) × (stamp_said k x time ≡ Some stamp) }
 {}
 
 /// What a device hears can be written as pulses, of which each shows when it rose and when it had
