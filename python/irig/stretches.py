@@ -34,7 +34,8 @@ MEANINGS: Dict[Cause, str] = {
     "acquiring": "not yet enough votes in a row",
     "no-vote": "there was no vote, and nothing to count from",
     "expired": "there was no vote for longer than the holdover",
-    "leap-guard": "a month ended, and nothing told if a leap second came",
+    "leap-guard": "a month ended, and nothing told if a leap second came, or the frames and the leap table "
+    "contradicted one another",
     "jump": "the vote was for another second than the one that followed",
     "range-end": "the next second would have been after 2099-12-30",
 }

@@ -18,7 +18,7 @@ MEANINGS = {
     Cause.ACQUIRING: "not yet enough votes in a row",
     Cause.NO_VOTE: "there was no vote, and nothing to count from",
     Cause.EXPIRED: "there was no vote for longer than the holdover",
-    Cause.LEAP_GUARD: "a month ended, and nothing told if a leap second came",
+    Cause.LEAP_GUARD: "a month ended, and nothing told if a leap second came, or the frames and the leap table contradicted one another",
     Cause.JUMP: "the vote was for another second than the one that followed",
     Cause.RANGE_END: "the next second would have been after 2099-12-30",
 }

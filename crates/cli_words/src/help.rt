@@ -127,5 +127,5 @@ Example:
   $ irig explain 27
   27 Version
   a version that this program does not know
-  for example: {\"version\":4}
-  what to do:  take 1, 2 or 3";
+  for example: {\"version\":5}
+  what to do:  take 1, 2, 3 or 4";

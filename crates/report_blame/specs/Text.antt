@@ -92,7 +92,7 @@ meaning_text cause.Held = codes "there was no vote, and the reader counted on"
 meaning_text cause.Acquiring = codes "not yet enough votes in a row"
 meaning_text cause.NoVote = codes "there was no vote, and nothing to count from"
 meaning_text cause.Expired = codes "there was no vote for longer than the holdover"
-meaning_text cause.LeapGuard = codes "a month ended, and nothing told if a leap second came"
+meaning_text cause.LeapGuard = codes "a month ended, and nothing told if a leap second came, or the frames and the leap table contradicted one another"
 meaning_text cause.Jump = codes "the vote was for another second than the one that followed"
 meaning_text cause.RangeEnd = codes "the next second would have been after 2099-12-30"
 

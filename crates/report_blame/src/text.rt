@@ -299,7 +299,8 @@ fn cause_meaning(cause: Cause) -> &'static str
         Cause::Acquiring => "not yet enough votes in a row",
         Cause::NoVote => "there was no vote, and nothing to count from",
         Cause::Expired => "there was no vote for longer than the holdover",
-        Cause::LeapGuard => "a month ended, and nothing told if a leap second came",
+        Cause::LeapGuard =>
+            "a month ended, and nothing told if a leap second came, or the frames and the leap table contradicted one another",
         Cause::Jump => "the vote was for another second than the one that followed",
         Cause::RangeEnd => "the next second would have been after 2099-12-30",
     }

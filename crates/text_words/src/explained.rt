@@ -146,15 +146,15 @@ static WORDS: [Meaning; 24] = [
     },
     Meaning {
         name: "premises kept",
-        cause: "at no tick did a reader get more untrue claims than it can outvote, one of three or two of five, and all leap tables are true: each second announced above is the true one",
+        cause: "of readers: at no tick did one get more untrue claims than it can outvote, one of three or two of five, and all leap tables are true. Of devices: at no tick were more lines of one untrue than that, each was ticked in time and has a counter as its drift says, and all leap tables that are needed are true. Then each second announced above is the true one, and each stamp names its instant",
         example: "premises kept, as the last line of a log",
         cure: "nothing: the log vouches for itself",
     },
     Meaning {
         name: "premises broken",
-        cause: "at this tick of this reader two ports of three, or three of five, were the first to tell untrue claims, or the leap table of this reader is not true",
+        cause: "at this tick of this reader two ports of three, or three of five, were the first to tell untrue claims; or in the second of this edge this device was the first that had so many untrue lines at a tick, or was not ticked in time. With table or drift: the leap table of this reader or device is not true, or the counter of this device gains or loses more than its drift says",
         example: "premises broken: edge 5 reader relay",
-        cure: "see which ports lied: irig blame FILE; from that edge on this reader follows its votes",
+        cure: "see which ports or lines lied: irig blame FILE. From that edge on this reader follows its votes; a log of devices vouches for its lines down to the last one of edge N - 2",
     },
 ];
 
