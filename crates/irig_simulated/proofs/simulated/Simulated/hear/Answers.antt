@@ -81,3 +81,9 @@ returns-else-place-eq100-clause-stands g c k signal symbol x of is =
       send = is.send;
       told = is.told;
     }
+
+pub returns-then-place-eq100-clause-kept : goal.returns-then-place-eq100-clause-kept
+returns-then-place-eq100-clause-kept g c = c.in_ok-add.ensures
+
+pub returns-else-place-eq100-clause-kept : goal.returns-else-place-eq100-clause-kept
+returns-else-place-eq100-clause-kept g c = c.in_ok-add.ensures
