@@ -335,10 +335,10 @@ class Heard(Station):
 
     def __init__(self, plan: StationPlan) -> None:
         super().__init__(plan, "all")
-        self.heard: list[tuple[int, ToldSecond]] = []
+        self.seconds_told: list[tuple[int, ToldSecond]] = []
 
     def told(self, name: str, seconds: Iterator[ToldSecond]) -> Iterator[str]:
-        self.heard += [(list(self.devices).index(name), second) for second in seconds]
+        self.seconds_told += [(list(self.devices).index(name), second) for second in seconds]
         self.look(name)
         return iter(())
 
@@ -359,8 +359,8 @@ class ToldByDevices(Told):
 
     def __init__(self, station: Heard) -> None:
         self.timeline, self.tracks = station.plan.timeline, {}
-        self.heard = [(device, second.edge) for device, second in station.heard]
-        for tick, (device, second) in enumerate(station.heard):
+        self.heard = [(device, second.edge) for device, second in station.seconds_told]
+        for tick, (device, second) in enumerate(station.seconds_told):
             report = second.beat.report
             lock, cause = said_of(report).split()[1:]
             self.put((device, STOOD, 0), tick, LOCKS.index(lock.split(":")[0]), CAUSES.index(cause))
