@@ -1,9 +1,9 @@
--- A frame without a wrong element, heard at once.
-use Rattle.std.proofs.Common.{◌≡◌, ℕ, suc, ◌+◌, ◌-◌, ◌*◌, ◌<◌, ◌≤◌, cond, List, [], ◌∷◌, ◌++◌, length, Option, Some, None, take, get_or, slice_get, refl, sym, ap, ◌∙◌, arith}
+-- The first elements of a frame, none of them wrong, heard at once.
+use Rattle.std.proofs.Common.{◌≡◌, ℕ, zero, suc, ◌+◌, ◌-◌, ◌*◌, ◌<◌, ◌≤◌, cond, List, [], ◌∷◌, ◌++◌, length, Option, Some, None, take, get_or, slice_get, refl, sym, ap, ◌∙◌, arith}
 use Rattle.std.specs.Option.{option_or, option_map}
 use Rattle.std.proofs.Math.Pow.{pow_mono}
 use Rattle.std.proofs.lemmas.List.{take_all, take_more, length-take-le, length-map, map-append}
-use Rattle.std.proofs.lemmas.Option.{slice_get-map, slice_get-get_or}
+use Rattle.std.proofs.lemmas.Option.{slice_get-map, slice_get-get_or, slice_get_past}
 use Rattle.irig_frame.specs.declared.fault.FrameFault.{FrameFault}
 use Rattle.irig_frame.specs.declared.symbol.Symbol.{Symbol}
 use Rattle.irig_frame.specs.Faults.{element_fault, first_wrong}
@@ -13,7 +13,7 @@ use Rattle.irig_port.specs.Heard.{symbols_of, symbols_heard}
 use Rattle.irig_port.specs.Bits.{bits_from, time_bits, control_bits, IsOf}
 use Rattle.irig_frame.proofs.ReadingLaws.{first_of}
 use Rattle.irig_port.proofs.SumLaws.{first_wrong-push}
-use Rattle.irig_port.proofs.BitLaws.{bits-lt}
+use Rattle.irig_port.proofs.BitLaws.{bit_of, bits-lt}
 
 -- one element more at the front of the bits
 pub bits-down : (ws : List ℕ) (e end : ℕ) → 0 < e → e ≤ end → end ≤ length ws
@@ -51,19 +51,31 @@ pub right-back : (ws : List ℕ) (i : ℕ) → i < length ws → first_wrong 0 (
 right-back ws i h right =
     first_of (first_wrong 0 (symbols_of (take i ws))) (element_fault i (symbol_of (get_or ws i 0))) (sym (wrong-push ws i h) ∙ right)
 
--- the numbers of such a frame
-pub of_right : (s : List Symbol) (time control : ℕ) (wrong : Option FrameFault) → length s ≡ 100 → first_wrong 0 s ≡ None
-    → wrong ≡ None → time ≡ bits_from 0 60 s → control ≡ bits_from 60 40 s → IsOf 100 time control wrong s
+-- past the last symbol no bit is set
+bits-past : (i n : ℕ) (s : List Symbol) → length s ≤ i → bits_from i n s ≡ 0
+bits-past i zero s h = refl
+bits-past i (suc n) s h =
+    let here : bit_of s i ≡ 0 = rw (slice_get_past s i h) refl in
+    omega (arith, here, bits-past (i + 1) n s (omega (arith, h)))
+
+bits-to-end : (k n i : ℕ) (s : List Symbol) → length s ≡ i + k → k ≤ n → bits_from i k s ≡ bits_from i n s
+bits-to-end zero n i s ends h = sym (bits-past i n s (omega (arith, ends)))
+bits-to-end (suc k) zero i s ends h = absurd (omega (arith, h))
+bits-to-end (suc k) (suc n) i s ends h = omega (arith, bits-to-end k n (i + 1) s (omega (arith, ends)) (omega (arith, h)))
+
+-- the numbers of such elements
+pub of_right : (s : List Symbol) (n time control : ℕ) (wrong : Option FrameFault) → length s ≡ n → 60 ≤ n → n ≤ 100 → first_wrong 0 s ≡ None
+    → wrong ≡ None → time ≡ bits_from 0 60 s → control ≡ bits_from 60 (n - 60) s → IsOf n time control wrong s
 unfolding time_bits control_bits
-of_right s time control wrong whole right none timed controlled = record {
-  counted = sym whole;
-  few = omega (arith, whole);
+of_right s n time control wrong is_n some few right none timed controlled = record {
+  counted = sym is_n;
+  few = omega (arith, is_n, few);
   timed = λ _. timed;
-  controlled = λ _. controlled;
+  controlled = λ _. controlled ∙ bits-to-end (n - 60) 40 60 s (omega (arith, is_n, some)) (omega (arith, few));
   lowest = λ _. none ∙ sym right;
 }
 
 -- nothing was heard before it
-pub heard-whole : (w ws : List ℕ) → length (symbols_heard w) ≡ 0 → length ws ≡ 100 → symbols_heard (w ++ ws) ≡ symbols_of ws
-heard-whole [] ws none whole = take_all 101 (symbols_of ws) (omega (arith, whole, length-map ws symbol_of))
-heard-whole (x ∷ w) ws none whole = absurd (omega (arith, none))
+pub heard-first : (w ws : List ℕ) → length (symbols_heard w) ≡ 0 → length ws ≤ 100 → symbols_heard (w ++ ws) ≡ symbols_of ws
+heard-first [] ws none few = take_all 101 (symbols_of ws) (omega (arith, few, length-map ws symbol_of))
+heard-first (x ∷ w) ws none few = absurd (omega (arith, none))

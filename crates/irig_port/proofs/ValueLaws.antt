@@ -208,7 +208,7 @@ numbers_of_value p c b control fits small test is =
     let own : with_parity p (frame_of_coded c) ≡ slice_set (frame_of_coded c) 75 (data_symbol b) =
     ap (λ (x : Bool). slice_set (frame_of_coded c) 75 (data_symbol (not x))) (zero-counted p c fits small ∙ test) ∙ twice b in
     subst (λ (s : List Symbol). IsOf 100 (time_number c) control None s) (sym own)
-    (of_right (slice_set (frame_of_coded c) 75 (data_symbol b)) (time_number c) control None n.whole n.right refl (sym n.timed) (is ∙ sym n.controlled))
+    (of_right (slice_set (frame_of_coded c) 75 (data_symbol b)) 100 (time_number c) control None n.whole (omega arith) (omega arith) n.right refl (sym n.timed) (is ∙ sym n.controlled))
   where
     twice : (x : Bool) → slice_set (frame_of_coded c) 75 (data_symbol (not (not x))) ≡ slice_set (frame_of_coded c) 75 (data_symbol x)
     twice true = refl

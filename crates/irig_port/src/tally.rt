@@ -89,9 +89,10 @@ impl Tally {
             → IsTallyOf self.new (symbols_heard (w ++ widths_us.now)) }
         ensures few { self.old.count ≤ 101 → self.new.count ≤ 101 }
     {
-        // what a port hears as a rule; three short loops take half the time of the one
-        if self.count == 0 && is_right_frame(widths_us) {
-            *self = Tally::of_frame(widths_us);
+        // what a port hears as a rule: a frame, or all of it but its last pulse; three short loops
+        // take less than half the time of the one
+        if self.count == 0 && is_right_start(widths_us) {
+            *self = Tally::of_start(widths_us);
         } else {
             self.add_each(widths_us);
         }
@@ -110,18 +111,19 @@ impl Tally {
         *self = tally;
     }
 
-    // Of a frame without a wrong element.
-    fn of_frame(widths_us: &[u32]) -> Tally
-        requires whole { length widths_us.now ≡ 100 }
+    // Of the first elements of a frame, at least the 60 of the time, none of them wrong.
+    fn of_start(widths_us: &[u32]) -> Tally
+        requires some { 60 ≤ length widths_us.now }
+        requires few { length widths_us.now ≤ 100 }
         requires right { first_wrong 0 (symbols_of widths_us.now) ≡ None }
         ensures of_widths { IsTallyOf result (symbols_of widths_us.now) }
-        ensures whole { result.count ≡ 100 }
+        ensures few { result.count ≤ 100 }
     {
         Tally {
-            count: 100,
+            count: widths_us.len() as u32,
             wrong: NO_FAULT,
             time: bits_of(widths_us, 0, 60),
-            control: bits_of(widths_us, 60, 100),
+            control: bits_of(widths_us, 60, widths_us.len()),
         }
     }
 
@@ -207,21 +209,21 @@ fn bit_if(is_one: bool, bit: u32) -> u64
     u64::from(is_one) << bit
 }
 
-/// Whether there are 100 pulses, each of them right at its element.
-fn is_right_frame(widths_us: &[u32]) -> bool
-    ensures { IsTrue result ↔ ((length widths_us.now ≡ 100)
+/// Whether there are 60 to 100 pulses, each of them right at its element.
+fn is_right_start(widths_us: &[u32]) -> bool
+    ensures { IsTrue result ↔ ((60 ≤ length widths_us.now) × (length widths_us.now ≤ 100)
         × (first_wrong 0 (symbols_of widths_us.now) ≡ None)) }
 {
-    widths_us.len() == 100 && are_right(widths_us)
+    (60..=100).contains(&widths_us.len()) && are_right(widths_us)
 }
 
 // Asks of each of them, as many at once as the machine can.
 fn are_right(widths_us: &[u32]) -> bool
-    requires { length widths_us.now ≡ 100 }
+    requires { length widths_us.now ≤ 100 }
     ensures { IsTrue result ↔ (first_wrong 0 (symbols_of widths_us.now) ≡ None) }
 {
     let mut are_right = true;
-    for element in 0..100 {
+    for element in 0..widths_us.len() {
         are_right &= is_right(widths_of(element), widths_us[element]);
     }
     are_right
