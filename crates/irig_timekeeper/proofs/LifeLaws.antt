@@ -199,7 +199,7 @@ line_same lines (suc (suc (suc zero))) l low = refl
 line_same lines (suc (suc (suc (suc zero)))) l low = refl
 line_same lines (suc (suc (suc (suc (suc i))))) l low = absurd (omega (arith, low))
 
-heard_same : (heard : Heard) (port : ℕ) (s : List Symbol) → port < 5 → heard_by (with_heard heard port s) port ≡ s
+pub heard_same : (heard : Heard) (port : ℕ) (s : List Symbol) → port < 5 → heard_by (with_heard heard port s) port ≡ s
 heard_same heard zero s low = refl
 heard_same heard (suc zero) s low = refl
 heard_same heard (suc (suc zero)) s low = refl
@@ -220,7 +220,7 @@ line_other lines (suc (suc (suc (suc zero)))) l (suc (suc (suc (suc zero)))) low
 line_other lines (suc (suc (suc (suc zero)))) l (suc (suc (suc (suc (suc i))))) low small other = absurd (omega (arith, small))
 line_other lines (suc (suc (suc (suc (suc p))))) l i low small other = absurd (omega (arith, low))
 
-heard_other : (heard : Heard) (port : ℕ) (s : List Symbol) (i : ℕ) → port < 5 → i < 5 → ¬ (i ≡ port) → heard_by (with_heard heard port s) i ≡ heard_by heard i
+pub heard_other : (heard : Heard) (port : ℕ) (s : List Symbol) (i : ℕ) → port < 5 → i < 5 → ¬ (i ≡ port) → heard_by (with_heard heard port s) i ≡ heard_by heard i
 heard_other heard zero s i low small other = rw (ne_eqb i 0 other) refl
 heard_other heard (suc zero) s i low small other = rw (ne_eqb i 1 other) refl
 heard_other heard (suc (suc zero)) s i low small other = rw (ne_eqb i 2 other) refl

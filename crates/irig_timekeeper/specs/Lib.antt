@@ -17,3 +17,4 @@ pub mod Lived
 pub mod Doubts
 pub mod Measures
 pub mod Learning
+pub mod Unfinished

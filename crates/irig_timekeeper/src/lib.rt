@@ -12,6 +12,7 @@ mod keeper;
 mod quality;
 mod stamp;
 mod states;
+mod unfinished;
 
 pub use clock::{Beat, ClockState, Ticked, clock_of_nothing, tick, wait_of};
 pub use keeper::Timekeeper;
