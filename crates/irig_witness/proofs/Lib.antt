@@ -6,7 +6,10 @@ pub mod OscillatorLaws
 pub mod VouchLaws
 pub mod ExactLaws
 pub mod LateLaws
+pub mod DelayLaws
 pub mod WatchLaws
+pub mod MostLaws
+pub mod UnfinishedLaws
 pub mod BegunLaws
 pub mod BeforeLaws
 pub mod KeptFacts

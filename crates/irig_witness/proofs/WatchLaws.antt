@@ -19,7 +19,7 @@ use Rattle.irig_witness.specs.Watches.{IsWatchOf, doubted_in, kept_at_pulse, kep
 
 -- ---- five lines
 
-with_at : (w : Watch) (a : LineWitness) (p q : ℕ) → p < 5 → q < 5 → witness_at (with_witness w p a) q ≡ cond (q == p) a (witness_at w q)
+pub with_at : (w : Watch) (a : LineWitness) (p q : ℕ) → p < 5 → q < 5 → witness_at (with_witness w p a) q ≡ cond (q == p) a (witness_at w q)
 with_at w a zero zero h k = refl
 with_at w a zero (suc zero) h k = refl
 with_at w a zero (suc (suc zero)) h k = refl

@@ -4,3 +4,4 @@ pub mod Witness
 pub mod Watches
 pub mod Promise
 pub mod Devices
+pub mod Unfinished

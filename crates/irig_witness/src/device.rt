@@ -1,6 +1,6 @@
 //! A device that is audited as it goes.
 
-ghost use Rattle.std.specs.Prelude.{◌≡◌, ◌<◌, ◌≤◌, ◌∷◌, ◌%◌, ◌^◌, ◌+◌, ◌&&◌, [], ℕ, List, None, Some, MatchResult};
+ghost use Rattle.std.specs.Prelude.{◌≡◌, ◌<◌, ◌≤◌, ◌∷◌, ◌%◌, ◌^◌, ◌+◌, ◌&&◌, [], true, ℕ, List, None, Some, MatchResult};
 ghost use Rattle.irig_frame.specs.declared.symbol.Symbol.{Symbol};
 ghost use Rattle.irig_lines.specs.Delays.{corrected, delay_at};
 ghost use Rattle.irig_lines.specs.Refusals.{clock_fault};
@@ -46,6 +46,7 @@ impl<P: Port> Device<P> {
     ghost use Rattle.irig_witness.specs.Devices.{HearsOn, IsDeviceOf, IsSetAs, StampsTruly, TellsTruly, TicksOn, element_on, lines_on, risen_on, wait_until_asked};
     ghost use Rattle.irig_witness.specs.Witness.{is_kept};
     ghost use Rattle.irig_witness.specs.Watches.{may_tick};
+    ghost use Rattle.irig_witness.specs.Unfinished.{HearsUnfinished, takes_frame};
 
     /// A device to which nothing has happened, and whose life begins at a time, with reader's rules
     /// that are [`in_range`](irig_reader::in_range); or the first fault of its setup, by
@@ -120,6 +121,52 @@ impl<P: Port> Device<P> {
         };
         self.watch.hear(&self.clock, line, pulse);
         self.keeper.hear(line, low(rise_us), width_us)
+    }
+
+    /// Whether a frame that begins at `element`, with a pulse that rises at `rise_us`, may be told by
+    /// [`hear_unfinished`](Self::hear_unfinished): the line's last pulse was a marker, or it is idle;
+    /// that element is yet to come; and its pulse is told in order.
+    pub fn takes_frame(&self, line: u8, rise_us: u64, element: u64) -> bool
+        requires line { line < 5 }
+        requires late { 32768 ≤ rise_us }
+        requires small { rise_us + 32768 < 2 ^ 56 }
+        ensures { result ≡ takes_frame self.now line (risen_on self.now line rise_us) element }
+    {
+        let rise = self.risen_on(line, rise_us);
+        self.keeper.may_begin(line) && self.watch.may_begin(line, rise, element)
+    }
+
+    /// All pulses of a frame but its last one on a line, at once: as [`hear`](Self::hear) of each, in
+    /// order, if the line [`takes_frame`](Self::takes_frame). The first rises at the device at
+    /// `first_us` and the last of them at `last_us`; each comes on time behind the one before. Their
+    /// widths show the same symbols as these 99, of which the first is a marker, no two in a row are,
+    /// and the last is none. They are those of a true line from `element` on.
+    pub fn hear_unfinished(
+        &mut self,
+        line: u8,
+        first_us: u64,
+        last_us: u64,
+        element: u64,
+        widths_us: &[u32],
+    )
+        requires line { line < ports_in self.old.clock.redundancy }
+        requires late { 32768 ≤ first_us }
+        requires late_last { 32768 ≤ last_us }
+        requires small { first_us + 32768 < 2 ^ 56 }
+        requires small_last { last_us + 32768 < 2 ^ 56 }
+        requires element { element < 2 ^ 43 }
+        requires takes { takes_frame self.old line (risen_on self.old line first_us) element ≡ true }
+        ensures on { HearsUnfinished self.old self.new line first_us last_us element widths_us.now }
+        ensures others { (other rise element : ℕ) → other < 5 → ¬ (other ≡ line)
+            → takes_frame self.new other rise element ≡ takes_frame self.old other rise element }
+        ensures set { IsSetAs self.new self.old }
+    {
+        // what the timekeeper takes the first rise to be
+        prove!(self.risen_on(line, first_us) < 1 << 56);
+        let last = self.risen_on(line, last_us);
+        self.watch.hear_unfinished(line, element, last);
+        self.keeper
+            .hear_unfinished(line, low(first_us), low(last_us), widths_us);
     }
 
     // When a pulse rose at its clock.

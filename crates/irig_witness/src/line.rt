@@ -8,6 +8,7 @@ ghost use Rattle.irig_lines.specs.Exactness.{most_within_us};
 ghost use Rattle.irig_lives.specs.Decided.{is_same};
 ghost use Rattle.irig_witness.specs.Witness as witness;
 ghost use Rattle.irig_witness.specs.Witness.{IsSaidOf};
+ghost use Rattle.irig_witness.specs.Unfinished.{after_more};
 
 use irig_frame::{Symbol, classify};
 
@@ -114,6 +115,19 @@ fn hear_false(line: &mut LineWitness, rise: u64)
 {
     line.clear = line.clear.max(rise + FORGET_US);
     line.rise = rise;
+}
+
+// All pulses of a frame but its last one, those of a true line from an element on that was yet to come;
+// the last of them rose then.
+pub(crate) fn hear_most(line: &mut LineWitness, element: u64, last: u64)
+    requires element { element < 2 ^ 58 }
+    requires rise { last < 2 ^ 58 }
+    ensures { line.new ≡ after_more line.old 98 element last }
+{
+    line.next = element + 99;
+    line.before = element + 98;
+    line.again = last + FORGET_US;
+    line.rise = last;
 }
 
 #[tactic(auto, unfolding(irig_lives::specs::Decided::is_same))]

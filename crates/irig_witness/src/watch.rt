@@ -9,7 +9,7 @@ ghost use Rattle.irig_frame.specs.declared.symbol.Symbol.{Symbol};
 ghost use Rattle.irig_lines.specs.Exactness.{most_within_us};
 ghost use Rattle.irig_witness.specs.Witness.{IsSaidOf, TrueLines, after_rise};
 
-use crate::line::{LineWitness, Risen, hear_rise, new_witness};
+use crate::line::{LineWitness, Risen, hear_most, hear_rise, new_witness};
 use irig_lines::{ClockRules, is_pulse};
 
 /// The audit of a device so far. Its times are those of the device's counter, which does not wrap
@@ -29,6 +29,8 @@ pub struct Watch {
 impl Watch {
     ghost use Rattle.irig_witness.specs.Watches as watches;
     ghost use Rattle.irig_witness.specs.Watches.{IsWatchOf};
+    ghost use Rattle.irig_witness.specs.Unfinished as unfinished;
+    ghost use Rattle.irig_witness.specs.Unfinished.{WatchesUnfinished, after_more};
 
     /// Of a device whose life begins at a time, less than 2^56: it was made or restarted.
     pub fn new(start: u64) -> Self
@@ -92,6 +94,45 @@ impl Watch {
             2 => hear_rise(&mut self.c, within_us, pulse),
             3 => hear_rise(&mut self.d, within_us, pulse),
             _ => hear_rise(&mut self.e, within_us, pulse),
+        }
+    }
+
+    /// Whether a frame that begins at an element, with a pulse that rises then, may be told by
+    /// [`hear_unfinished`](Self::hear_unfinished): that element is yet to come, and the pulse is told in
+    /// order.
+    pub fn may_begin(&self, line: u8, rise: u64, element: u64) -> bool
+        requires { rise < 2 ^ 58 }
+        ensures { result ≡ unfinished.may_begin self.now line rise element }
+    {
+        self.witness_at(line).next <= element && self.may_hear(line, rise)
+    }
+
+    /// Hears all pulses of a frame but its last one on a line, at once: they are those of a true line
+    /// from `element` on, and the last of them rose at `last`.
+    pub fn hear_unfinished(&mut self, line: u8, element: u64, last: u64)
+        requires line { line < 5 }
+        requires element { element < 2 ^ 58 }
+        requires rise { last < 2 ^ 58 }
+        ensures on { WatchesUnfinished self.old self.new line element last }
+        ensures others { (other : ℕ) → other < 5 → ¬ (other ≡ line)
+            → watches.witness_at self.new other ≡ watches.witness_at self.old other }
+        ensures tick { self.new.last_tick ≡ self.old.last_tick }
+    {
+        self.hear_most(line, element, last);
+    }
+
+    fn hear_most(&mut self, line: u8, element: u64, last: u64)
+        requires element { element < 2 ^ 58 }
+        requires rise { last < 2 ^ 58 }
+        ensures { self.new ≡ watches.with_witness self.old line
+            (after_more (watches.witness_at self.old line) 98 element last) }
+    {
+        match line {
+            0 => hear_most(&mut self.a, element, last),
+            1 => hear_most(&mut self.b, element, last),
+            2 => hear_most(&mut self.c, element, last),
+            3 => hear_most(&mut self.d, element, last),
+            _ => hear_most(&mut self.e, element, last),
         }
     }
 

@@ -8,12 +8,8 @@ use Rattle.irig_witness.specs.Elements.{element_near}
 use Rattle.irig_witness.specs.Witness.{IsSaidOf}
 use Rattle.irig_witness.specs.Watches.{IsWatchOf}
 use Rattle.irig_witness.specs.Devices.{lines_on, risen_on}
+use Rattle.irig_witness.proofs.DelayLaws.{low_is}
 use Rattle.irig_witness.proofs.device.Device.hear.Goals as goal
-
--- what the timekeeper takes the rise to be, by the delays of the same rules
-low_is : (rise line low risen : ℕ) (c k : ClockRules) → low ≡ rise % 2 ^ 32 → k ≡ c → corrected (rise % 2 ^ 32) (delay_at c.delays line) ≡ risen % 2 ^ 32 → corrected low (delay_at k.delays line) ≡ risen % 2 ^ 32
-low_is rise line low risen c k is same e =
-    ap (λ (n : ℕ). corrected n (delay_at k.delays line)) is ∙ ap (λ (r : ClockRules). corrected (rise % 2 ^ 32) (delay_at r.delays line)) same ∙ e
 
 pub returns-clause-on : goal.returns-clause-on
 returns-clause-on g c made symbol start calls is said =
