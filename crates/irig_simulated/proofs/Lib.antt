@@ -5,7 +5,16 @@ pub mod StandsLaws
 pub mod HeardLaws
 pub mod CourseLaws
 pub mod StretchLaws
+pub mod PassLaws
 pub mod LoopCourses
 pub mod AnnounceCourses
+pub mod QuietPulses
+pub mod QuietWidths
+pub mod QuietCourses
+pub mod QuietDevices
+pub mod QuietWires
+pub mod QuietSeconds
+pub mod PlayLaws
 pub mod CourseFacts
 pub mod UtcSeconds
+pub mod QuietFacts

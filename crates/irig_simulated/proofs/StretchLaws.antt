@@ -25,28 +25,28 @@ use Rattle.irig_simulated.specs.Courses.{Course, coming, counted_on, happened, h
 -- ---- what is due
 
 -- a count of one
-abbrev one : Bool → ℕ
+abbrev pub one : Bool → ℕ
 one b = cond b 1 0
 
-abbrev flights : Wires → ℕ
+abbrev pub flights : Wires → ℕ
 flights w = one (is_some w.a.flight) + one (is_some w.b.flight) + one (is_some w.c.flight) + one (is_some w.d.flight) + one (is_some w.e.flight)
 
-abbrev tick_due : Option ℕ → (now : ℕ) → ℕ
+abbrev pub tick_due : Option ℕ → (now : ℕ) → ℕ
 tick_due None now = 0
 tick_due (Some t) now = one (nat_le t now)
 
-abbrev send_due : (send now : ℕ) → ℕ
+abbrev pub send_due : (send now : ℕ) → ℕ
 send_due send now = cond (nat_le send now) 11 0
 
 -- twice the pulses that are on their way, one if a tick is due, and eleven if generators are
-abbrev due : Course → ℕ
+abbrev pub due : Course → ℕ
 due x = 2 * flights x.wires + tick_due x.tick x.now + send_due x.send x.now
 
 one_few : (b : Bool) → one b ≤ 1
 one_few true = omega arith
 one_few false = omega arith
 
-flights_few : (w : Wires) → flights w ≤ 5
+pub flights_few : (w : Wires) → flights w ≤ 5
 flights_few w = omega (arith, one_few (is_some w.a.flight), one_few (is_some w.b.flight), one_few (is_some w.c.flight), one_few (is_some w.d.flight), one_few (is_some w.e.flight))
 
 tick_few : (tick : Option ℕ) (now : ℕ) → tick_due tick now ≤ 1
@@ -59,7 +59,7 @@ send_few send now = elim (cases_Bool (nat_le send now)) [
   | inr not_due ↦ rw not_due (omega arith)
 ]
 
-due_few : (x : Course) → due x ≤ 22
+pub due_few : (x : Course) → due x ≤ 22
 due_few x = omega (arith, flights_few x.wires, tick_few x.tick x.now, send_few x.send x.now)
 
 -- ---- a pulse less
@@ -75,7 +75,7 @@ flight_less w (suc (suc (suc zero))) v x few busy free = (let l = one_less w.d v
 flight_less w (suc (suc (suc (suc zero)))) v x few busy free = (let l = one_less w.e v x busy free in omega (arith, l))
 flight_less w (suc (suc (suc (suc (suc n))))) v x few busy free = absurd (omega (arith, few))
 
-ended_less : (w : Wires) (e : Ending) → IsOnItsWay w e.line e.flight → flights (behind_end w e) + 1 ≡ flights w
+pub ended_less : (w : Wires) (e : Ending) → IsOnItsWay w e.line e.flight → flights (behind_end w e) + 1 ≡ flights w
 ended_less w e on =
     let free : (taken e.flight.end_us (wire_at w e.line)).flight ≡ None = elim (taken_busy e.flight.end_us (wire_at w e.line) e.flight on.1) [
       | inl h ↦ ap (λ (v : Wire). v.flight) h.0
@@ -116,10 +116,10 @@ later_tick ByHand first rate now wait counts each = refl
 
 module _ (k : Kind) (moves : MovesOn k) (signal : (line element : ℕ) → Option Symbol) where
   -- what is next, and when
-  abbrev next : Course → Coming
+  abbrev pub next : Course → Coming
   next x = coming_of x.wires x.tick x.send
 
-  abbrev then_at : Course → (now : ℕ) → Course
+  abbrev pub then_at : Course → (now : ℕ) → Course
   then_at x now = record x { now = now }
 
   -- an end, a tick, and what generators send, each when it is due
@@ -147,16 +147,16 @@ module _ (k : Kind) (moves : MovesOn k) (signal : (line element : ℕ) → Optio
   happened_less x now Tick is past = tick_less x now is past
   happened_less x now Send is past = send_less x now is past
 
-  happened_now : (what : Happening) (x : Course) → (happened k signal what x).now ≡ x.now
+  pub happened_now : (what : Happening) (x : Course) → (happened k signal what x).now ≡ x.now
   happened_now (End e) x = refl
   happened_now Tick x = refl
   happened_now Send x = refl
 
   -- what is left before a time
-  abbrev left : (stop : ℕ) → Course → ℕ
+  abbrev pub left : (stop : ℕ) → Course → ℕ
   left stop x = 23 * (stop - x.now) + due x
 
-  stepped_less : (stop : ℕ) (x : Course) → (coming x).time_us < stop → left stop (stepped k signal x) < left stop x
+  pub stepped_less : (stop : ℕ) (x : Course) → (coming x).time_us < stop → left stop (stepped k signal x) < left stop x
   stepped_less stop x early =
       let now = (coming x).time_us in
       let less = happened_less x now (next x).what refl (omega arith) in

@@ -9,3 +9,5 @@ pub mod Flights
 pub mod Simulations
 pub mod Truth
 pub mod ToldSeconds
+pub mod Quiet
+pub mod QuietLines

@@ -1,6 +1,6 @@
 //! Laws of courses over their definitions. They have no code.
 
-ghost use Rattle.std.specs.Prelude.{◌≡◌, ◌≤◌, ◌+◌, ◌-◌, ◌++◌, ℕ, List, Option, Some, All, map, reverse, true};
+ghost use Rattle.std.specs.Prelude.{◌≡◌, ◌≤◌, ◌+◌, ◌-◌, ◌++◌, ℕ, Bool, List, Option, Some, All, map, reverse, true};
 ghost use Rattle.irig_frame.specs.declared.symbol.Symbol.{Symbol};
 ghost use Rattle.irig_time.specs.Timelines.{TimelineValue, IsSecond};
 ghost use Rattle.irig_lines.specs.Lines.{IsTrueLately};
@@ -17,6 +17,7 @@ ghost use Rattle.irig_simulated.specs.Courses.{Course, coming, keeps_so_far, mos
 ghost use Rattle.irig_simulated.specs.Doings.{AreCounted, Doing, IsTickedInTime, course_behind, told_by};
 ghost use Rattle.irig_simulated.specs.Announced.{HasTold, IsAmong};
 ghost use Rattle.irig_simulated.specs.Heard.{call_of, heard_until, pulses_told};
+ghost use Rattle.irig_simulated.specs.Quiet.{IsQuiet, Passes};
 ghost use Rattle.irig_simulated.specs.Truth.{IsToldOfItsEdge};
 
 use crate::setup::Ticking;
@@ -28,6 +29,17 @@ use irig_timekeeper::{Beat, Stamp};
 pub fn time_passes_to_its_end()
     ensures { (k : Kind) (signal : ℕ → ℕ → Option Symbol) (stop : ℕ) (x : Course) → MovesOn k
         → stop ≤ (coming (played k signal stop (most_in (stop - x.now)) x)).time_us }
+{}
+
+/// A second in which nothing happens is one step. Let a device stand behind the first element of a
+/// second, of which each of its lines brings all that its generator sends, or nothing; and let it not
+/// be ticked before the last element is sent. Then it was told every pulse before that one, those of
+/// each line in order, and the last one is on its way; nothing else has changed. So it is by one thing
+/// after another, and [`Simulated::play`](crate::Simulated::play) does it at once.
+pub fn a_quiet_second_is_one_step()
+    ensures { (k : Kind) (signal : ℕ → ℕ → Option Symbol) (x : Course) (ports n : ℕ) (on : ℕ → Bool)
+        (symbols : ℕ → ℕ → Symbol) → IsQuiet k signal x ports n on symbols
+        → Passes k signal x ports n on symbols }
 {}
 
 /// What a device tells in its course is true: let its setup be true, and its audit kept behind a

@@ -6,6 +6,7 @@ mod happenings;
 mod heard;
 mod laws;
 mod play;
+mod quiet;
 mod second;
 mod setup;
 mod simulated;
@@ -15,7 +16,8 @@ mod told_second;
 pub use heard::{HeardPulse, HeardPulses};
 pub use laws::{
     a_course_announces, a_course_goes_by_its_loop, a_course_is_told_what_it_hears,
-    a_course_stamps_each_instant, a_course_tells_the_truth, time_passes_to_its_end,
+    a_course_stamps_each_instant, a_course_tells_the_truth, a_quiet_second_is_one_step,
+    time_passes_to_its_end,
 };
 pub use second::{LineSecond, Second};
 pub use setup::{DeviceSetup, Ticking};

@@ -1,18 +1,20 @@
 //! What becomes of a simulated device while true time passes.
 
-ghost use Rattle.std.specs.Prelude.{◌≡◌, ◌≤◌, ◌<◌, ◌+◌, ◌*◌, ◌^◌, ℕ, Some};
+ghost use Rattle.std.specs.Prelude.{◌≡◌, ◌≤◌, ◌<◌, ◌+◌, ◌*◌, ◌^◌, ℕ, Some, true, false};
 ghost use Rattle.std.specs.Prelude.{IfErr, IfOk, OnOk, vec_len};
 ghost use Rattle.irig_frame.specs.declared.symbol.Symbol.{Symbol};
 ghost use Rattle.irig_lines.specs.Refusals.{clock_fault};
 ghost use Rattle.irig_vote.specs.Vote.{ports_in};
+ghost use Rattle.irig_simulated.specs.declared.setup.Ticking.TheVariants.{Each};
 ghost use Rattle.irig_simulated.specs.Kinds.{IsDevicePlan, kind_of};
 ghost use Rattle.irig_simulated.specs.Courses.{begun_with, coming_from, passed, stepped};
 ghost use Rattle.irig_simulated.specs.Heard.{HaveMore, heard_by, heard_until};
 ghost use Rattle.irig_simulated.specs.Simulations.{GoesOnIn, HearsIn, IsSimulationOf};
 
 use crate::heard::HeardPulses;
+use crate::quiet::{FIRST_ENDS_US, LAST_SENT_US};
 use crate::second::Second;
-use crate::setup::{DeviceSetup, clock_in};
+use crate::setup::{DeviceSetup, Ticking, clock_in};
 use crate::simulated::Simulated;
 use crate::ticking::next_tick;
 use irig_lines::ClockFault;
@@ -67,6 +69,50 @@ impl<P: Port> Simulated<P> {
     /// is ticked, and generators send. What it tells is kept, and so are the pulses, as those of the
     /// device with this number, if they are to be kept; `AllocError` if there is no memory for that.
     pub fn play(
+        &mut self,
+        second: &Second,
+        stop_us: u64,
+        device: u8,
+        kept: &mut HeardPulses,
+    ) -> Result<(), AllocError>
+        requires begun { second.now.number * 1000000 ≤ self.old.now_us }
+        requires within { stop_us ≤ (second.now.number + 1) * 1000000 }
+        requires early { second.now.number < 2 ^ 32 }
+        requires forward { self.old.now_us ≤ stop_us }
+        requires lines { vec_len second.now.lines ≤ ports_in self.old.device.clock.redundancy }
+        ensures now { OnOk result (self.new.now_us ≡ stop_us) }
+        ensures same { self.new.device.clock ≡ self.old.device.clock }
+        ensures stands { OnOk result (GoesOnIn second.now self.old self.new
+            (λ k signal x. passed k signal stop_us x)) }
+        ensures heard { OnOk result (HearsIn second.now self.old kept.old kept.new
+            (λ k signal x. heard_until k device signal stop_us x)) }
+    {
+        let edge_us = second.number * 1_000_000;
+        if self.may_be_quiet(kept, edge_us, stop_us) {
+            self.run(second, edge_us + FIRST_ENDS_US, device, kept)?;
+            self.hear_quiet(second);
+        }
+        self.run(second, stop_us, device, kept)
+    }
+
+    // Whether a whole second may be one in which nothing happens to it: then no listener asks for its
+    // pulses, and it is ticked by its own wait, or by hand.
+    fn may_be_quiet(&self, kept: &HeardPulses, edge_us: u64, stop_us: u64) -> bool
+        requires { edge_us < 2 ^ 53 }
+        ensures keeps { result ≡ true → kept.now.keeps ≡ false }
+        ensures unpolled { result ≡ true → (us : ℕ) → ¬ (self.now.ticking ≡ Each us) }
+        ensures early { result ≡ true → self.now.now_us ≤ edge_us + 8000 }
+        ensures whole { result ≡ true → edge_us + 990000 < stop_us }
+    {
+        let is_polled = matches!(self.ticking, Ticking::Each(_));
+        !kept.keeps
+            && !is_polled
+            && self.now_us <= edge_us + FIRST_ENDS_US
+            && edge_us + LAST_SENT_US < stop_us
+    }
+
+    // The same, one thing after another.
+    fn run(
         &mut self,
         second: &Second,
         stop_us: u64,

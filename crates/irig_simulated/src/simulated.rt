@@ -28,6 +28,7 @@ pub struct Simulated<P: Port> {
     ghost turned: { 2 ^ 32 ≤ oscillator.first },
     ghost once: { oscillator.first < 2 ^ 33 },
     ghost undelayed: { device.clock.delays ≡ no_delay },
+    ghost right: { device.clock.within.us ≡ 450 },
     ghost flying: { are_flights (ports_in device.clock.redundancy) wires ≡ true },
     ghost early: { now_us < 2 ^ 53 },
     ghost valid: { ∥ All IsToldOfUtc told.items ∥₁ },

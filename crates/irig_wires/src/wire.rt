@@ -92,6 +92,20 @@ impl Wire {
         }
     }
 
+    /// Whether the cable is in.
+    pub fn is_plugged(&self) -> bool
+        ensures { result ≡ self.now.is_plugged }
+    {
+        self.is_plugged
+    }
+
+    /// How many microseconds late what is sent now comes.
+    pub fn late_us(&self) -> u16
+        ensures { result ≡ self.now.late_us }
+    {
+        self.late_us
+    }
+
     /// What is on its way, if anything is.
     pub fn flight(&self) -> Option<Flight>
         ensures { result ≡ self.now.flight }

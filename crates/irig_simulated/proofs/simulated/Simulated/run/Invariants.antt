@@ -6,7 +6,7 @@ use Rattle.irig_simulated.specs.Courses.{Course, most_in, played}
 use Rattle.irig_simulated.specs.Seconds.{IsSecondOf}
 use Rattle.irig_simulated.specs.Simulations.{IsSimulationOf}
 use Rattle.irig_simulated.proofs.HeardLaws.{HeardSoFar}
-use Rattle.irig_simulated.proofs.simulated.Simulated.play.Given as goal
+use Rattle.irig_simulated.proofs.simulated.Simulated.run.Given as goal
 
 abbrev pub invariant-loop : goal.invariant-loop
 invariant-loop g l =
