@@ -1,6 +1,6 @@
 -- What generators send in each second, and what true lines of them have.
 -- Source: docs/SCENARIOS.md; this project's profile.
-use Rattle.std.specs.Prelude.{ℕ, ◌/◌, ◌%◌, ◌==◌, if◌then◌else◌, List, [], ◌∷◌, ◌++◌, length, slice_get, Option, Some, None, option_and_then, option_to_list}
+use Rattle.std.specs.Prelude.{◌≡◌, ℕ, Bool, true, ◌/◌, ◌%◌, ◌==◌, if◌then◌else◌, List, [], ◌∷◌, ◌++◌, length, slice_get, Option, Some, None, option_and_then, option_to_list}
 use Rattle.std.specs.Option.{option_map}
 use Rattle.irig_frame.specs.declared.symbol.Symbol.{Symbol}
 use Rattle.irig_time.specs.declared.rules.Rules.{Rules}
@@ -77,3 +77,11 @@ true_frame_of rules t g =
 -- both, as a device is told them
 abbrev pub line_of_generator : Rules → TimelineValue → GeneratorValue → LineSecond
 line_of_generator rules t g = record { sent = sent_of g t; truth = true_frame_of rules t g }
+
+-- this is what a device is told of a generator; and if it is said to do no harm, the frame that is sent does
+-- none
+pub record IsJudged (rules : Rules) (t : TimelineValue) (g : GeneratorValue) (line : LineSecond)
+    (is_harmless : Bool) : Type 0 where
+  pub line_is : line ≡ line_of_generator rules t g
+  pub harmless : is_harmless ≡ true
+      → (frame : List Symbol) × (harmless_of rules t g.edge (sent_of g t) ≡ Some frame)

@@ -10,7 +10,7 @@ ghost use Rattle.irig_frame.specs.Encoder.{frame_of_coded};
 ghost use Rattle.irig_gen.specs.Sent.{IsValueSent};
 ghost use Rattle.irig_plant.specs.Schedule.{generator_at_next_edge};
 ghost use Rattle.irig_witness.specs.TrueFrames as frames;
-ghost use Rattle.irig_station.specs.SentSeconds.{harmless_of, line_of_generator, plain_frame_of};
+ghost use Rattle.irig_station.specs.SentSeconds.{IsJudged, harmless_of, line_of_generator, plain_frame_of};
 
 use irig_control::{Parity, encode_with_parity};
 use irig_frame::{Coded, Symbol, is_marker_place};
@@ -20,7 +20,8 @@ use irig_simulated::LineSecond;
 use irig_time::{Claim, Rules, Timeline};
 use std::alloc::{AllocError, Global};
 
-// What generators send in the second at whose edge they stand.
+// What generators send in the second at whose edge they stand. What the first one sends is made once
+// for all that send the same.
 pub(crate) fn lines_of<P: Port>(
     alloc: Global,
     rules: Rules,
@@ -31,10 +32,35 @@ pub(crate) fn lines_of<P: Port>(
         ≡ map (line_of_generator rules timeline.now) generators.now) }
 {
     let mut lines = Vec::new(alloc);
+    let Some(first) = generators.first() else {
+        return Ok(lines);
+    };
+    let judged = judge::<P>(rules, timeline, first);
     for generator in generators {
-        lines.push(line_of::<P>(rules, timeline, generator))?;
+        lines.push(line_beside::<P>(rules, timeline, first, &judged, generator))?;
     }
     Ok(lines)
+}
+
+// What a generator sends in the second at whose edge it stands, beside what the first one does.
+fn line_beside<P: Port>(
+    rules: Rules,
+    timeline: &Timeline,
+    first: &Generator,
+    judged: &Judged,
+    generator: &Generator,
+) -> LineSecond
+    requires { IsJudged rules timeline.now first.now judged.now.line judged.now.is_harmless }
+    ensures { result ≡ line_of_generator rules timeline.now generator.now }
+{
+    let is_same = judged.is_harmless
+        && generator.edge() == first.edge()
+        && generator.sends_as(first, timeline);
+    if is_same {
+        judged.line
+    } else {
+        judge::<P>(rules, timeline, generator).line
+    }
 }
 
 // What true lines had in a second.
@@ -62,28 +88,42 @@ pub(crate) fn step_all(generators: &mut Vec<Generator>)
     }
 }
 
-// What a generator sends in the second at whose edge it stands, and what a true line of it has: the
-// frame that is sent, if that does no harm.
-fn line_of<P: Port>(rules: Rules, timeline: &Timeline, generator: &Generator) -> LineSecond
-    ensures { result ≡ line_of_generator rules timeline.now generator.now }
+// What a generator sends in a second and what a true line of it has, and whether that is the same: the
+// frame that is sent, which does no harm.
+#[derive(Clone, Copy, Drop)]
+struct Judged {
+    line: LineSecond,
+    is_harmless: bool,
+}
+
+// Of the second at whose edge the generator stands.
+fn judge<P: Port>(rules: Rules, timeline: &Timeline, generator: &Generator) -> Judged
+    ensures { IsJudged rules timeline.now generator.now result.line result.is_harmless }
 {
     let Some(coded) = generator.value(timeline) else {
-        return LineSecond {
-            sent: None,
-            truth: plain_frame::<P>(rules, timeline, generator),
+        return Judged {
+            line: LineSecond {
+                sent: None,
+                truth: plain_frame::<P>(rules, timeline, generator),
+            },
+            is_harmless: false,
         };
     };
     let parity = generator.rules().parity;
     let frame = encode_with_parity(&coded, parity);
     let truth = timeline.truth(generator.edge());
     let is_harmless = claims_only(truth, &told_of_value::<P>(rules, &coded, parity));
-    LineSecond {
-        sent: Some(frame),
-        truth: if is_harmless {
-            frame
-        } else {
-            plain_frame::<P>(rules, timeline, generator)
+    let truth = if is_harmless {
+        frame
+    } else {
+        plain_frame::<P>(rules, timeline, generator)
+    };
+    Judged {
+        line: LineSecond {
+            sent: Some(frame),
+            truth,
         },
+        is_harmless,
     }
 }
 

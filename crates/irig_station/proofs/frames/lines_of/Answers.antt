@@ -12,8 +12,8 @@ loop-generator-preserved g c =
     let x = c.generator-item.result in
     let line = line_of_generator c.args.rules c.args.timeline.now in
     c.in_ok-push.ensures.items
-    ∙ ap (λ (l : List LineSecond). l ++ c.line_of.result ∷ []) c.loop-generator.invariant
-    ∙ ap (λ (y : LineSecond). map line (take i xs) ++ y ∷ []) c.line_of.ensures
+    ∙ ap (λ (l : List LineSecond). l ++ c.line_beside.result ∷ []) c.loop-generator.invariant
+    ∙ ap (λ (y : LineSecond). map line (take i xs) ++ y ∷ []) c.line_beside.ensures
     ∙ map_more line xs i x c.loop-generator-test.true c.generator-item.is
 
 pub returns : goal.returns

@@ -12,9 +12,9 @@ use Rattle.irig_witness.specs.TrueFrames.{claims_only}
 use Rattle.irig_simulated.specs.declared.second.LineSecond.{LineSecond}
 use Rattle.irig_station.specs.SentSeconds.{harmless_of}
 use Rattle.irig_station.proofs.HarmlessLaws.{first_of_two, second_of_two, sent_right, sent_tested}
-use Rattle.irig_station.proofs.frames.line_of.Given.{Over}
-use Rattle.irig_station.proofs.frames.line_of.Goals.{After-claims_only-is_harmless}
-use Rattle.irig_station.proofs.frames.line_of.Goals as goal
+use Rattle.irig_station.proofs.frames.judge.Given.{Over}
+use Rattle.irig_station.proofs.frames.judge.Goals.{After-claims_only-is_harmless}
+use Rattle.irig_station.proofs.frames.judge.Goals as goal
 
 frame_is : (g : Over) (c : After-claims_only-is_harmless g) → c.encode_with_parity-frame.result ≡ frame_of_value c.args.generator.now c.in-Some.coded
 frame_is g c = c.encode_with_parity-frame.ensures ∙ ap (λ (r : Rules). with_parity r.parity (frame_of_coded c.in-Some.coded)) c.rules-parity.ensures
@@ -43,13 +43,20 @@ returns-then-is_harmless g c =
     let at = (goal.at.returns-then-is_harmless g c).After-claims_only-is_harmless in
     let x = c.args.generator.now in
     let t = c.args.timeline.now in
-    line_is _ _ _ _ (sent_is g at)
-    (sym (first_of_two c.args.rules t x c.encode_with_parity-frame.result (tested g at ∙ ap (λ (b : Bool). cond b (Some c.encode_with_parity-frame.result) None) c.if-is_harmless.true)))
+    let frame = c.encode_with_parity-frame.result in
+    let harmless : harmless_of c.args.rules t x.edge (sent_of x t) ≡ Some frame = tested g at ∙ ap (λ (b : Bool). cond b (Some frame) None) c.if-is_harmless.true in
+    record {
+      line_is = line_is _ _ _ _ (sent_is g at) (sym (first_of_two c.args.rules t x frame harmless));
+      harmless = λ so. (frame, harmless);
+    }
 
 pub returns-else-is_harmless : goal.returns-else-is_harmless
 returns-else-is_harmless g c =
     let at = (goal.at.returns-else-is_harmless g c).After-claims_only-is_harmless in
     let x = c.args.generator.now in
     let t = c.args.timeline.now in
-    line_is _ _ _ _ (sent_is g at)
-    (c.plain_frame-else-is_harmless.ensures ∙ sym (second_of_two c.args.rules t x (tested g at ∙ ap (λ (b : Bool). cond b (Some c.encode_with_parity-frame.result) None) c.if-is_harmless.false)))
+    record {
+      line_is = line_is _ _ _ _ (sent_is g at)
+          (c.plain_frame-truth.ensures ∙ sym (second_of_two c.args.rules t x (tested g at ∙ ap (λ (b : Bool). cond b (Some c.encode_with_parity-frame.result) None) c.if-is_harmless.false)));
+      harmless = λ so. absurd (let never : false ≡ true = sym c.if-is_harmless.false ∙ so in cc);
+    }
