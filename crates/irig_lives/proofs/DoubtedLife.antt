@@ -22,9 +22,11 @@ use Rattle.irig_lines.specs.Refusals.{within_of}
 use Rattle.irig_timekeeper.specs.Rule.{step_behind, step_checked, goes_against}
 use Rattle.irig_timekeeper.specs.Clock.{is_unsteady}
 use Rattle.irig_timekeeper.specs.Keeping.{vote_at, answer_at, rate_at}
-use Rattle.irig_timekeeper.specs.Life.{Call, Made, device_of, life_of, AreInOrder, LivesTruly}
+use Rattle.irig_timekeeper.specs.Carried.{IsCarried}
+use Rattle.irig_timekeeper.specs.Life.{Call, Made, device_of, life_of, pulses_on, AreInOrder, LivesTruly}
 use Rattle.irig_timekeeper.specs.Life.Call.{Hear, Tick}
 use Rattle.irig_timekeeper.specs.Doubts.{voted_since, NoneStrays, SaysTheRule}
+use Rattle.irig_timekeeper.proofs.CarriedLaws.{life_carries}
 use Rattle.irig_timekeeper.proofs.DoubtLaws.{says_rule, says_voted, not_held, held_again}
 use Rattle.irig_timekeeper.proofs.StrayLaws.{never_doubts, never_unsteady}
 use Rattle.irig_lives.specs.Decided.{is_after, have_risen, in_order}
@@ -73,6 +75,14 @@ order = order_is 900000 of.Three (Tick 5010000 ∷ (third ++ (Tick now_of_2 ∷ 
 vote_2 : vote_at (life_of (made_for 57) earlier) (now_of_2 % 2 ^ 32) ≡ Some (record { claim = claim_of 43201; edge_us = 3003000; bound_us = 850 })
 unfolding earlier heard told width_of line frame step_checked goes_against step_of told_of frame_told coded_told ones values_of field_at control_of offset_in utc_minute is_month_end four_years
 vote_2 = refl
+
+order_2 : AreInOrder 900000 of.Three (Tick now_of_2 ∷ earlier)
+unfolding earlier heard told width_of line frame in_order have_risen is_after
+order_2 = order_is 900000 of.Three (Tick now_of_2 ∷ earlier) refl
+
+-- though it strays, it is carried by what two lines were told
+carried_2 : IsCarried (made_for 57).clock rules (claim_of 43201) now_of_2 (λ port. pulses_on port earlier)
+carried_2 = life_carries (made_for 57) 900000 now_of_2 earlier (record { claim = claim_of 43201; edge_us = 3003000; bound_us = 850 }) order_2 vote_2
 
 counted : ((life_of (made_for 57) earlier).state.strays ≡ 0)
     × ((life_of (made_for 57) (Tick now_of_2 ∷ earlier)).state.strays ≡ 1)

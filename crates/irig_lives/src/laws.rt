@@ -29,8 +29,9 @@ ghost use Rattle.irig_timekeeper.specs.Clock.{answer_to_vote, doubted_s, is_unst
 ghost use Rattle.irig_timekeeper.specs.Keeping.{Keeping, vote_at, after_tick, answer_at, wait_at, stamp_at, rate_at};
 ghost use Rattle.irig_timekeeper.specs.Truth.{FollowsTruth, AreHeardTruly, IsTrueVote, IsOnTrack, IsToldTruly, IsToldInHoldover, IsLaterSecond, IsDevice, IsEdgeAt, AreApartBeats, IsStampedTruly, IsInstant};
 ghost use Rattle.irig_timekeeper.specs.Announcing.{AreWellHeard, Announces};
-ghost use Rattle.irig_timekeeper.specs.Life.{Call, Made, AreInOrder, AreTrueLately, AreTrueAtTicks, AreTrueOver, LivesTruly, device_of, life_of, last_tick, HaveRisen};
+ghost use Rattle.irig_timekeeper.specs.Life.{Call, Made, AreInOrder, AreTrueLately, AreTrueAtTicks, AreTrueOver, LivesTruly, device_of, life_of, last_tick, pulses_on, HaveRisen};
 ghost use Rattle.irig_timekeeper.specs.Life.Call.{Tick};
+ghost use Rattle.irig_timekeeper.specs.Carried.{IsCarried};
 ghost use Rattle.irig_timekeeper.specs.Rows.{AreToldLast};
 ghost use Rattle.irig_timekeeper.specs.Since.{since_vote, HasItsBound};
 ghost use Rattle.irig_timekeeper.specs.Doubts.{voted_since, NoneStrays, SaysTheRule};
@@ -131,6 +132,17 @@ pub fn votes_are_true()
         → beat.report.announce ≡ Some u → IsToldTruly t edges
         (beat.bound_us + element_drift d - element_drift k.clock.drift_us)
         (beat.bound_us + element_drift d - element_drift k.clock.drift_us) now beat u }
+{}
+
+/// A vote is carried by what lines were told, whoever told it and whenever the device was called: more
+/// than f lines were told a whole frame of its claim, of a hundred pulses in a row, each on time. These
+/// frames end near one time, each no further from it than its edge may lie by its quality, and at most
+/// 100 ms before the tick. The calls are in order.
+pub fn votes_are_carried()
+    ensures { (made : Made) (start now : ℕ) (calls : List Call) (vote : Vote)
+        → AreInOrder start made.clock.redundancy (Tick now ∷ calls)
+        → vote_at (life_of made calls) (now % 2 ^ 32) ≡ Some vote
+        → IsCarried made.clock made.rules vote.claim now (λ line. pulses_on line calls) }
 {}
 
 /// A device tells the truth all its life: of every list of calls in order, whenever it was ticked,

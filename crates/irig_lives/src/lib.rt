@@ -14,8 +14,8 @@ mod laws_of_loops;
 pub use laws::{
     a_device_announces, a_device_heals, a_device_tells_the_truth, beats_are_votes,
     counting_is_right, edges_lie_apart, enough_lines_vote, kept_frames_are_true, lines_keep_frames,
-    stamps_are_true, votes_are_true, votes_do_not_stray, waiting_is_right, what_is_measured_is_so,
-    what_strays_is_not_held, what_strays_is_seen,
+    stamps_are_true, votes_are_carried, votes_are_true, votes_do_not_stray, waiting_is_right,
+    what_is_measured_is_so, what_strays_is_not_held, what_strays_is_seen,
 };
 pub use laws_of_calls::conditions_compute;
 pub use laws_of_clocks::{clocks_off_tell_truly, quality_is_in_the_bound};

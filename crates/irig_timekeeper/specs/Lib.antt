@@ -1,4 +1,5 @@
 pub mod Rule
+pub mod Carried
 pub mod Clock
 pub mod Stamps
 pub mod Keeping

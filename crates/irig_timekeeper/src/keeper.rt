@@ -12,13 +12,13 @@ ghost use Rattle.irig_vote.specs.Vote.{ports_in};
 ghost use Rattle.irig_reader.specs.Rule.{count_of};
 ghost use Rattle.irig_reader.specs.Rules.{IsReaderRules};
 ghost use Rattle.irig_lines.specs.Steps.{line_at, line_heard, whole_frame, AreKeptOfUtc, IsKeptOfUtc, AreNewLines};
-ghost use Rattle.irig_timekeeper.specs.Clock.{AnnouncedOfUtc, AreSmall, SaysOfUtc, TellsOfUtc};
+ghost use Rattle.irig_timekeeper.specs.Clock.{AnnouncedOfUtc, AreSmall, SaysOfUtc, TellsOfUtc, claim_voted};
 ghost use Rattle.irig_timekeeper.specs.Stamps.{StampsOfUtc};
 ghost use Rattle.irig_lines.specs.Intervals.{IsShort};
 ghost use Rattle.irig_lines.specs.Paces.{IsSound};
 ghost use Rattle.irig_lines.specs.Exactness.{most_drift_us, most_vote_us, most_held_us};
 
-use crate::clock::{Beat, ClockState, clock_of_nothing, tick, wait_of};
+use crate::clock::{Beat, ClockState, Ticked, clock_of_nothing, tick, wait_of};
 use crate::stamp::{Stamp, stamp_of};
 use crate::states::{LineState, state_of};
 use irig_lines::{
@@ -62,6 +62,7 @@ impl<P: Port> Timekeeper<P> {
     ghost use Rattle.irig_timekeeper.specs.Life.{Call, AreInOrder, device_of, last_tick, pulses_on};
     ghost use Rattle.irig_timekeeper.specs.Life.Call.{Hear, Tick};
     ghost use Rattle.irig_timekeeper.specs.Lived.{MadeOf, HasLived, LivesWell, made_with};
+    ghost use Rattle.irig_timekeeper.specs.Carried.{IsCarried};
     ghost use Rattle.irig_timekeeper.specs.Rows.{AreToldLast};
     ghost use Rattle.irig_timekeeper.specs.Doubts.{SaysTheRule};
     ghost use Rattle.irig_lines.specs.Lines.{IsTrueLately};
@@ -71,6 +72,7 @@ impl<P: Port> Timekeeper<P> {
     ghost use Rattle.irig_lines.specs.declared.lines.Vote.{Vote};
     ghost use Rattle.irig_time.specs.Timelines.{TimelineValue, IsSecond};
     ghost use Rattle.irig_time.specs.TimelineFaults.{IsTimeline};
+    ghost use Rattle.irig_time.specs.declared.claim.Claim.{Claim};
     ghost use Rattle.irig_time.specs.declared.second.UtcSecond.{UtcSecond};
 
     /// A timekeeper to which nothing has happened, with reader's rules that are
@@ -213,6 +215,26 @@ impl<P: Port> Timekeeper<P> {
         ensures lines { self.new.clock ≡ self.old.clock }
     {
         tick(&self.clock, &self.table, &mut self.state, now_us).beat
+    }
+
+    /// As [`tick`](Self::tick), with the claim on which lines agree at it, if they do.
+    pub fn tick_with_vote(&mut self, now_us: u32) -> Ticked
+        ensures answer { ForKeeping self.old (λ k. result.beat ≡ answer_at k now_us) }
+        ensures vote { ForKeeping self.old (λ k. result.vote ≡ claim_voted (vote_at k now_us)) }
+        ensures valid { SaysOfUtc result.beat }
+        ensures told { TellsOfUtc result.beat }
+        ensures after { Goes self.old self.new (λ k. after_tick k now_us) }
+        ensures lived { (made : MadeOf) (calls : List Call) (now : ℕ) → HasLived self.old made calls
+            → now_us ≡ now % 2 ^ 32 → HasLived self.new made (Tick now ∷ calls) }
+        // More than f lines were told a whole frame of the claim, whatever else they were told: the
+        // law `votes_are_carried`.
+        ensures carried { (made : MadeOf) (start now : ℕ) (calls : List Call) (claim : Claim)
+            → HasLived self.old made calls → now_us ≡ now % 2 ^ 32
+            → AreInOrder start made.clock.redundancy (Tick now ∷ calls) → result.vote ≡ Some claim
+            → IsCarried made.clock made.rules claim now (λ line. pulses_on line calls) }
+        ensures lines { self.new.clock ≡ self.old.clock }
+    {
+        tick(&self.clock, &self.table, &mut self.state, now_us)
     }
 
     /// How long until a tick has something to do, if no call comes before it, in microseconds: at
