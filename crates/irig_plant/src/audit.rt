@@ -91,6 +91,8 @@ pub(crate) struct TickOfReader {
     pub edge: u64,
 }
 
+// Within a tick it would take registers from the rest of it, which then takes a tenth longer.
+#[inline(never)]
 pub(crate) fn audit_after(
     audit: Audit,
     tick: TickOfReader,

@@ -41,4 +41,5 @@ pub use laws_of_edges::{
     misled_readers_heal,
 };
 pub use plant::Plant;
+pub use pulses::widths_of;
 pub use setup::ReaderSetup;

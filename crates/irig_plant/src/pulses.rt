@@ -152,8 +152,8 @@ impl<P: Port> Plant<P> {
     }
 }
 
-// What travels is pulses: a port reads the symbols back from their widths.
-pub(crate) fn widths_of(frame: &[Symbol; 100]) -> [u32; 100]
+/// The widths of the pulses of a frame, in microseconds. A port reads the symbols back from them.
+pub fn widths_of(frame: &[Symbol; 100]) -> [u32; 100]
     ensures { result ≡ map width_of frame.now }
 {
     let mut widths = [0; 100];

@@ -56,8 +56,10 @@ impl Tally {
     }
 }
 
+// Each tick asks each port, so that a call costs a reader's second more than what it does.
 /// What the pulses of a port tell within limits, if there are any; the port is then empty, as
 /// behind [`Port::edge`].
+#[inline]
 pub fn edge_within<P: Port>(port: &mut P, limits: Option<Limits>) -> Told
     ensures told { (rules : Rules) (s : List Symbol) → P.stands_for port.old rules s
         → result ≡ told_within limits rules s }

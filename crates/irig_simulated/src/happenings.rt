@@ -87,7 +87,9 @@ impl<P: Port> Simulated<P> {
         Ok(())
     }
 
-    // Generators send an element.
+    // Generators send an element. Where the next thing that happens is looked for, it would take registers
+    // from that.
+    #[inline(never)]
     pub(crate) fn send(&mut self, second: &Second)
         requires begun { second.now.number * 1000000 ≤ self.old.now_us }
         requires within { self.old.now_us < (second.now.number + 1) * 1000000 }

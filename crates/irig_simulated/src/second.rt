@@ -1,11 +1,12 @@
 //! A second as generators send it.
 
-ghost use Rattle.std.specs.Prelude.{◌≡◌, ◌<◌, slice_get, true, false};
+ghost use Rattle.std.specs.Prelude.{◌≡◌, ◌<◌, ℕ, slice_get, suc, true, false};
 ghost use Rattle.std.specs.Option.{option_map};
 ghost use Rattle.irig_simulated.specs.QuietLines.{IsFound, SendsTrueFrame};
 ghost use Rattle.irig_sync.specs.Sync.{is_marker_symbol};
+ghost use Rattle.irig_timekeeper.specs.Unfinished.{most};
 ghost use Rattle.irig_witness.specs.TrueFrames.{blank_at};
-ghost use Rattle.irig_simulated.specs.Seconds.{asked_of, sent_in, true_before, true_in};
+ghost use Rattle.irig_simulated.specs.Seconds.{asked_of, sent_in, symbol_at, true_before, true_in};
 
 use irig_frame::{Symbol, is_marker_place};
 
@@ -120,27 +121,38 @@ fn is_marker(symbol: Symbol) -> bool
     matches!(symbol, Symbol::Marker)
 }
 
-// Whether an element is what a true line has, and no marker comes behind a marker.
-fn is_next(was_marker: bool, symbol: Symbol, truth: Symbol) -> bool
-    ensures same { result ≡ true → symbol ≡ truth }
-    ensures apart { result ≡ true → was_marker ≡ true → is_marker_symbol truth ≡ false }
-{
-    symbol == truth && !(was_marker && is_marker(truth))
-}
-
 // Whether a frame is that of a true line, and a reader finds it.
 fn is_true_frame(frame: &[Symbol; 100], truth: &[Symbol; 100]) -> bool
     ensures { result ≡ true → IsFound frame.now truth.now }
 {
-    let mut was_marker = false;
-    for place in 0..99 {
-        if !is_next(was_marker, frame[place], truth[place]) {
-            return false;
-        }
-        was_marker = is_marker(truth[place]);
-    }
-    if was_marker || !is_next(false, frame[99], truth[99]) {
+    if !are_same(frame, truth) || !is_marker(truth[0]) || is_marker(truth[98]) {
         return false;
     }
-    is_marker(truth[0])
+    are_apart(truth)
+}
+
+// Whether two frames are the same. All elements are looked at, as that takes fewer instructions than to
+// stop at the first that differs.
+fn are_same(one: &[Symbol; 100], other: &[Symbol; 100]) -> bool
+    ensures { result ≡ true → (place : ℕ) → place < 100
+        → symbol_at one.now place ≡ symbol_at other.now place }
+{
+    let mut differ = false;
+    for place in 0..100 {
+        differ = differ | (one[place] != other[place]);
+    }
+    !differ
+}
+
+// Whether no two markers stand in a row before the last element.
+fn are_apart(frame: &[Symbol; 100]) -> bool
+    ensures { result ≡ true → (place : ℕ) → suc place < most
+        → is_marker_symbol (symbol_at frame.now place) ≡ true
+        → is_marker_symbol (symbol_at frame.now (suc place)) ≡ false }
+{
+    let mut meet = false;
+    for place in 0..98usize {
+        meet = meet | (is_marker(frame[place]) & is_marker(frame[place + 1]));
+    }
+    !meet
 }

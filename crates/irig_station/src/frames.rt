@@ -15,6 +15,7 @@ ghost use Rattle.irig_station.specs.SentSeconds.{IsJudged, harmless_of, line_of_
 use irig_control::{Parity, encode_with_parity};
 use irig_frame::{Coded, Symbol, is_marker_place};
 use irig_gen::Generator;
+use irig_plant::widths_of;
 use irig_port::{Port, Told};
 use irig_simulated::LineSecond;
 use irig_time::{Claim, Rules, Timeline};
@@ -165,9 +166,7 @@ fn told<P: Port>(rules: Rules, frame: &[Symbol; 100]) -> Told
     ensures long { length frame.now ≡ 100 }
 {
     let mut port = P::fresh(rules);
-    for symbol in frame {
-        port.pulse(symbol.width_us());
-    }
+    port.pulses(&widths_of(frame));
     port.edge()
 }
 
