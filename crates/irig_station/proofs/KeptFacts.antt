@@ -2,7 +2,7 @@
 -- ticked by hand, announces 12:00:01, and stamps the instant 10 ms behind that. The frames are those of
 -- tests/model.
 use Rattle.std.specs.Prelude.{All, nat_lt, if◌then◌else◌, slice_get, ◌&&◌}
-use Rattle.std.proofs.Common.{◌≡◌, ◌∙◌, ℕ, zero, suc, ◌+◌, ◌-◌, ◌/◌, ◌%◌, ◌≤◌, ◌==◌, Bool, false, true, cond, List, [], ◌∷◌, ◌++◌, length, map, Option, Some, None, pos, refl, sym, ap, subst, arith, inl, inr, get_or}
+use Rattle.std.proofs.Common.{◌≡◌, ◌∙◌, ℕ, zero, suc, ◌+◌, ◌-◌, ◌/◌, ◌%◌, ◌≤◌, ◌==◌, Bool, false, true, List, [], ◌∷◌, ◌++◌, length, map, Option, Some, None, pos, refl, sym, ap, subst, arith, inl, inr, get_or}
 use Rattle.std.proofs.Math.Path.{fun_ext}
 use Rattle.std.proofs.lemmas.List.{map-append}
 use Rattle.std.proofs.lemmas.List.Elements.{All-cons, All-from_recursion, All-nil}
@@ -24,18 +24,13 @@ use Rattle.irig_gen.specs.Sent.{frame_of, sent_of}
 use Rattle.irig_lives.specs.Decided.{have_risen, in_order, is_after, is_pulse_of, is_same}
 use Rattle.irig_lives.proofs.LifeFacts.{no_table, noon, rules}
 use Rattle.irig_port.specs.Told.{coded_told, frame_told, told_of}
-use Rattle.irig_wires.specs.declared.wires.Ending.{Ending}
-use Rattle.irig_wires.specs.declared.wires.Happening.{Happening}
-use Rattle.irig_wires.specs.declared.wires.Happening.TheVariants as happens
-use Rattle.irig_wires.specs.Order.{behind_end}
 use Rattle.irig_wires.specs.Wires.{most_late_us}
-use Rattle.irig_simulated.specs.declared.setup.Ticking.{Ticking}
-use Rattle.irig_simulated.specs.declared.setup.Ticking.TheVariants.{ByWait, Each, ByHand}
+use Rattle.irig_simulated.specs.declared.setup.Ticking.TheVariants.{ByHand}
 use Rattle.irig_simulated.specs.declared.heard.HeardPulse.{HeardPulse}
 use Rattle.irig_simulated.specs.Heard.{heard_until}
 use Rattle.irig_simulated.specs.Setups.{DevicePlan}
 use Rattle.irig_simulated.specs.Kinds.{IsDevicePlan, Kind}
-use Rattle.irig_simulated.specs.Courses.{Course, coming, happened, has_sent, heard, hearing, keeps_so_far, may_stamp, stamp_said, most_in, passed, place_heard, played, stepped, tick_after_frame, ticked, wait_after}
+use Rattle.irig_simulated.specs.Courses.{Course, keeps_so_far, may_stamp, passed, stamp_said, ticked}
 use Rattle.irig_reader.specs.Rule.{step_of}
 use Rattle.irig_timekeeper.specs.Rule.{goes_against, step_checked}
 use Rattle.irig_witness.specs.TrueFrames.{blank, first_harmless}
@@ -51,68 +46,9 @@ use Rattle.irig_station.specs.StationStandings.{StationStanding, StationStep, at
 use Rattle.irig_station.specs.StationPromise.{IsTrueEntry}
 use Rattle.irig_station.proofs.PromiseLaws.{kept_true}
 use Rattle.irig_station.proofs.PassLaws.{time_over, time_step}
+use Rattle.irig_station.proofs.LightCourses.{light, passes_to}
 
--- ---- a device that is ticked by hand need not be asked how long it waits
-
-abbrev lightly : Kind → (signal : (line element : ℕ) → Option Symbol) → Happening → Course → Course
-lightly k signal (happens.End e) x = record x { calls = hearing k x.now e ∷ x.calls; wires = behind_end x.wires e }
-lightly k signal happens.Tick x = ticked k x
-lightly k signal happens.Send x = has_sent signal x
-
-abbrev light : Kind → (signal : (line element : ℕ) → Option Symbol) → (stop most : ℕ) → Course → Course
-light k signal stop zero x = x
-light k signal stop (suc most) x =
-    if nat_lt (coming x).time_us stop then light k signal stop most (lightly k signal (coming x).what (record x { now = (coming x).time_us })) else x
-
-tick_same : (t : Ticking) → t ≡ ByHand → (first rate time wait : ℕ) (tick : Option ℕ) → tick_after_frame t first rate time wait tick ≡ tick
-tick_same ByWait e first rate time wait tick = absurd cc
-tick_same (Each us) e first rate time wait tick = refl
-tick_same ByHand e first rate time wait tick = refl
-
-either : (b : Bool) (t u : Option ℕ) → u ≡ t → cond b u t ≡ t
-either true t u e = e
-either false t u e = refl
-
-module _ (k : Kind) (hand : k.ticking ≡ ByHand) (signal : (line element : ℕ) → Option Symbol) where
-  heard_light : (x : Course) (e : Ending) → heard k x e ≡ lightly k signal (happens.End e) x
-  heard_light x e =
-      ap (λ (t : Option ℕ). record x { calls = hearing k x.now e ∷ x.calls; wires = behind_end x.wires e; tick = t })
-      (either (place_heard k x.calls x.now e == 100) x.tick (tick_after_frame k.ticking k.first k.rate x.now (wait_after k x.start (hearing k x.now e ∷ x.calls) x.now) x.tick)
-      (tick_same k.ticking hand k.first k.rate x.now (wait_after k x.start (hearing k x.now e ∷ x.calls) x.now) x.tick))
-
-  happened_light : (what : Happening) (x : Course) → happened k signal what x ≡ lightly k signal what x
-  happened_light (happens.End e) x = heard_light x e
-  happened_light happens.Tick x = refl
-  happened_light happens.Send x = refl
-
-  played_light : (stop most : ℕ) (x : Course) → played k signal stop most x ≡ light k signal stop most x
-  played_light stop zero x = refl
-  played_light stop (suc most) x = elim (cases_Bool (nat_lt (coming x).time_us stop)) [
-    | inl less ↦ rw less (played_light stop most (stepped k signal x) ∙ ap (light k signal stop most) (happened_light (coming x).what (record x { now = (coming x).time_us })))
-    | inr done ↦ rw done refl
-  ]
-
-  -- where nothing more comes, more steps change nothing
-  light_enough : (stop n most : ℕ) (x : Course) → n ≤ most → nat_lt (coming (light k signal stop n x)).time_us stop ≡ false → light k signal stop most x ≡ light k signal stop n x
-  light_enough stop zero zero x few done = refl
-  light_enough stop zero (suc most) x few done = rw done refl
-  light_enough stop (suc n) zero x few done = absurd (omega (arith, few))
-  light_enough stop (suc n) (suc most) x few done = elim (cases_Bool (nat_lt (coming x).time_us stop)) [
-    | inl less ↦
-        let next = lightly k signal (coming x).what (record x { now = (coming x).time_us }) in
-        rw less (light_enough stop n most next (omega (arith, few)) (let h = rw less at done in h))
-    | inr over ↦ rw over refl
-  ]
-
-  light_passed : (stop n : ℕ) (x : Course) → n ≤ most_in (stop - x.now) → nat_lt (coming (light k signal stop n x)).time_us stop ≡ false → passed k signal stop x ≡ record (light k signal stop n x) { now = stop }
-  light_passed stop n x few done =
-      ap (λ (y : Course). record y { now = stop }) (played_light stop (most_in (stop - x.now)) x ∙ light_enough stop n (most_in (stop - x.now)) x few done)
-
-  passes_to : (stop t n : ℕ) (x c : Course) → stop ≡ t → n ≤ most_in (stop - x.now) → light k signal t n x ≡ c → nat_lt (coming c).time_us t ≡ false → passed k signal stop x ≡ record c { now = t }
-  passes_to stop t n x c same few is done =
-      let there : light k signal stop n x ≡ c = ap (λ (m : ℕ). light k signal m n x) same ∙ is in
-      let over : nat_lt (coming (light k signal stop n x)).time_us stop ≡ false = ap (λ (y : Course). nat_lt (coming y).time_us stop) there ∙ ap (λ (m : ℕ). nat_lt (coming c).time_us m) same ∙ done in
-      light_passed stop n x few over ∙ ap (λ (y : Course). record y { now = stop }) there ∙ ap (λ (m : ℕ). record c { now = m }) same
+-- ---- a station of one device
 
 -- what device 0 heard up to a time, which is not counted out
 abbrev heard_to : StationSetup → (stop : ℕ) → StationStanding → List HeardPulse
@@ -211,7 +147,7 @@ after_first = record { now = 1000000; generators = source 1 ∷ source 1 ∷ sou
 first_part : (stop : ℕ) → stop ≡ 1000000 → part_gone station stop begun ≡ hearing_also (heard_to station stop begun) after_first
 first_part stop same =
     part_by station begun stop course_first refl
-    (passes_to kind refl (signal_by begun.seconds) stop 1000000 430 (begun.courses 0) heard_first same (omega (arith, same)) refl refl)
+    (passes_to kind (λ e. cc) (signal_by begun.seconds) stop 1000000 430 (begun.courses 0) heard_first same (omega (arith, same)) refl refl)
     ∙ ap (λ (n : ℕ). record (has_gone station 0 course_first begun) { now = n; heard = heard_to station stop begun }) same
     ∙ ap (λ (b : Bool). record (with_entries [] (audit_seen Kept 0 0 b) (at_course 0 course_first begun)) { now = 1000000; heard = heard_to station stop begun }) keeps_first
 
@@ -240,7 +176,7 @@ next_part : (h : List HeardPulse) (stop : ℕ) → stop ≡ 1050000 → part_gon
 next_part h stop same =
     let heard = heard_to station stop (hearing_also h begun_next) in
     part_by station (hearing_also h begun_next) stop course_next refl
-    (passes_to kind refl (signal_by begun_next.seconds) stop 1050000 40 (begun_next.courses 0) heard_next same (omega (arith, same)) refl refl)
+    (passes_to kind (λ e. cc) (signal_by begun_next.seconds) stop 1050000 40 (begun_next.courses 0) heard_next same (omega (arith, same)) refl refl)
     ∙ ap (λ (n : ℕ). record (has_gone station 0 course_next begun_next) { now = n; heard = heard }) same
     ∙ ap (λ (b : Bool). record (with_entries [] (audit_seen Kept 0 1 b) (at_course 0 course_next begun_next)) { now = 1050000; heard = heard }) keeps_next
 

@@ -13,7 +13,14 @@ pub mod GrowthLaws
 pub mod PartLaws
 pub mod ToldLaws
 pub mod StationFacts
+pub mod LightCourses
 pub mod KeptFacts
+pub mod WholeLaws
+pub mod CarriedLaws
+pub mod LeftInLaws
+pub mod EndLaws
+pub mod WholeStations
+pub mod AnnouncedFacts
 pub mod UtcEntries
 pub mod DeviceEntries
 pub mod RangeLaws
