@@ -1,0 +1,5 @@
+pub mod DumpLaws
+pub mod HeadLaws
+pub mod FileLaws
+pub mod StandardFacts
+pub mod OrderLaws
