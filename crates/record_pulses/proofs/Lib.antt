@@ -1,0 +1,5 @@
+pub mod GlitchLaws
+pub mod PulseLaws
+pub mod ViewLaws
+pub mod LookLaws
+pub mod StandardFacts
