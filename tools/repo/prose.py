@@ -21,7 +21,7 @@ WORD = re.compile(r"\w(?:[\w'./-]*\w)?")
 PRODUCT = re.compile(r"^((?!example_|test_|bench_)[a-z]+_\w+)(?: staticlib)?:", re.MULTILINE)
 CRATE = re.compile(r"^(\w+)(?: staticlib)?:", re.MULTILINE)
 USES = re.compile(r"^(\w+)(?: staticlib)?:(.*)", re.MULTILINE)
-CRATES = re.compile(r"\b(?:irig|scenario|report|text|c|cli)_\w+")
+CRATES = re.compile(r"\b(?:irig|record|scenario|report|text|c|cli)_\w+")
 # A term that is set off, and the first cell of a row.
 TERM = re.compile(r"(?<![*\w])\*([^\W\d_][\w -]+)\*(?!\*)")
 FIRST_CELL = re.compile(r"^\| ([^|]+) \|", re.MULTILINE)

@@ -23,6 +23,8 @@ mod rates;
 #[cfg(test)]
 mod readers;
 #[cfg(test)]
+mod recorded;
+#[cfg(test)]
 mod texts;
 #[cfg(test)]
 mod times;

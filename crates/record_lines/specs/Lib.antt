@@ -1,0 +1,6 @@
+pub mod Rises
+pub mod Times
+pub mod ToldSeconds
+pub mod Receivers
+pub mod Passing
+pub mod RecordedLines

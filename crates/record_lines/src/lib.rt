@@ -1,0 +1,20 @@
+//! Recorded lines, heard by a timekeeper.
+//!
+//! A [`Receiver`] is a timekeeper by a counter that does not wrap. It is told the pulses of up to five
+//! lines while time passes, is ticked as it asks, and tells the seconds that its ticks answer. Which
+//! calls its timekeeper had is known of it at any time, and these are in order, whatever it is told: so
+//! the laws of a timekeeper speak of it, and each second on which lines agree was carried by whole frames
+//! of more than f of them ([`named_seconds_are_carried`]).
+#![tactic(auto)]
+
+mod laws;
+mod line;
+mod receiver;
+mod rises;
+mod told;
+
+pub use laws::{named_seconds_are_carried, what_is_in_order_is_told};
+pub use line::RecordedLine;
+pub use receiver::Receiver;
+pub use rises::Rises;
+pub use told::ToldSecond;
