@@ -1,2 +1,5 @@
 pub mod Words
+pub mod Lines
+pub mod Fields
 pub mod Numbers
+pub mod Decimals

@@ -1,0 +1,5 @@
+pub mod RateLaws
+pub mod ReadLaws
+pub mod SampleLaws
+pub mod RecordLaws
+pub mod StandardFacts
