@@ -40,10 +40,10 @@ line text = text ++ 13 ∷ 10 ∷ []
 -- one analog channel and two digital ones, at a rate, stored in that form
 abbrev config_text : (counts rate form : List ℕ) → List ℕ
 config_text counts rate form = 239 ∷ 187 ∷ 191 ∷ line (codes "Station,1,1999") ++ line counts ++ line (codes "1,U,A,,V,0.1,0,0,-9,9,1,1,P")
-    ++ line (codes "1, D0 ,,,0") ++ line (codes "2,D1,,,0") ++ line (codes "50") ++ line (codes "1") ++ line rate
+    ++ line (codes "1, clock ,,,0") ++ line (codes "2,relay,,,0") ++ line (codes "50") ++ line (codes "1") ++ line rate
     ++ line (codes "24/11/2026,09:30:00.25") ++ line (codes "24/11/2026,09:30:00.25") ++ line form
 
--- of two bytes an analog number: D0 is high, D0 still, and then D1
+-- of two bytes an analog number: the first channel is high, the first still, and then the second
 abbrev three : List ℕ
 three = 1 ∷ 0 ∷ 0 ∷ 0 ∷ 0 ∷ 0 ∷ 0 ∷ 0 ∷ 7 ∷ 0 ∷ 1 ∷ 0 ∷ 2 ∷ 0 ∷ 0 ∷ 0 ∷ 208 ∷ 0 ∷ 0 ∷ 0 ∷ 9 ∷ 1 ∷ 1 ∷ 0 ∷ 3 ∷ 0 ∷ 0 ∷ 0 ∷ 160 ∷ 1 ∷ 0 ∷ 0 ∷ 7 ∷ 0 ∷ 2 ∷ 0 ∷ []
 

@@ -17,13 +17,13 @@ use Rattle.record_vcd.specs.Dumps.{dump_of}
 
 -- its unit, a wire whose name has two words, a bus, another wire, and one whose name is there already
 abbrev head_text : List ℕ
-head_text = codes "$date today $end $timescale 1 ps $end" ++ 10 ∷ codes "$var wire 1 ! D0 [0] $end $var wire 8 # all $end"
-    ++ 10 ∷ codes "$var reg 1 & D1 $end $var wire 1 % D1 $end $comment $var wire 1 ! D2 $end $enddefinitions $end" ++ 10 ∷ []
+head_text = codes "$date today $end $timescale 1 ps $end" ++ 10 ∷ codes "$var wire 1 ! clock [0] $end $var wire 8 # all $end"
+    ++ 10 ∷ codes "$var reg 1 & relay $end $var wire 1 % relay $end $comment $var wire 1 ! spare $end $enddefinitions $end" ++ 10 ∷ []
 
 abbrev wire : (name code : List ℕ) → WireValue
 wire name code = record { name = name; code = code }
 
-pub known_head : ((head_from top (words_of head_text)).head.wires ≡ wire (codes "D0 [0]") (codes "!") ∷ wire (codes "D1") (codes "&") ∷ [])
+pub known_head : ((head_from top (words_of head_text)).head.wires ≡ wire (codes "clock [0]") (codes "!") ∷ wire (codes "relay") (codes "&") ∷ [])
     × ((head_from top (words_of head_text)).head.unit ≡ unit 1 Thousandth)
 known_head = (refl, refl)
 
