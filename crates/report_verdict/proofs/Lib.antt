@@ -1,0 +1,4 @@
+pub mod EndedLaws
+pub mod VerdictLaws
+pub mod ZeroLaws
+pub mod StandardFacts
