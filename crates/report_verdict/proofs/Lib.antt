@@ -1,4 +1,3 @@
 pub mod EndedLaws
-pub mod VerdictLaws
 pub mod ZeroLaws
 pub mod StandardFacts
