@@ -6,6 +6,7 @@
 #![tactic(auto)]
 
 mod ended;
+mod json;
 mod line_seen;
 mod number_text;
 mod stretch;
@@ -16,6 +17,7 @@ mod text;
 mod verdict;
 mod zero;
 
+pub use json::push_json;
 pub use line_seen::LineSeen;
 pub use stretch::{AgreedSecond, Stretch};
 pub use tale::{Kind, Tale};
