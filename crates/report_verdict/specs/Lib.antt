@@ -8,3 +8,4 @@ pub mod NumberText
 pub mod LineText
 pub mod VerdictText
 pub mod JsonText
+pub mod Naming
