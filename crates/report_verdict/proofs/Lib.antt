@@ -1,4 +1,1 @@
-pub mod EndedLaws
-pub mod ZeroLaws
-pub mod NamingLaws
 pub mod StandardFacts

@@ -8,21 +8,21 @@ use Rattle.irig_port.specs.declared.told.PortFault.{PortFault}
 use Rattle.report_log.specs.declared.offset.Offset.{Offset}
 use Rattle.text_faults.specs.PortFaults.{number_of}
 use Rattle.record_pulses.specs.declared.seen.Counts.{Counts}
-use Rattle.report_verdict.specs.declared.ended.Unended.{Unended}
+use Rattle.record_verdict.specs.declared.ended.Unended.{Unended}
 use Rattle.report_verdict.specs.declared.line_seen.LineSeen.{LineSeen}
-use Rattle.report_verdict.specs.declared.stretch.AgreedSecond.{AgreedSecond}
-use Rattle.report_verdict.specs.declared.stretch.Stretch.{Stretch}
-use Rattle.report_verdict.specs.declared.tale.Kind.{Kind}
-use Rattle.report_verdict.specs.declared.tale.Kind.TheVariants as kind
-use Rattle.report_verdict.specs.declared.tale.Tale.{Tale}
-use Rattle.report_verdict.specs.declared.tale.Tale.TheVariants.{Agreed, AnotherSecond, AnotherMark, Late, Early, Faulty, Poor, Silent}
-use Rattle.report_verdict.specs.declared.verdict.Verdict.{Verdict}
-use Rattle.report_verdict.specs.declared.zero.Zero.{Zero}
-use Rattle.report_verdict.specs.declared.zero.Zero.TheVariants.{At, Undecided, OutOfYears}
+use Rattle.record_verdict.specs.declared.stretch.AgreedSecond.{AgreedSecond}
+use Rattle.record_verdict.specs.declared.stretch.Stretch.{Stretch}
+use Rattle.record_verdict.specs.declared.tale.Kind.{Kind}
+use Rattle.record_verdict.specs.declared.tale.Kind.TheVariants as kind
+use Rattle.record_verdict.specs.declared.tale.Tale.{Tale}
+use Rattle.record_verdict.specs.declared.tale.Tale.TheVariants.{Agreed, AnotherSecond, AnotherMark, Late, Early, Faulty, Poor, Silent}
+use Rattle.record_verdict.specs.declared.verdict.Verdict.{Verdict}
+use Rattle.record_verdict.specs.declared.zero.Zero.{Zero}
+use Rattle.record_verdict.specs.declared.zero.Zero.TheVariants.{At, Undecided, OutOfYears}
 use Rattle.report_verdict.specs.LineText.{hex_digit, is_plain}
 use Rattle.report_verdict.specs.NumberText.{instant_text, utc_text}
-use Rattle.report_verdict.specs.Tales.{kind_of}
-use Rattle.report_verdict.specs.Zeros.{zero_of}
+use Rattle.record_verdict.specs.Tales.{kind_of}
+use Rattle.record_verdict.specs.Zeros.{zero_of}
 
 -- ---- values
 

@@ -6,7 +6,7 @@ use Rattle.irig_time.specs.declared.second.UtcSecond.{UtcSecond}
 use Rattle.irig_time.specs.Seconds.{is_valid}
 use Rattle.irig_time.specs.TextValues.{second_text}
 use Rattle.text_frame.specs.Reading.{with_zeros}
-use Rattle.report_verdict.specs.declared.stretch.AgreedSecond.{AgreedSecond}
+use Rattle.record_verdict.specs.declared.stretch.AgreedSecond.{AgreedSecond}
 
 -- thousandths, as a number with three decimals
 unfoldable pub thousandths_text : ℕ → List ℕ

@@ -8,18 +8,18 @@ use Rattle.irig_time.specs.declared.second.UtcSecond.{UtcSecond}
 use Rattle.report_log.specs.declared.offset.Offset.{Offset}
 use Rattle.report_log.specs.Whens.{offset_text}
 use Rattle.text_faults.specs.PortFaults.{fault_text}
-use Rattle.report_verdict.specs.declared.ended.Unended.{Unended}
+use Rattle.record_verdict.specs.declared.ended.Unended.{Unended}
 use Rattle.report_verdict.specs.declared.line_seen.LineSeen.{LineSeen}
-use Rattle.report_verdict.specs.declared.stretch.AgreedSecond.{AgreedSecond}
-use Rattle.report_verdict.specs.declared.stretch.Stretch.{Stretch}
-use Rattle.report_verdict.specs.declared.tale.Tale.{Tale}
-use Rattle.report_verdict.specs.declared.tale.Tale.TheVariants.{Agreed, AnotherSecond, AnotherMark, Late, Early, Faulty, Poor, Silent}
-use Rattle.report_verdict.specs.declared.verdict.Verdict.{Verdict}
-use Rattle.report_verdict.specs.declared.zero.Zero.{Zero}
-use Rattle.report_verdict.specs.declared.zero.Zero.TheVariants.{At, Undecided, OutOfYears}
+use Rattle.record_verdict.specs.declared.stretch.AgreedSecond.{AgreedSecond}
+use Rattle.record_verdict.specs.declared.stretch.Stretch.{Stretch}
+use Rattle.record_verdict.specs.declared.tale.Tale.{Tale}
+use Rattle.record_verdict.specs.declared.tale.Tale.TheVariants.{Agreed, AnotherSecond, AnotherMark, Late, Early, Faulty, Poor, Silent}
+use Rattle.record_verdict.specs.declared.verdict.Verdict.{Verdict}
+use Rattle.record_verdict.specs.declared.zero.Zero.{Zero}
+use Rattle.record_verdict.specs.declared.zero.Zero.TheVariants.{At, Undecided, OutOfYears}
 use Rattle.report_verdict.specs.LineText.{line_name, line_text}
 use Rattle.report_verdict.specs.NumberText.{instant_text, seconds_text, thousandths_text, utc_text}
-use Rattle.report_verdict.specs.Zeros.{zero_at}
+use Rattle.record_verdict.specs.Zeros.{zero_at}
 
 -- ---- what is wrong
 

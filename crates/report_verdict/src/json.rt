@@ -36,16 +36,12 @@ ghost use Rattle.report_verdict.specs.JsonText.{
   kind_word,
 };
 
-use crate::ended::Unended;
 use crate::line_seen::{LineSeen, is_plain, push_digit};
 use crate::number_text::{push_instant, push_utc};
-use crate::stretch::{AgreedSecond, Stretch};
-use crate::tale::{Kind, Tale};
-use crate::verdict::Verdict;
-use crate::zero::{Zero, zero_by};
 use irig_port::PortFault;
 use irig_time::UtcSecond;
 use record_pulses::Counts;
+use record_verdict::{AgreedSecond, Kind, Stretch, Tale, Unended, Verdict, Zero, zero_by};
 use report_log::Offset;
 use std::alloc::AllocError;
 use text_faults::number_of;

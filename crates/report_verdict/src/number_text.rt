@@ -7,9 +7,8 @@ ghost use Rattle.irig_time.specs.Seconds.{IsValid};
 ghost use Rattle.text_frame.specs.Reading.{with_zeros};
 ghost use Rattle.report_verdict.specs.NumberText.{instant_text, moment_text, nearest, seconds_text, thousandths_text, utc_text};
 
-use crate::stretch::AgreedSecond;
-use crate::zero::is_second;
 use irig_time::{UtcSecond, push_text, write_text};
+use record_verdict::{AgreedSecond, is_second};
 use report_log::push_number;
 use std::alloc::AllocError;
 use std::str;

@@ -4,12 +4,10 @@ ghost use Rattle.std.specs.Prelude.{◌≡◌, ◌++◌, string_bytes, OnOk};
 ghost use Rattle.report_log.specs.Whens.{offset_text};
 ghost use Rattle.report_verdict.specs.VerdictText.{differs_text, fault_part, more_line, off_text, open_line, quality_part, range_text, stretch_line, stretches_text, tale_text, unended_text};
 
-use crate::ended::Unended;
 use crate::line_seen::{LineSeen, push_line_name};
 use crate::number_text::{push_seconds, push_thousandths};
-use crate::stretch::Stretch;
-use crate::tale::Tale;
 use irig_port::PortFault;
+use record_verdict::{Stretch, Tale, Unended};
 use report_log::{Offset, push_offset};
 use std::alloc::AllocError;
 use text_faults::push_fault;

@@ -21,11 +21,9 @@ ghost use Rattle.report_verdict.specs.VerdictText.{
 
 use crate::line_seen::{LineSeen, push_line};
 use crate::number_text::{push_instant, push_seconds, push_utc};
-use crate::stretch::AgreedSecond;
 use crate::stretch_text::{push_more, push_stretches, push_unended};
-use crate::verdict::Verdict;
-use crate::zero::{Zero, zero_at};
 use irig_time::UtcSecond;
+use record_verdict::{AgreedSecond, Verdict, Zero, zero_at};
 use std::alloc::AllocError;
 
 /// Pushes the text of a verdict: which line is wrong, since when and by how much; on which seconds most
@@ -72,7 +70,7 @@ fn push_wrong(
     ensures { OnOk result (string_bytes text.new
         ≡ string_bytes text.old ++ wrong_text verdict.now lines.now) }
 {
-    if !verdict.differs() {
+    if !differs(verdict) {
         return text.push_str(same_line(verdict.lines));
     }
     push_stretches(text, lines, &verdict.ended.kept)?;
@@ -80,18 +78,16 @@ fn push_wrong(
     push_unended(text, lines, &verdict.unended)
 }
 
-impl Verdict {
-    // Whether any line is wrong.
-    fn differs(&self) -> bool
-        ensures { result ≡ differs self.now }
-    {
-        !self.ended.kept.is_empty()
-            || self.unended.a.is_some()
-            || self.unended.b.is_some()
-            || self.unended.c.is_some()
-            || self.unended.d.is_some()
-            || self.unended.e.is_some()
-    }
+// Whether any line is wrong.
+fn differs(verdict: &Verdict) -> bool
+    ensures { result ≡ differs verdict.now }
+{
+    !verdict.ended.kept.is_empty()
+        || verdict.unended.a.is_some()
+        || verdict.unended.b.is_some()
+        || verdict.unended.c.is_some()
+        || verdict.unended.d.is_some()
+        || verdict.unended.e.is_some()
 }
 
 fn same_line(lines: u8) -> &'static str

@@ -7,7 +7,8 @@ use irig_timekeeper::Beat;
 use irig_vote::Tells;
 use record_lines::RecordedSecond;
 use record_pulses::{Counts, Seen, Spread, Widths};
-use report_verdict::{LineSeen, Verdict, push_json, push_verdict};
+use record_verdict::Verdict;
+use report_verdict::{LineSeen, push_json, push_verdict};
 use std::test::Fail;
 
 /// 2026-11-24.
