@@ -1,5 +1,5 @@
 -- Known values of the definitions, worked by hand.
-use Rattle.std.proofs.Common.{◌≡◌, ℕ, ◌+◌, true, false, [], Some, None, refl}
+use Rattle.std.proofs.Common.{◌≡◌, ℕ, ◌+◌, true, false, Some, None, refl}
 use Rattle.irig_port.specs.declared.told.Told.TheVariants as tells
 use Rattle.irig_time.specs.declared.claim.Claim.{Claim}
 use Rattle.irig_time.specs.Days.{four_years, is_month_end}
