@@ -4,3 +4,5 @@ pub mod ToldSeconds
 pub mod Receivers
 pub mod Passing
 pub mod RecordedLines
+pub mod Paces
+pub mod Helds

@@ -1,0 +1,51 @@
+//! A line as a recording has it.
+
+use crate::line::RecordedLine;
+use record_pulses::{Edge, Steady};
+
+/// A line as a recording has it: without glitches, and with the end of its last whole frame.
+#[derive(Drop)]
+pub(crate) struct Channel {
+    pub(crate) steady: Steady,
+    pub(crate) line: RecordedLine,
+    pub(crate) end_us: Option<u64>,
+}
+
+impl Channel {
+    /// A line of which nothing came, where a level lasts for so many nanoseconds or is a glitch.
+    pub(crate) fn new(glitch_ns: u64) -> Channel {
+        Channel {
+            steady: Steady::new(glitch_ns),
+            line: RecordedLine::new(None),
+            end_us: None,
+        }
+    }
+
+    /// The change that waits is seen, and comes out, if its level has lasted long enough by a time.
+    pub(crate) fn ripen(&mut self, now_ns: u64) -> Option<Edge> {
+        self.steady.ripe(now_ns)?;
+        self.let_out()
+    }
+
+    /// The change that waits is seen, and comes out.
+    pub(crate) fn let_out(&mut self) -> Option<Edge> {
+        let edge = self.steady.let_out()?;
+        self.line.see(edge);
+        Some(edge)
+    }
+
+    /// The line's next level: the change before it is seen, and comes out, if its level has lasted long
+    /// enough.
+    pub(crate) fn change(&mut self, edge: Edge) -> Option<Edge> {
+        let edge = self.steady.change(edge)?;
+        self.line.see(edge);
+        Some(edge)
+    }
+
+    /// How long a second of the line is by its pulses, in microseconds, if it has sent a frame.
+    pub(crate) fn second_us(&self) -> Option<u64> {
+        self.line.polarity()?;
+        let gaps = &self.line.looks.view().seen().gaps_in_step;
+        gaps.sum_us.saturating_mul(100).checked_div(gaps.count)
+    }
+}

@@ -1,0 +1,276 @@
+//! A recording of lines, heard while its time passes.
+
+ghost use Rattle.std.specs.Prelude.{◌≡◌, ◌≤◌, ◌<◌, ◌+◌, IsTrue, None, true, false};
+ghost use Rattle.irig_reader.specs.Rules.{IsReaderRules};
+
+use crate::change::{Change, Held};
+use crate::channel::Channel;
+use crate::pace::LinesTime;
+use crate::receiver::Receiver;
+use crate::second::RecordedSecond;
+use crate::told::ToldSecond;
+use arrayvec::ArrayVec;
+use irig_lines::{ClockFault, ClockRules};
+use irig_port::Port;
+use irig_time::{LeapTable, Rules};
+use record_levels::Levels;
+use record_pulses::{Edge, Looks};
+
+/// Nanoseconds after which changes wait no longer: by then a good line has sent a whole frame.
+const WAIT_NS: u64 = 2_200_000_000;
+
+/// How long after its end a recording is still ticked, in microseconds.
+const BEHIND_US: u64 = 6_000;
+
+/// Microseconds from the rise of a frame's last pulse to its end.
+const ELEMENT_US: u64 = 10_000;
+
+/// A recording of up to five lines. It is told levels, and tells the seconds that they show.
+///
+/// What lines say waits until each line has shown its polarity by a frame, for 2.2 s at most: a frame
+/// that was told later than the others would be of another second. The time of the lines is then
+/// measured by all their pulses, since a recorder's clock may be off.
+#[derive(Drop)]
+pub struct Recording<P: Port> {
+    pub(crate) receiver: Receiver<P>,
+    pub(crate) lines: u8,
+    pub(crate) channels: [Channel; 5],
+    pub(crate) held: Held,
+    pub(crate) time: LinesTime,
+    pub(crate) first_ns: Option<u64>,
+    pub(crate) now_ns: u64,
+    pub(crate) end_us: Option<u64>,
+    pub(crate) is_played: bool,
+    ghost few: { lines ≤ 5 },
+}
+
+impl<P: Port> Recording<P> {
+    ghost use Rattle.record_lines.specs.Helds.{has_room, room};
+
+    /// A recording of which nothing was told, where a level lasts for so many nanoseconds or is a glitch;
+    /// with reader's rules that are [`in_range`](irig_reader::in_range). Or the first fault of its setup,
+    /// by [`clock_fault`](irig_lines::clock_fault).
+    pub fn new(
+        rules: Rules,
+        clock: ClockRules,
+        table: LeapTable,
+        glitch_ns: u64,
+    ) -> Result<Self, ClockFault>
+        requires { IsReaderRules clock.reader_rules }
+    {
+        Ok(Recording {
+            receiver: Receiver::new(rules, clock, table, 0)?,
+            lines: clock.redundancy.ports(),
+            channels: [
+                Channel::new(glitch_ns),
+                Channel::new(glitch_ns),
+                Channel::new(glitch_ns),
+                Channel::new(glitch_ns),
+                Channel::new(glitch_ns),
+            ],
+            held: Held::new(),
+            time: LinesTime::new(),
+            first_ns: None,
+            now_ns: 0,
+            end_us: None,
+            is_played: false,
+        })
+    }
+
+    /// What the recording says from a time on. What lies before the levels told last is left out.
+    pub fn levels(&mut self, levels: Levels)
+        requires { IsTrue (has_room self.old.held) }
+    {
+        if levels.time_ns < self.now_ns {
+            return;
+        }
+        self.now_ns = levels.time_ns;
+        self.first_ns = Some(self.first_ns.unwrap_or(levels.time_ns));
+        for line in 0..self.lines {
+            self.change(
+                line,
+                Edge {
+                    time_ns: levels.time_ns,
+                    is_high: levels.high >> line & 1 == 1,
+                },
+            );
+        }
+    }
+
+    // A line's next level.
+    fn change(&mut self, line: u8, edge: Edge)
+        requires line { line < 5 }
+        requires room { 2 ≤ room self.old.held }
+        ensures room { room self.old.held ≤ room self.new.held + 2 }
+        ensures lines { self.new.lines ≡ self.old.lines }
+    {
+        let ripe = self.channels[line as usize].ripen(edge.time_ns);
+        self.hold(line, ripe);
+        let lasting = self.channels[line as usize].change(edge);
+        self.hold(line, lasting);
+    }
+
+    fn hold(&mut self, line: u8, edge: Option<Edge>)
+        requires { 0 < room self.old.held }
+        ensures room { room self.old.held ≤ room self.new.held + 1 }
+        ensures lines { self.new.lines ≡ self.old.lines }
+    {
+        if let Some(edge) = edge {
+            self.held.push(Change::of(line, edge));
+        }
+    }
+
+    /// The recording ends at a time.
+    pub fn end(&mut self, time_ns: u64)
+        requires { IsTrue (has_room self.old.held) }
+    {
+        for line in 0..self.lines {
+            let last = self.channels[line as usize].let_out();
+            self.hold(line, last);
+        }
+        self.end_us = Some(time_ns / 1_000);
+    }
+
+    /// The next second that the recording shows by what was told of it; `None` until more is told. It is
+    /// to be called until then, after each levels and after the end.
+    pub fn next(&mut self) -> Option<RecordedSecond>
+        ensures room { result ≡ None → IsTrue (has_room self.new.held) }
+    {
+        if !self.is_begun() {
+            return None;
+        }
+        let told = match self.play_held() {
+            Some(told) => told,
+            None => self.pass_to_end()?,
+        };
+        Some(self.second(&told))
+    }
+
+    // Plays the changes that wait, up to one before which a tick tells a second.
+    fn play_held(&mut self) -> Option<ToldSecond>
+        ensures room { result ≡ None → IsTrue (has_room self.new.held) }
+    {
+        for at in self.held.played..self.held.changes.len() {
+            let change = self.held.changes[at];
+            let told = self.receiver.pass_to(self.time.at(change.time_ns / 1_000));
+            if told.is_some() {
+                self.held.played = at;
+                return told;
+            }
+            self.play(change);
+        }
+        self.held.clear();
+        None
+    }
+
+    // Time passes to the end, if that was told.
+    fn pass_to_end(&mut self) -> Option<ToldSecond>
+        ensures held { self.new.held ≡ self.old.held }
+    {
+        let end_us = self.time.at(self.end_us?) + BEHIND_US;
+        self.receiver.pass_to(end_us)
+    }
+
+    // Whether changes are played: from here on, if they wait no longer.
+    fn is_begun(&mut self) -> bool
+        ensures held { self.new.held ≡ self.old.held }
+        ensures waits { result ≡ false → IsTrue (has_room self.new.held) }
+    {
+        if self.is_played {
+            return true;
+        }
+        if self.waits() {
+            return false;
+        }
+        self.is_played = true;
+        self.follow(0);
+        true
+    }
+
+    // Whether it may still be shown which polarity a line has.
+    fn waits(&self) -> bool
+        ensures { result ≡ true → IsTrue (has_room self.now.held) }
+    {
+        self.end_us.is_none()
+            && self.held.has_room()
+            && self.passed_ns() < WAIT_NS
+            && self.lacks_polarity()
+    }
+
+    // Since the first levels.
+    fn passed_ns(&self) -> u64 {
+        self.now_ns
+            .saturating_sub(self.first_ns.unwrap_or(self.now_ns))
+    }
+
+    fn lacks_polarity(&self) -> bool {
+        for line in 0..self.lines {
+            if self.channels[line as usize].line.polarity().is_none() {
+                return true;
+            }
+        }
+        false
+    }
+
+    // A change is played: the pulse that ends with it is told.
+    fn play(&mut self, change: Change)
+        ensures { self.new.held ≡ self.old.held }
+    {
+        let line = change.line;
+        if line >= self.lines {
+            return;
+        }
+        let Some(pulse) = self.channels[line as usize].line.play(change.edge()) else {
+            return;
+        };
+        let rise_us = self.time.at(pulse.rise_us);
+        if self.receiver.hear(line, rise_us, pulse.width_us) == 100 {
+            self.channels[line as usize].end_us = Some(pulse.rise_us.saturating_add(ELEMENT_US));
+            self.follow(pulse.rise_us);
+        }
+    }
+
+    // From a time on a second is as long as that of the line in the middle.
+    fn follow(&mut self, time_us: u64)
+        ensures { self.new.held ≡ self.old.held }
+    {
+        if let Some(second_us) = self.middle_second_us() {
+            self.time.follow(time_us, second_us);
+        }
+    }
+
+    fn middle_second_us(&self) -> Option<u64> {
+        let mut seconds: ArrayVec<u64, 5> = ArrayVec::new();
+        for channel in &self.channels {
+            if let Some(second_us) = channel.second_us() {
+                let _ = seconds.try_push(second_us);
+            }
+        }
+        seconds.sort_unstable();
+        let count = seconds.len();
+        seconds.get(count.saturating_sub(1) / 2).copied()
+    }
+
+    fn second(&self, told: &ToldSecond) -> RecordedSecond {
+        RecordedSecond {
+            edge_us: self.time.back(told.edge_us),
+            lines_us: told.edge_us,
+            beat: told.beat,
+            vote: told.vote,
+            ends_us: [
+                self.channels[0].end_us,
+                self.channels[1].end_us,
+                self.channels[2].end_us,
+                self.channels[3].end_us,
+                self.channels[4].end_us,
+            ],
+        }
+    }
+
+    /// What is on a line, 0 to 4, as far as it was told.
+    pub fn line(&self, line: u8) -> &Looks
+        requires { line < 5 }
+    {
+        &self.channels[line as usize].line.looks
+    }
+}
