@@ -72,14 +72,14 @@ impl Held {
         self.changes.len() + ROOM <= MOST
     }
 
-    /// One more.
+    /// One more, if there is room.
     pub(crate) fn push(&mut self, change: Change)
-        requires { 0 < room self.old }
-        ensures changes { self.new.changes.items ≡ self.old.changes.items ++ change ∷ [] }
+        ensures changes { 0 < room self.old
+            → self.new.changes.items ≡ self.old.changes.items ++ change ∷ [] }
         ensures played { self.new.played ≡ self.old.played }
-        ensures room { room self.new + 1 ≡ room self.old }
+        ensures room { room self.old ≤ room self.new + 1 }
     {
-        self.changes.push(change);
+        let _ = self.changes.try_push(change);
     }
 
     /// All were played.

@@ -77,10 +77,9 @@ impl<P: Port> Recording<P> {
         })
     }
 
-    /// What the recording says from a time on. What lies before the levels told last is left out.
-    pub fn levels(&mut self, levels: Levels)
-        requires { IsTrue (has_room self.old.held) }
-    {
+    /// What the recording says from a time on. What lies before the levels told last is left out, and so
+    /// is what finds no room, as [`next`](Self::next) was not called until it answered `None`.
+    pub fn levels(&mut self, levels: Levels) {
         if levels.time_ns < self.now_ns {
             return;
         }
@@ -99,8 +98,7 @@ impl<P: Port> Recording<P> {
 
     // A line's next level.
     fn change(&mut self, line: u8, edge: Edge)
-        requires line { line < 5 }
-        requires room { 2 ≤ room self.old.held }
+        requires { line < 5 }
         ensures room { room self.old.held ≤ room self.new.held + 2 }
         ensures lines { self.new.lines ≡ self.old.lines }
     {
@@ -111,7 +109,6 @@ impl<P: Port> Recording<P> {
     }
 
     fn hold(&mut self, line: u8, edge: Option<Edge>)
-        requires { 0 < room self.old.held }
         ensures room { room self.old.held ≤ room self.new.held + 1 }
         ensures lines { self.new.lines ≡ self.old.lines }
     {
@@ -121,9 +118,7 @@ impl<P: Port> Recording<P> {
     }
 
     /// The recording ends at a time.
-    pub fn end(&mut self, time_ns: u64)
-        requires { IsTrue (has_room self.old.held) }
-    {
+    pub fn end(&mut self, time_ns: u64) {
         for line in 0..self.lines {
             let last = self.channels[line as usize].let_out();
             self.hold(line, last);

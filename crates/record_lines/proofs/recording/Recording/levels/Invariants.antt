@@ -1,7 +1,5 @@
-use Rattle.std.proofs.Common.{◌≡◌, ◌≤◌, ◌-◌, ◌*◌}
-use Rattle.record_lines.specs.Helds.{room}
+use Rattle.std.proofs.Common.{◌≡◌, ◌≤◌}
 use Rattle.record_lines.proofs.recording.Recording.levels.Given as goal
 
 abbrev pub invariant-loop-line : goal.invariant-loop-line
-invariant-loop-line g l =
-    (l.self.lines ≡ l.fn.self.lines) × (l.line-end ≤ 5) × (2 * (l.line-end - l.line) ≤ room l.self.held)
+invariant-loop-line g l = (l.self.lines ≡ l.fn.self.lines) × (l.line-end ≤ 5)
