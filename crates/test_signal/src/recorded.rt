@@ -230,6 +230,10 @@ fn a_recording_shows_the_seconds_of_most_lines(rt: HostRuntime) -> Result<(), Fa
     ) else {
         return Err(Fail::from("no recording"));
     };
+    recording.levels(Levels {
+        time_ns: 0,
+        high: 2,
+    });
     let mut shown = Shown {
         last: None,
         count: 0,
@@ -244,7 +248,7 @@ fn a_recording_shows_the_seconds_of_most_lines(rt: HostRuntime) -> Result<(), Fa
         let edge_us = 300_000 + u64::from(n) * 1_000_000;
         shown = record_second(&mut recording, frame, lie, edge_us, shown);
     }
-    recording.end(6_310_000_000);
+    recording.end(6_310_000 * 1_003);
     shown = show(&mut recording, shown);
     assert!(rt; shown.count == 6);
     assert!(rt; is_shown(shown.last, START.sod + 5, 6_300_000));
