@@ -6,3 +6,5 @@ pub mod ToldLaws
 pub mod HearLaws
 pub mod CarriedLaws
 pub mod ReceiverFacts
+pub mod ChannelLaws
+pub mod PlayLaws

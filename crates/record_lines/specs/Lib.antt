@@ -6,3 +6,6 @@ pub mod Passing
 pub mod RecordedLines
 pub mod Paces
 pub mod Helds
+pub mod Changes
+pub mod Channels
+pub mod Recordings

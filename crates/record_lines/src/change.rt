@@ -13,15 +13,19 @@ const MOST: usize = 4_096;
 const ROOM: usize = 10;
 
 /// A change of a recorded line, without glitches.
-#[derive(Clone, Copy, Default)]
+#[derive(Clone, Copy)]
 pub(crate) struct Change {
     pub(crate) line: u8,
     pub(crate) time_ns: u64,
     pub(crate) is_high: bool,
+    ghost there: { line < 5 },
 }
 
 impl Change {
+    ghost use Rattle.record_lines.specs.Changes.{edge_of};
+
     pub(crate) fn of(line: u8, edge: Edge) -> Change
+        requires { line < 5 }
         ensures line { result.line ≡ line }
         ensures time { result.time_ns ≡ edge.time_ns }
         ensures high { result.is_high ≡ edge.is_high }
@@ -34,12 +38,23 @@ impl Change {
     }
 
     pub(crate) fn edge(&self) -> Edge
-        ensures time { result.time_ns ≡ self.now.time_ns }
-        ensures high { result.is_high ≡ self.now.is_high }
+        ensures { result ≡ edge_of self.now }
     {
         Edge {
             time_ns: self.time_ns,
             is_high: self.is_high,
+        }
+    }
+}
+
+impl Default for Change {
+    ghost is_default = { λ change. change.line ≡ 0 };
+
+    fn default() -> Change {
+        Change {
+            line: 0,
+            time_ns: 0,
+            is_high: false,
         }
     }
 }

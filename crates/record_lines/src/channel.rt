@@ -1,7 +1,11 @@
 //! A line as a recording has it.
 
+ghost use Rattle.std.specs.Prelude.{◌≡◌, ◌∷◌, List, None};
+ghost use Rattle.record_pulses.specs.Looks.{polarity_of};
+ghost use Rattle.record_lines.specs.RecordedLines.{IsRecordedLine, pulse_by};
+
 use crate::line::RecordedLine;
-use record_pulses::{Edge, Steady};
+use record_pulses::{Edge, Pulse, Steady};
 
 /// A line as a recording has it: without glitches, and with the end of its last whole frame.
 #[derive(Drop)]
@@ -40,6 +44,23 @@ impl Channel {
         let edge = self.steady.change(edge)?;
         self.line.see(edge);
         Some(edge)
+    }
+
+    /// The next change is played: the pulse that ends with it by the line's polarity, if that is known.
+    pub(crate) fn play(&mut self, edge: Edge) -> Option<Pulse>
+        ensures pulse { (seen played : List Edge) → IsRecordedLine self.old.line None seen played
+            → result ≡ pulse_by (polarity_of None seen) edge played }
+        ensures new { (seen played : List Edge) → IsRecordedLine self.old.line None seen played
+            → IsRecordedLine self.new.line None seen (edge ∷ played) }
+    {
+        self.line.play(edge)
+    }
+
+    /// A whole frame ends then.
+    pub(crate) fn ends_at(&mut self, end_us: u64)
+        ensures { self.new.line ≡ self.old.line }
+    {
+        self.end_us = Some(end_us);
     }
 
     /// How long a second of the line is by its pulses, in microseconds, if it has sent a frame.

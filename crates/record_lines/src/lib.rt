@@ -9,6 +9,7 @@
 
 mod change;
 mod channel;
+mod channels;
 mod laws;
 mod line;
 mod pace;

@@ -1,20 +1,19 @@
 //! A recording of lines, heard while its time passes.
 
-ghost use Rattle.std.specs.Prelude.{◌≡◌, ◌≤◌, ◌<◌, ◌+◌, IsTrue, None, true, false};
+ghost use Rattle.std.specs.Prelude.{◌≡◌, ◌≤◌, ◌<◌, ◌+◌, IsTrue, None, true, false, ℕ};
 ghost use Rattle.irig_reader.specs.Rules.{IsReaderRules};
 
 use crate::change::{Change, Held};
-use crate::channel::Channel;
+use crate::channels::Channels;
 use crate::pace::LinesTime;
 use crate::receiver::Receiver;
 use crate::second::RecordedSecond;
 use crate::told::ToldSecond;
-use arrayvec::ArrayVec;
 use irig_lines::{ClockFault, ClockRules};
 use irig_port::Port;
 use irig_time::{LeapTable, Rules};
 use record_levels::Levels;
-use record_pulses::{Edge, Looks};
+use record_pulses::{Edge, Looks, Pulse};
 
 /// Nanoseconds after which changes wait no longer: by then a good line has sent a whole frame.
 const WAIT_NS: u64 = 2_200_000_000;
@@ -34,7 +33,7 @@ const ELEMENT_US: u64 = 10_000;
 pub struct Recording<P: Port> {
     pub(crate) receiver: Receiver<P>,
     pub(crate) lines: u8,
-    pub(crate) channels: [Channel; 5],
+    pub(crate) channels: Channels,
     pub(crate) held: Held,
     pub(crate) time: LinesTime,
     pub(crate) first_ns: Option<u64>,
@@ -46,6 +45,9 @@ pub struct Recording<P: Port> {
 
 impl<P: Port> Recording<P> {
     ghost use Rattle.record_lines.specs.Helds.{has_room, room};
+    ghost use Rattle.record_lines.specs.Paces.{lines_at};
+    ghost use Rattle.record_lines.specs.Passing.{HearsOn, TicksUntil};
+    ghost use Rattle.record_lines.specs.Recordings.{IsShownAs, PlaysOn, PlaysUpTo, ShowsOn};
 
     /// A recording of which nothing was told, where a level lasts for so many nanoseconds or is a glitch;
     /// with reader's rules that are [`in_range`](irig_reader::in_range). Or the first fault of its setup,
@@ -61,13 +63,7 @@ impl<P: Port> Recording<P> {
         Ok(Recording {
             receiver: Receiver::new(rules, clock, table, 0)?,
             lines: clock.redundancy.ports(),
-            channels: [
-                Channel::new(glitch_ns),
-                Channel::new(glitch_ns),
-                Channel::new(glitch_ns),
-                Channel::new(glitch_ns),
-                Channel::new(glitch_ns),
-            ],
+            channels: Channels::new(glitch_ns),
             held: Held::new(),
             time: LinesTime::new(),
             first_ns: None,
@@ -102,13 +98,14 @@ impl<P: Port> Recording<P> {
         ensures room { room self.old.held ≤ room self.new.held + 2 }
         ensures lines { self.new.lines ≡ self.old.lines }
     {
-        let ripe = self.channels[line as usize].ripen(edge.time_ns);
+        let ripe = self.channels.ripen(line, edge.time_ns);
         self.hold(line, ripe);
-        let lasting = self.channels[line as usize].change(edge);
+        let lasting = self.channels.change(line, edge);
         self.hold(line, lasting);
     }
 
     fn hold(&mut self, line: u8, edge: Option<Edge>)
+        requires { line < 5 }
         ensures room { room self.old.held ≤ room self.new.held + 1 }
         ensures lines { self.new.lines ≡ self.old.lines }
     {
@@ -120,7 +117,7 @@ impl<P: Port> Recording<P> {
     /// The recording ends at a time.
     pub fn end(&mut self, time_ns: u64) {
         for line in 0..self.lines {
-            let last = self.channels[line as usize].let_out();
+            let last = self.channels.let_out(line);
             self.hold(line, last);
         }
         self.end_us = Some(time_ns / 1_000);
@@ -129,20 +126,32 @@ impl<P: Port> Recording<P> {
     /// The next second that the recording shows by what was told of it; `None` until more is told. It is
     /// to be called until then, after each levels and after the end.
     pub fn next(&mut self) -> Option<RecordedSecond>
+        ensures shows { ShowsOn self.old self.new result }
+        ensures room { result ≡ None → IsTrue (has_room self.new.held) }
+    {
+        match self.next_told() {
+            Some(told) => Some(self.second(&told)),
+            None => None,
+        }
+    }
+
+    fn next_told(&mut self) -> Option<ToldSecond>
+        ensures plays { PlaysUpTo self.old self.new result }
         ensures room { result ≡ None → IsTrue (has_room self.new.held) }
     {
         if !self.is_begun() {
             return None;
         }
-        let told = match self.play_held() {
-            Some(told) => told,
-            None => self.pass_to_end()?,
-        };
-        Some(self.second(&told))
+        let told = self.play_held();
+        if told.is_some() {
+            return told;
+        }
+        self.pass_to_end()
     }
 
     // Plays the changes that wait, up to one before which a tick tells a second.
     fn play_held(&mut self) -> Option<ToldSecond>
+        ensures plays { PlaysUpTo self.old self.new result }
         ensures room { result ≡ None → IsTrue (has_room self.new.held) }
     {
         for at in self.held.played..self.held.changes.len() {
@@ -160,6 +169,8 @@ impl<P: Port> Recording<P> {
 
     // Time passes to the end, if that was told.
     fn pass_to_end(&mut self) -> Option<ToldSecond>
+        ensures ticks { TicksUntil self.old.receiver self.new.receiver result }
+        ensures channels { self.new.channels ≡ self.old.channels }
         ensures held { self.new.held ≡ self.old.held }
     {
         let end_us = self.time.at(self.end_us?) + BEHIND_US;
@@ -168,6 +179,8 @@ impl<P: Port> Recording<P> {
 
     // Whether changes are played: from here on, if they wait no longer.
     fn is_begun(&mut self) -> bool
+        ensures receiver { self.new.receiver ≡ self.old.receiver }
+        ensures channels { self.new.channels ≡ self.old.channels }
         ensures held { self.new.held ≡ self.old.held }
         ensures waits { result ≡ false → IsTrue (has_room self.new.held) }
     {
@@ -189,7 +202,7 @@ impl<P: Port> Recording<P> {
         self.end_us.is_none()
             && self.held.has_room()
             && self.passed_ns() < WAIT_NS
-            && self.lacks_polarity()
+            && self.channels.lack_polarity(self.lines)
     }
 
     // Since the first levels.
@@ -198,67 +211,52 @@ impl<P: Port> Recording<P> {
             .saturating_sub(self.first_ns.unwrap_or(self.now_ns))
     }
 
-    fn lacks_polarity(&self) -> bool {
-        for line in 0..self.lines {
-            if self.channels[line as usize].line.polarity().is_none() {
-                return true;
-            }
-        }
-        false
-    }
-
     // A change is played: the pulse that ends with it is told.
     fn play(&mut self, change: Change)
-        ensures { self.new.held ≡ self.old.held }
+        ensures held { self.new.held ≡ self.old.held }
+        ensures played { (place : ℕ) → PlaysOn self.old self.new change place }
     {
-        let line = change.line;
-        if line >= self.lines {
-            return;
-        }
-        let Some(pulse) = self.channels[line as usize].line.play(change.edge()) else {
+        let Some(pulse) = self.channels.play(change.line, change.edge()) else {
             return;
         };
-        let rise_us = self.time.at(pulse.rise_us);
-        if self.receiver.hear(line, rise_us, pulse.width_us) == 100 {
-            self.channels[line as usize].end_us = Some(pulse.rise_us.saturating_add(ELEMENT_US));
+        if self.tell(change.line, pulse) == 100 {
+            let end_us = pulse.rise_us.saturating_add(ELEMENT_US);
+            self.channels.ends_at(change.line, end_us);
             self.follow(pulse.rise_us);
         }
     }
 
+    // A pulse of a line is told: its place in its frame.
+    fn tell(&mut self, line: u8, pulse: Pulse) -> u8
+        ensures hears { HearsOn self.old.receiver self.new.receiver line
+            (lines_at self.old.time pulse.rise_us) pulse.width_us result }
+        ensures channels { self.new.channels ≡ self.old.channels }
+        ensures held { self.new.held ≡ self.old.held }
+    {
+        let rise_us = self.time.at(pulse.rise_us);
+        self.receiver.hear(line, rise_us, pulse.width_us)
+    }
+
     // From a time on a second is as long as that of the line in the middle.
     fn follow(&mut self, time_us: u64)
-        ensures { self.new.held ≡ self.old.held }
+        ensures receiver { self.new.receiver ≡ self.old.receiver }
+        ensures channels { self.new.channels ≡ self.old.channels }
+        ensures held { self.new.held ≡ self.old.held }
     {
-        if let Some(second_us) = self.middle_second_us() {
+        if let Some(second_us) = self.channels.second_us() {
             self.time.follow(time_us, second_us);
         }
     }
 
-    fn middle_second_us(&self) -> Option<u64> {
-        let mut seconds: ArrayVec<u64, 5> = ArrayVec::new();
-        for channel in &self.channels {
-            if let Some(second_us) = channel.second_us() {
-                let _ = seconds.try_push(second_us);
-            }
-        }
-        seconds.sort_unstable();
-        let count = seconds.len();
-        seconds.get(count.saturating_sub(1) / 2).copied()
-    }
-
-    fn second(&self, told: &ToldSecond) -> RecordedSecond {
+    fn second(&self, told: &ToldSecond) -> RecordedSecond
+        ensures { IsShownAs result told.now }
+    {
         RecordedSecond {
             edge_us: self.time.back(told.edge_us),
             lines_us: told.edge_us,
             beat: told.beat,
             vote: told.vote,
-            ends_us: [
-                self.channels[0].end_us,
-                self.channels[1].end_us,
-                self.channels[2].end_us,
-                self.channels[3].end_us,
-                self.channels[4].end_us,
-            ],
+            ends_us: self.channels.ends_us(),
         }
     }
 
@@ -266,6 +264,6 @@ impl<P: Port> Recording<P> {
     pub fn line(&self, line: u8) -> &Looks
         requires { line < 5 }
     {
-        &self.channels[line as usize].line.looks
+        self.channels.line(line)
     }
 }
