@@ -5,7 +5,8 @@ pub mod Receivers
 pub mod Passing
 pub mod RecordedLines
 pub mod Paces
-pub mod Helds
+pub mod Heard
 pub mod Changes
+pub mod Helds
 pub mod Channels
 pub mod Recordings

@@ -1,12 +1,13 @@
 -- A recording as it is played: the pulses that a timekeeper was told are those of its lines. Changes of a
 -- line, without glitches, are listed the newest first.
 -- Source: this project's profile.
-use Rattle.std.specs.Prelude.{◌≡◌, ℕ, ◌+◌, Bool, List, [], ◌∷◌, ◌++◌, drop, Option, Some, None, slice_get, ⊤}
+use Rattle.std.specs.Prelude.{◌≡◌, ℕ, ◌+◌, ◌≤◌, Bool, List, [], ◌∷◌, ◌++◌, drop, reverse, Option, Some, None, slice_get, IsTrue, ⊤}
 use Rattle.irig_port.specs.declared.port.Port.{Ghosts}
 use Rattle.irig_lines.specs.Delays.{delay_at}
 use Rattle.irig_timekeeper.specs.Life.{Call}
 use Rattle.irig_timekeeper.specs.Life.Call.{Hear, Tick}
 use Rattle.irig_timekeeper.specs.Lived.{MadeOf}
+use Rattle.record_levels.specs.declared.levels.Levels.{Levels}
 use Rattle.record_pulses.specs.declared.edge.Edge.{Edge}
 use Rattle.record_pulses.specs.declared.edge.Pulse.{Pulse}
 use Rattle.record_pulses.specs.Looks.{polarity_of}
@@ -17,7 +18,8 @@ use Rattle.record_lines.specs.declared.recording.Recording.{Recording}
 use Rattle.record_lines.specs.declared.second.RecordedSecond.{RecordedSecond}
 use Rattle.record_lines.specs.declared.told.ToldSecond.{ToldSecond}
 use Rattle.record_lines.specs.Changes.{changes_on, edge_of}
-use Rattle.record_lines.specs.Channels.{AreChannelsOf, and_played}
+use Rattle.record_lines.specs.Channels.{AreChannelsOf, AreChannelsTo, and_on, and_played, told_of_lines}
+use Rattle.record_lines.specs.Helds.{has_room, room}
 use Rattle.record_lines.specs.Paces.{lines_at}
 use Rattle.record_lines.specs.Receivers.{IsReceiverOf}
 use Rattle.record_lines.specs.Times.{risen_at}
@@ -51,6 +53,43 @@ pub record IsPlayedTo {P : Type 0} {g : Ghosts P} (r : Recording P g) (place : �
   pub told : AreOfLines made seen played calls
   pub wait : (line : ℕ)
       → seen line ≡ changes_on line (drop place r.held.changes.items) ++ played line
+
+-- the changes of each line the newest first, of those that are listed the oldest first
+abbrev pub newest : (ℕ → List Edge) → ℕ → List Edge
+newest seen line = reverse (seen line)
+
+-- more changes are seen, and those that were played, and all that was told since, are the same
+abbrev pub SeesMore : {P : Type 0} {g : Ghosts P} → (old new : Recording P g)
+    → (seen more played : ℕ → List Edge) → Type 0
+SeesMore old new seen more played =
+    (made : MadeOf) (start : ℕ) (calls : List Call)
+    → IsPlayedTo old old.held.played made start (newest seen) played calls
+    → IsPlayedTo new new.held.played made start (newest more) played calls
+
+-- levels were told of each line up to a time, of which these changes were seen
+pub record IsToldTo {P : Type 0} {g : Ghosts P} (old new : Recording P g) (glitch time : ℕ)
+    (told seen played : ℕ → List Edge)
+    : Type 0 where
+  pub more : ℕ → List Edge
+  pub are : AreChannelsTo new.channels glitch time told more played
+  pub sees : SeesMore old new seen more played
+
+-- a level more was told of a line
+abbrev pub IsToldLevel : {P : Type 0} {g : Ghosts P} → (old new : Recording P g) → (line : ℕ)
+    → (level : Edge) → Type 0
+IsToldLevel old new line level =
+    (glitch now : ℕ) (told seen played : ℕ → List Edge)
+    → AreChannelsTo old.channels glitch now told seen played → now ≤ level.time_ns
+    → 2 ≤ room old.held
+    → IsToldTo old new glitch level.time_ns (and_on line (level ∷ []) told) seen played
+
+-- levels were told that do not lie before those told last, and for which there was room
+abbrev pub IsToldLevels : {P : Type 0} {g : Ghosts P} → (old new : Recording P g) → Levels → Type 0
+IsToldLevels old new levels =
+    (glitch : ℕ) (told seen played : ℕ → List Edge)
+    → AreChannelsTo old.channels glitch old.now_ns told seen played
+    → old.now_ns ≤ levels.time_ns → IsTrue (has_room old.held)
+    → IsToldTo old new glitch levels.time_ns (told_of_lines old.lines levels told) seen played
 
 -- the change at a place is played: whatever was played before, it is played too
 abbrev pub PlaysOn : {P : Type 0} {g : Ghosts P} → (old new : Recording P g) → Change → (place : ℕ)

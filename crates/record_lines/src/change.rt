@@ -27,8 +27,7 @@ impl Change {
     pub(crate) fn of(line: u8, edge: Edge) -> Change
         requires { line < 5 }
         ensures line { result.line ≡ line }
-        ensures time { result.time_ns ≡ edge.time_ns }
-        ensures high { result.is_high ≡ edge.is_high }
+        ensures edge { edge_of result ≡ edge }
     {
         Change {
             line,

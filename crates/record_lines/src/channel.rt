@@ -2,6 +2,7 @@
 
 ghost use Rattle.std.specs.Prelude.{◌≡◌, ◌∷◌, List, None};
 ghost use Rattle.record_pulses.specs.Looks.{polarity_of};
+ghost use Rattle.record_lines.specs.Heard.{IsToldMore, RipensTo, SeesOn};
 ghost use Rattle.record_lines.specs.RecordedLines.{IsRecordedLine, pulse_by};
 
 use crate::line::RecordedLine;
@@ -26,24 +27,41 @@ impl Channel {
     }
 
     /// The change that waits is seen, and comes out, if its level has lasted long enough by a time.
-    pub(crate) fn ripen(&mut self, now_ns: u64) -> Option<Edge> {
-        self.steady.ripe(now_ns)?;
-        self.let_out()
+    pub(crate) fn ripen(&mut self, now_ns: u64) -> Option<Edge>
+        ensures { RipensTo self.old self.new now_ns result }
+    {
+        if self.steady.ripe(now_ns).is_none() {
+            return None;
+        }
+        let edge = self.steady.let_out();
+        self.see(edge);
+        edge
     }
 
     /// The change that waits is seen, and comes out.
     pub(crate) fn let_out(&mut self) -> Option<Edge> {
-        let edge = self.steady.let_out()?;
-        self.line.see(edge);
-        Some(edge)
+        let edge = self.steady.let_out();
+        self.see(edge);
+        edge
     }
 
     /// The line's next level: the change before it is seen, and comes out, if its level has lasted long
     /// enough.
-    pub(crate) fn change(&mut self, edge: Edge) -> Option<Edge> {
-        let edge = self.steady.change(edge)?;
-        self.line.see(edge);
-        Some(edge)
+    pub(crate) fn change(&mut self, level: Edge) -> Option<Edge>
+        ensures { IsToldMore self.old self.new level result }
+    {
+        let edge = self.steady.change(level);
+        self.see(edge);
+        edge
+    }
+
+    fn see(&mut self, edge: Option<Edge>)
+        ensures steady { self.new.steady ≡ self.old.steady }
+        ensures line { SeesOn self.old self.new edge }
+    {
+        if let Some(edge) = edge {
+            self.line.see(edge);
+        }
     }
 
     /// The next change is played: the pulse that ends with it by the line's polarity, if that is known.

@@ -2,7 +2,7 @@
 
 ghost use Rattle.std.specs.Prelude.{◌≡◌, ◌<◌, None, ℕ, List};
 ghost use Rattle.record_pulses.specs.Looks.{polarity_of};
-ghost use Rattle.record_lines.specs.Channels.{AreChannelsOf, and_played};
+ghost use Rattle.record_lines.specs.Channels.{AreChannelsOf, LineIsTold, LineRipens, and_played};
 ghost use Rattle.record_lines.specs.RecordedLines.{pulse_by};
 
 use crate::channel::Channel;
@@ -32,6 +32,7 @@ impl Channels {
     /// The change of a line that waits, if its level has lasted long enough by a time.
     pub(crate) fn ripen(&mut self, line: u8, now_ns: u64) -> Option<Edge>
         requires { line < 5 }
+        ensures { LineRipens self.old self.new line now_ns result }
     {
         self.all[line as usize].ripen(now_ns)
     }
@@ -44,10 +45,11 @@ impl Channels {
     }
 
     /// The next level of a line: the change before it, if its level has lasted long enough.
-    pub(crate) fn change(&mut self, line: u8, edge: Edge) -> Option<Edge>
+    pub(crate) fn change(&mut self, line: u8, level: Edge) -> Option<Edge>
         requires { line < 5 }
+        ensures { LineIsTold self.old self.new line level result }
     {
-        self.all[line as usize].change(edge)
+        self.all[line as usize].change(level)
     }
 
     /// The next change of a line is played: the pulse that ends with it by the line's polarity, if that is

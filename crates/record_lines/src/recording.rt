@@ -1,7 +1,8 @@
 //! A recording of lines, heard while its time passes.
 
-ghost use Rattle.std.specs.Prelude.{◌≡◌, ◌≤◌, ◌<◌, ◌+◌, IsTrue, None, true, false, ℕ};
+ghost use Rattle.std.specs.Prelude.{◌≡◌, ◌≤◌, ◌<◌, ◌+◌, IsTrue, None, true, false, ℕ, max};
 ghost use Rattle.irig_reader.specs.Rules.{IsReaderRules};
+ghost use Rattle.record_lines.specs.Channels.{level_in};
 
 use crate::change::{Change, Held};
 use crate::channels::Channels;
@@ -44,10 +45,10 @@ pub struct Recording<P: Port> {
 }
 
 impl<P: Port> Recording<P> {
-    ghost use Rattle.record_lines.specs.Helds.{has_room, room};
+    ghost use Rattle.record_lines.specs.Helds.{HoldsMore, has_room, room};
     ghost use Rattle.record_lines.specs.Paces.{lines_at};
     ghost use Rattle.record_lines.specs.Passing.{HearsOn, TicksUntil};
-    ghost use Rattle.record_lines.specs.Recordings.{IsShownAs, PlaysOn, PlaysUpTo, ShowsOn};
+    ghost use Rattle.record_lines.specs.Recordings.{IsShownAs, IsToldLevel, IsToldLevels, PlaysOn, PlaysUpTo, ShowsOn};
 
     /// A recording of which nothing was told, where a level lasts for so many nanoseconds or is a glitch;
     /// with reader's rules that are [`in_range`](irig_reader::in_range). Or the first fault of its setup,
@@ -75,39 +76,41 @@ impl<P: Port> Recording<P> {
 
     /// What the recording says from a time on. What lies before the levels told last is left out, and so
     /// is what finds no room, as [`next`](Self::next) was not called until it answered `None`.
-    pub fn levels(&mut self, levels: Levels) {
+    pub fn levels(&mut self, levels: Levels)
+        ensures told { IsToldLevels self.old self.new levels }
+        ensures time { self.new.now_ns ≡ max self.old.now_ns levels.time_ns }
+    {
         if levels.time_ns < self.now_ns {
             return;
         }
         self.now_ns = levels.time_ns;
         self.first_ns = Some(self.first_ns.unwrap_or(levels.time_ns));
         for line in 0..self.lines {
-            self.change(
-                line,
-                Edge {
-                    time_ns: levels.time_ns,
-                    is_high: levels.high >> line & 1 == 1,
-                },
-            );
+            self.change(line, level_in(levels, line));
         }
     }
 
     // A line's next level.
-    fn change(&mut self, line: u8, edge: Edge)
+    fn change(&mut self, line: u8, level: Edge)
         requires { line < 5 }
+        ensures told { IsToldLevel self.old self.new line level }
         ensures room { room self.old.held ≤ room self.new.held + 2 }
         ensures lines { self.new.lines ≡ self.old.lines }
+        ensures time { self.new.now_ns ≡ self.old.now_ns }
     {
-        let ripe = self.channels.ripen(line, edge.time_ns);
+        let ripe = self.channels.ripen(line, level.time_ns);
         self.hold(line, ripe);
-        let lasting = self.channels.change(line, edge);
+        let lasting = self.channels.change(line, level);
         self.hold(line, lasting);
     }
 
     fn hold(&mut self, line: u8, edge: Option<Edge>)
         requires { line < 5 }
-        ensures room { room self.old.held ≤ room self.new.held + 1 }
+        ensures holds { HoldsMore self.old.held self.new.held line edge }
         ensures lines { self.new.lines ≡ self.old.lines }
+        ensures channels { self.new.channels ≡ self.old.channels }
+        ensures receiver { self.new.receiver ≡ self.old.receiver }
+        ensures time { self.new.now_ns ≡ self.old.now_ns }
     {
         if let Some(edge) = edge {
             self.held.push(Change::of(line, edge));
@@ -265,5 +268,16 @@ impl<P: Port> Recording<P> {
         requires { line < 5 }
     {
         self.channels.line(line)
+    }
+}
+
+// What levels say of a line.
+fn level_in(levels: Levels, line: u8) -> Edge
+    requires { line < 5 }
+    ensures { result ≡ level_in levels line }
+{
+    Edge {
+        time_ns: levels.time_ns,
+        is_high: (levels.high >> line) % 2 == 1,
     }
 }
