@@ -7,7 +7,7 @@ use Rattle.irig_frame.proofs.WritingLaws.{get-set_same, get-set_other}
 use Rattle.record_pulses.specs.declared.edge.Edge.{Edge}
 use Rattle.record_lines.specs.declared.channel.Channel.{Channel}
 use Rattle.record_lines.specs.declared.channels.Channels.{Channels}
-use Rattle.record_lines.specs.Channels.{AreChannelsOf, AreChannelsTo, and_on, and_played}
+use Rattle.record_lines.specs.Channels.{AreAsSteady, AreChannelsOf, AreChannelsTo, and_on, and_played}
 use Rattle.record_lines.specs.Heard.{IsChannelTo, IsToldMore, RipensTo}
 use Rattle.record_lines.proofs.HeardLaws.{channel_later}
 use Rattle.record_lines.specs.RecordedLines.{IsRecordedLine}
@@ -70,3 +70,17 @@ module _ (old : Channels) (line : ℕ) (x was : Channel) (glitch now : ℕ) (tol
   told_on level edge later is = set_one (λ other c. IsChannelTo c glitch level.time_ns (and_on line (level ∷ []) told other) (and_on line (option_to_list edge) seen other) (played other)) old line x small
       (rw (eq-eqb line line refl) (is glitch now (told line) (seen line) (played line) (are line was at) later))
       (λ other c differs there. rw (ne_eqb line other differs) (channel_later c glitch now level.time_ns (told other) (seen other) (played other) (are other c there) later))
+
+-- one of the lines is as steady as it was, and the others are as they were
+pub as_steady : (old : Channels) (line : ℕ) (x was : Channel) → line < length old.all → slice_get old.all line ≡ Some was → x.steady ≡ was.steady → (other : ℕ) (channel : Channel) → slice_get (slice_set old.all line x) other ≡ Some channel
+    → (before : Channel) × (slice_get old.all other ≡ Some before) × (channel.steady ≡ before.steady)
+as_steady old line x was small at same = set_one (λ other c. (before : Channel) × (slice_get old.all other ≡ Some before) × (c.steady ≡ before.steady)) old line x small (was, at, same) (λ other c differs there. (c, there, refl))
+
+pub steady_on : (a b c : Channels) → AreAsSteady a b → AreAsSteady b c → AreAsSteady a c
+steady_on a b c first second line channel at =
+    let mid = second line channel at in
+    let was = first line mid.0 mid.1 in
+    (was.0, was.1, mid.2 ∙ was.2)
+
+pub steady_same : (a b : Channels) → b ≡ a → AreAsSteady a b
+steady_same a b same line channel at = (channel, ap (λ (c : Channels). slice_get c.all line) (sym same) ∙ at, refl)

@@ -56,3 +56,9 @@ level_in levels line = record {
 abbrev pub told_of_lines : (lines : ℕ) → Levels → (ℕ → List Edge) → ℕ → List Edge
 told_of_lines lines levels told line =
     if nat_lt line lines then told line ++ level_in levels line ∷ [] else told line
+
+-- of each line the same waits to be known as no glitch
+abbrev pub AreAsSteady : (old new : Channels) → Type 0
+AreAsSteady old new =
+    (line : ℕ) (channel : Channel) → slice_get new.all line ≡ Some channel
+    → (was : Channel) × (slice_get old.all line ≡ Some was) × (channel.steady ≡ was.steady)

@@ -70,13 +70,15 @@ impl Channel {
             → result ≡ pulse_by (polarity_of None seen) edge played }
         ensures new { (seen played : List Edge) → IsRecordedLine self.old.line None seen played
             → IsRecordedLine self.new.line None seen (edge ∷ played) }
+        ensures steady { self.new.steady ≡ self.old.steady }
     {
         self.line.play(edge)
     }
 
     /// A whole frame ends then.
     pub(crate) fn ends_at(&mut self, end_us: u64)
-        ensures { self.new.line ≡ self.old.line }
+        ensures line { self.new.line ≡ self.old.line }
+        ensures steady { self.new.steady ≡ self.old.steady }
     {
         self.end_us = Some(end_us);
     }

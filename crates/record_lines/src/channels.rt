@@ -2,7 +2,7 @@
 
 ghost use Rattle.std.specs.Prelude.{◌≡◌, ◌<◌, None, ℕ, List};
 ghost use Rattle.record_pulses.specs.Looks.{polarity_of};
-ghost use Rattle.record_lines.specs.Channels.{AreChannelsOf, LineIsTold, LineRipens, and_played};
+ghost use Rattle.record_lines.specs.Channels.{AreAsSteady, AreChannelsOf, LineIsTold, LineRipens, and_played};
 ghost use Rattle.record_lines.specs.RecordedLines.{pulse_by};
 
 use crate::channel::Channel;
@@ -60,6 +60,7 @@ impl Channels {
             → result ≡ pulse_by (polarity_of None (seen line)) edge (played line) }
         ensures new { (seen played : ℕ → List Edge) → AreChannelsOf self.old seen played
             → AreChannelsOf self.new seen (and_played line edge played) }
+        ensures steady { AreAsSteady self.old self.new }
     {
         self.all[line as usize].play(edge)
     }
@@ -67,7 +68,8 @@ impl Channels {
     /// A whole frame of a line ends then.
     pub(crate) fn ends_at(&mut self, line: u8, end_us: u64)
         requires { line < 5 }
-        ensures { (seen played : ℕ → List Edge) → AreChannelsOf self.old seen played
+        ensures steady { AreAsSteady self.old self.new }
+        ensures new { (seen played : ℕ → List Edge) → AreChannelsOf self.old seen played
             → AreChannelsOf self.new seen played }
     {
         self.all[line as usize].ends_at(end_us);

@@ -2,7 +2,7 @@
 
 ghost use Rattle.std.specs.Prelude.{◌≡◌, ◌≤◌, ◌<◌, ◌+◌, IsTrue, None, true, false, ℕ, max};
 ghost use Rattle.irig_reader.specs.Rules.{IsReaderRules};
-ghost use Rattle.record_lines.specs.Channels.{level_in};
+ghost use Rattle.record_lines.specs.Channels.{AreAsSteady, level_in};
 
 use crate::change::{Change, Held};
 use crate::channels::Channels;
@@ -129,6 +129,8 @@ impl<P: Port> Recording<P> {
     /// The next second that the recording shows by what was told of it; `None` until more is told. It is
     /// to be called until then, after each levels and after the end.
     pub fn next(&mut self) -> Option<RecordedSecond>
+        ensures steady { AreAsSteady self.old.channels self.new.channels }
+        ensures time { self.new.now_ns ≡ self.old.now_ns }
         ensures shows { ShowsOn self.old self.new result }
         ensures room { result ≡ None → IsTrue (has_room self.new.held) }
     {
@@ -139,6 +141,8 @@ impl<P: Port> Recording<P> {
     }
 
     fn next_told(&mut self) -> Option<ToldSecond>
+        ensures steady { AreAsSteady self.old.channels self.new.channels }
+        ensures time { self.new.now_ns ≡ self.old.now_ns }
         ensures plays { PlaysUpTo self.old self.new result }
         ensures room { result ≡ None → IsTrue (has_room self.new.held) }
     {
@@ -154,6 +158,8 @@ impl<P: Port> Recording<P> {
 
     // Plays the changes that wait, up to one before which a tick tells a second.
     fn play_held(&mut self) -> Option<ToldSecond>
+        ensures steady { AreAsSteady self.old.channels self.new.channels }
+        ensures time { self.new.now_ns ≡ self.old.now_ns }
         ensures plays { PlaysUpTo self.old self.new result }
         ensures room { result ≡ None → IsTrue (has_room self.new.held) }
     {
@@ -172,6 +178,7 @@ impl<P: Port> Recording<P> {
 
     // Time passes to the end, if that was told.
     fn pass_to_end(&mut self) -> Option<ToldSecond>
+        ensures time { self.new.now_ns ≡ self.old.now_ns }
         ensures ticks { TicksUntil self.old.receiver self.new.receiver result }
         ensures channels { self.new.channels ≡ self.old.channels }
         ensures held { self.new.held ≡ self.old.held }
@@ -182,6 +189,7 @@ impl<P: Port> Recording<P> {
 
     // Whether changes are played: from here on, if they wait no longer.
     fn is_begun(&mut self) -> bool
+        ensures time { self.new.now_ns ≡ self.old.now_ns }
         ensures receiver { self.new.receiver ≡ self.old.receiver }
         ensures channels { self.new.channels ≡ self.old.channels }
         ensures held { self.new.held ≡ self.old.held }
@@ -216,6 +224,8 @@ impl<P: Port> Recording<P> {
 
     // A change is played: the pulse that ends with it is told.
     fn play(&mut self, change: Change)
+        ensures steady { AreAsSteady self.old.channels self.new.channels }
+        ensures time { self.new.now_ns ≡ self.old.now_ns }
         ensures held { self.new.held ≡ self.old.held }
         ensures played { (place : ℕ) → PlaysOn self.old self.new change place }
     {
@@ -231,6 +241,7 @@ impl<P: Port> Recording<P> {
 
     // A pulse of a line is told: its place in its frame.
     fn tell(&mut self, line: u8, pulse: Pulse) -> u8
+        ensures time { self.new.now_ns ≡ self.old.now_ns }
         ensures hears { HearsOn self.old.receiver self.new.receiver line
             (lines_at self.old.time pulse.rise_us) pulse.width_us result }
         ensures channels { self.new.channels ≡ self.old.channels }
@@ -242,6 +253,7 @@ impl<P: Port> Recording<P> {
 
     // From a time on a second is as long as that of the line in the middle.
     fn follow(&mut self, time_us: u64)
+        ensures time { self.new.now_ns ≡ self.old.now_ns }
         ensures receiver { self.new.receiver ≡ self.old.receiver }
         ensures channels { self.new.channels ≡ self.old.channels }
         ensures held { self.new.held ≡ self.old.held }
