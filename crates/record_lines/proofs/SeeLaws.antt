@@ -80,6 +80,7 @@ told_still : (made : MadeOf) (line : ℕ) (edge : Option Edge) (seen played : �
 told_still made line edge seen played [] are = tt
 told_still made line edge seen played (Hear other rise width ∷ calls) are = (
   record {
+    there = are.0.there;
     polarity = are.0.polarity;
     known = known_of line other edge seen are.0.polarity are.0.known;
     pulse = are.0.pulse;

@@ -1,7 +1,7 @@
 -- A recording as it is played: the pulses that a timekeeper was told are those of its lines. Changes of a
 -- line, without glitches, are listed the newest first.
 -- Source: this project's profile.
-use Rattle.std.specs.Prelude.{◌≡◌, ℕ, ◌+◌, ◌≤◌, Bool, List, [], ◌∷◌, ◌++◌, drop, reverse, Option, Some, None, slice_get, IsTrue, ⊤}
+use Rattle.std.specs.Prelude.{◌≡◌, ℕ, ◌+◌, ◌<◌, ◌≤◌, Bool, List, [], ◌∷◌, ◌++◌, drop, reverse, Option, Some, None, slice_get, IfSome, IsTrue, ⊤}
 use Rattle.irig_port.specs.declared.port.Port.{Ghosts}
 use Rattle.irig_lines.specs.Delays.{delay_at}
 use Rattle.irig_timekeeper.specs.Life.{Call}
@@ -11,6 +11,7 @@ use Rattle.record_levels.specs.declared.levels.Levels.{Levels}
 use Rattle.record_pulses.specs.declared.edge.Edge.{Edge}
 use Rattle.record_pulses.specs.declared.edge.Pulse.{Pulse}
 use Rattle.record_pulses.specs.Looks.{polarity_of}
+use Rattle.record_pulses.specs.Glitches.{without_glitches}
 use Rattle.record_pulses.specs.Pulses.{IsOneOf, pulses_of}
 use Rattle.record_lines.specs.declared.change.Change.{Change}
 use Rattle.record_lines.specs.declared.pace.LinesTime.{LinesTime}
@@ -28,6 +29,7 @@ use Rattle.record_lines.specs.ToldSeconds.{IsToldAfter}
 -- a timekeeper was told a pulse of a line: it is one of those that its changes make by the line's polarity,
 -- is as wide, and rose at the lines' time of its rise
 pub record IsOfLine (made : MadeOf) (seen played : ℕ → List Edge) (line rise width : ℕ) : Type 0 where
+  pub there : line < 5
   pub polarity : Bool
   pub known : polarity_of None (seen line) ≡ Some polarity
   pub pulse : Pulse
@@ -131,9 +133,52 @@ pub record IsShownAs (second : RecordedSecond) (told : ToldSecond) : Type 0 wher
   pub beat : second.beat ≡ told.beat
   pub vote : second.vote ≡ told.vote
 
--- what is shown next was told, or nothing was
-abbrev pub ShowsOn : {P : Type 0} {g : Ghosts P} → (old new : Recording P g) → Option RecordedSecond
-    → Type 0
-ShowsOn old new None = PlaysUpTo old new None
-ShowsOn old new (Some second) =
-    (told : ToldSecond) × IsShownAs second told × PlaysUpTo old new (Some told)
+-- ---- what was told of a recording
+
+-- a recording whose timekeeper was made of this, where a level lasts for so long or is a glitch, and to
+-- whose lines these levels were told, the oldest first
+pub record IsRecordingOf {P : Type 0} {g : Ghosts P} (r : Recording P g) (made : MadeOf) (glitch : ℕ)
+    (told : ℕ → List Edge)
+    : Type 0 where
+  pub seen : ℕ → List Edge
+  pub played : ℕ → List Edge
+  pub calls : List Call
+  pub channels : AreChannelsTo r.channels glitch r.now_ns told seen played
+  pub is : IsPlayedTo r r.held.played made 0 (newest seen) played calls
+
+-- a timekeeper was told a pulse that a line has by its levels without glitches: it is as wide, and it rose
+-- at a lines' time of its rise
+pub record IsOfLevels (made : MadeOf) (glitch : ℕ) (told : ℕ → List Edge) (line rise width : ℕ)
+    : Type 0 where
+  pub polarity : Bool
+  pub pulse : Pulse
+  pub of : IsOneOf pulse (pulses_of polarity (reverse (without_glitches glitch (told line))))
+  pub wide : width ≡ pulse.width_us
+  pub time : LinesTime
+  pub rises : risen_at (lines_at time pulse.rise_us) (delay_at made.clock.delays line) ≡ Some rise
+
+-- so is each that it was told
+abbrev pub AreOfLevels : MadeOf → (glitch : ℕ) → (told : ℕ → List Edge) → List Call → Type 0
+AreOfLevels made glitch told [] = ⊤
+AreOfLevels made glitch told (Hear line rise width ∷ calls) =
+    IsOfLevels made glitch told line rise width × AreOfLevels made glitch told calls
+AreOfLevels made glitch told (Tick now ∷ calls) = AreOfLevels made glitch told calls
+
+-- a second that is shown was told by a timekeeper after such pulses alone
+pub record IsCarriedBy (made : MadeOf) (glitch : ℕ) (told : ℕ → List Edge) (second : RecordedSecond)
+    : Type 0 where
+  pub at : ToldSecond
+  pub shown : IsShownAs second at
+  pub calls : List Call
+  pub tells : IsToldAfter made calls at
+  pub are : AreOfLevels made glitch told calls
+
+-- more was played, and nothing told: whatever was told of it before, it is a recording of that, and what is
+-- shown is carried by that
+pub record IsPlayedOn {P : Type 0} {g : Ghosts P} (old new : Recording P g)
+    (shown : Option RecordedSecond)
+    : Type 0 where
+  pub is : (made : MadeOf) (glitch : ℕ) (told : ℕ → List Edge) → IsRecordingOf old made glitch told
+      → IsRecordingOf new made glitch told
+  pub carried : (made : MadeOf) (glitch : ℕ) (told : ℕ → List Edge) → IsRecordingOf old made glitch told
+      → IfSome shown (IsCarriedBy made glitch told)

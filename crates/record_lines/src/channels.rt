@@ -1,8 +1,7 @@
 //! The lines of a recording.
 
-ghost use Rattle.std.specs.Prelude.{◌≡◌, ◌<◌, None, ℕ, List};
+ghost use Rattle.std.specs.Prelude.{◌≡◌, ◌<◌, None, ℕ, List, length};
 ghost use Rattle.record_pulses.specs.Looks.{polarity_of};
-ghost use Rattle.record_lines.specs.Channels.{AreAsSteady, AreChannelsOf, LineIsTold, LineRipens, and_played};
 ghost use Rattle.record_lines.specs.RecordedLines.{pulse_by};
 
 use crate::channel::Channel;
@@ -13,9 +12,12 @@ use record_pulses::{Edge, Looks, Pulse};
 #[derive(Drop)]
 pub(crate) struct Channels {
     pub(crate) all: [Channel; 5],
+    ghost five: { length all ≡ 5 },
 }
 
 impl Channels {
+    ghost use Rattle.record_lines.specs.Channels.{AreAsSteady, AreChannelsOf, LineIsTold, LineRipens, and_played};
+
     /// Lines of which nothing came, where a level lasts for so many nanoseconds or is a glitch.
     pub(crate) fn new(glitch_ns: u64) -> Channels {
         Channels {

@@ -48,7 +48,7 @@ impl<P: Port> Recording<P> {
     ghost use Rattle.record_lines.specs.Helds.{HoldsMore, has_room, room};
     ghost use Rattle.record_lines.specs.Paces.{lines_at};
     ghost use Rattle.record_lines.specs.Passing.{HearsOn, TicksUntil};
-    ghost use Rattle.record_lines.specs.Recordings.{IsShownAs, IsToldLevel, IsToldLevels, PlaysOn, PlaysUpTo, ShowsOn};
+    ghost use Rattle.record_lines.specs.Recordings.{IsPlayedOn, IsShownAs, IsToldLevel, IsToldLevels, PlaysOn, PlaysUpTo};
 
     /// A recording of which nothing was told, where a level lasts for so many nanoseconds or is a glitch;
     /// with reader's rules that are [`in_range`](irig_reader::in_range). Or the first fault of its setup,
@@ -129,9 +129,8 @@ impl<P: Port> Recording<P> {
     /// The next second that the recording shows by what was told of it; `None` until more is told. It is
     /// to be called until then, after each levels and after the end.
     pub fn next(&mut self) -> Option<RecordedSecond>
-        ensures steady { AreAsSteady self.old.channels self.new.channels }
+        ensures played { IsPlayedOn self.old self.new result }
         ensures time { self.new.now_ns ≡ self.old.now_ns }
-        ensures shows { ShowsOn self.old self.new result }
         ensures room { result ≡ None → IsTrue (has_room self.new.held) }
     {
         match self.next_told() {
