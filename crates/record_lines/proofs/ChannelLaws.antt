@@ -8,7 +8,7 @@ use Rattle.record_pulses.specs.declared.edge.Edge.{Edge}
 use Rattle.record_lines.specs.declared.channel.Channel.{Channel}
 use Rattle.record_lines.specs.declared.channels.Channels.{Channels}
 use Rattle.record_lines.specs.Channels.{AreAsSteady, AreChannelsOf, AreChannelsTo, and_on, and_played}
-use Rattle.record_lines.specs.Heard.{IsChannelTo, IsToldMore, RipensTo}
+use Rattle.record_lines.specs.Heard.{EndsOn, IsChannelTo, IsToldMore, RipensTo}
 use Rattle.record_lines.proofs.HeardLaws.{channel_later}
 use Rattle.record_lines.specs.RecordedLines.{IsRecordedLine}
 
@@ -58,16 +58,16 @@ module _ (R : ℕ → Channel → Type 0) (old : Channels) (line : ℕ) (x : Cha
         others other channel not_here (sym (get-set_other old.all line other x not_here) ∙ at)
   ]
 
-module _ (old : Channels) (line : ℕ) (x was : Channel) (glitch now : ℕ) (told seen played : ℕ → List Edge) (are : AreChannelsTo old glitch now told seen played) (small : line < length old.all) (at : slice_get old.all line ≡ Some was) where
+module _ (old : Channels) (line : ℕ) (x was : Channel) (glitch now : ℕ) (told seen played : ℕ → List Edge) (are : AreChannelsTo old glitch (Some now) told seen played) (small : line < length old.all) (at : slice_get old.all line ≡ Some was) where
   pub ripens_on : (time : ℕ) (edge : Option Edge) → now ≤ time → RipensTo was x time edge → (other : ℕ) (channel : Channel) → slice_get (slice_set old.all line x) other ≡ Some channel
-      → IsChannelTo channel glitch time (told other) (and_on line (option_to_list edge) seen other) (played other)
-  ripens_on time edge later ripens = set_one (λ other c. IsChannelTo c glitch time (told other) (and_on line (option_to_list edge) seen other) (played other)) old line x small
+      → IsChannelTo channel glitch (Some time) (told other) (and_on line (option_to_list edge) seen other) (played other)
+  ripens_on time edge later ripens = set_one (λ other c. IsChannelTo c glitch (Some time) (told other) (and_on line (option_to_list edge) seen other) (played other)) old line x small
       (rw (eq-eqb line line refl) (ripens glitch now (told line) (seen line) (played line) (are line was at) later))
       (λ other c differs there. rw (ne_eqb line other differs) (channel_later c glitch now time (told other) (seen other) (played other) (are other c there) later))
 
   pub told_on : (level : Edge) (edge : Option Edge) → now ≤ level.time_ns → IsToldMore was x level edge → (other : ℕ) (channel : Channel) → slice_get (slice_set old.all line x) other ≡ Some channel
-      → IsChannelTo channel glitch level.time_ns (and_on line (level ∷ []) told other) (and_on line (option_to_list edge) seen other) (played other)
-  told_on level edge later is = set_one (λ other c. IsChannelTo c glitch level.time_ns (and_on line (level ∷ []) told other) (and_on line (option_to_list edge) seen other) (played other)) old line x small
+      → IsChannelTo channel glitch (Some level.time_ns) (and_on line (level ∷ []) told other) (and_on line (option_to_list edge) seen other) (played other)
+  told_on level edge later is = set_one (λ other c. IsChannelTo c glitch (Some level.time_ns) (and_on line (level ∷ []) told other) (and_on line (option_to_list edge) seen other) (played other)) old line x small
       (rw (eq-eqb line line refl) (is glitch now (told line) (seen line) (played line) (are line was at) later))
       (λ other c differs there. rw (ne_eqb line other differs) (channel_later c glitch now level.time_ns (told other) (seen other) (played other) (are other c there) later))
 
@@ -84,3 +84,11 @@ steady_on a b c first second line channel at =
 
 pub steady_same : (a b : Channels) → b ≡ a → AreAsSteady a b
 steady_same a b same line channel at = (channel, ap (λ (c : Channels). slice_get c.all line) (sym same) ∙ at, refl)
+
+-- what waited on a line comes out at the end
+pub ends_on : (old : Channels) (line : ℕ) (x was : Channel) (glitch : ℕ) (told seen played : ℕ → List Edge) → AreChannelsTo old glitch None told seen played → line < length old.all → slice_get old.all line ≡ Some was → (edge : Option Edge)
+    → EndsOn was x edge → (other : ℕ) (channel : Channel) → slice_get (slice_set old.all line x) other ≡ Some channel → IsChannelTo channel glitch None (told other) (and_on line (option_to_list edge) seen other) (played other)
+ends_on old line x was glitch told seen played are small at edge ends =
+    set_one (λ other c. IsChannelTo c glitch None (told other) (and_on line (option_to_list edge) seen other) (played other)) old line x small
+    (rw (eq-eqb line line refl) (ends glitch (told line) (seen line) (played line) (are line was at)))
+    (λ other c differs there. rw (ne_eqb line other differs) (are other c there))

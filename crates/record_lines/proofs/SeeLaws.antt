@@ -103,8 +103,8 @@ newest_of line other edge seen = elim (cases_Bool (line == other)) [
   | inr differs ↦ rw differs refl
 ]
 
-module _ {P : Type 0} {g : Ghosts P} (old new : Recording P g) (line : ℕ) (edge : Option Edge) (glitch time : ℕ) (told seen played : ℕ → List Edge) (receiver : new.receiver ≡ old.receiver) (holds : HoldsMore old.held new.held line edge) (has : 0 < room old.held)
-    (are : AreChannelsTo new.channels glitch time told (and_on line (option_to_list edge) seen) played) where
+module _ {P : Type 0} {g : Ghosts P} (old new : Recording P g) (line : ℕ) (edge : Option Edge) (glitch : ℕ) (until : Option ℕ) (told seen played : ℕ → List Edge) (receiver : new.receiver ≡ old.receiver) (holds : HoldsMore old.held new.held line edge) (has : 0 < room old.held)
+    (are : AreChannelsTo new.channels glitch until told (and_on line (option_to_list edge) seen) played) where
   pub sees_on : SeesMore old new seen (and_on line (option_to_list edge) seen) played
   sees_on made start calls is = record {
     receiver = subst (λ r. IsReceiverOf r made start calls) (sym receiver) is.receiver;
@@ -121,11 +121,11 @@ module _ {P : Type 0} {g : Ghosts P} (old new : Recording P g) (line : ℕ) (edg
 -- ---- a level
 
 -- what is told and seen of each line may be said in another way
-pub said_so : (channels : Channels) (glitch time : ℕ) (told other seen played : ℕ → List Edge) → ((line : ℕ) → told line ≡ other line) → AreChannelsTo channels glitch time told seen played → AreChannelsTo channels glitch time other seen played
-said_so channels glitch time told other seen played same are line channel at = subst (λ xs. IsChannelTo channel glitch time xs (seen line) (played line)) (same line) (are line channel at)
+pub said_so : (channels : Channels) (glitch : ℕ) (until : Option ℕ) (told other seen played : ℕ → List Edge) → ((line : ℕ) → told line ≡ other line) → AreChannelsTo channels glitch until told seen played → AreChannelsTo channels glitch until other seen played
+said_so channels glitch until told other seen played same are line channel at = subst (λ xs. IsChannelTo channel glitch until xs (seen line) (played line)) (same line) (are line channel at)
 
 -- time passes, and nothing is told
-pub all_later : (channels : Channels) (glitch now time : ℕ) (told seen played : ℕ → List Edge) → AreChannelsTo channels glitch now told seen played → now ≤ time → AreChannelsTo channels glitch time told seen played
+pub all_later : (channels : Channels) (glitch now time : ℕ) (told seen played : ℕ → List Edge) → AreChannelsTo channels glitch (Some now) told seen played → now ≤ time → AreChannelsTo channels glitch (Some time) told seen played
 all_later channels glitch now time told seen played are later line channel at = channel_later channel glitch now time (told line) (seen line) (played line) (are line channel at) later
 
 -- a level of a line is told: what was ripe is seen, and what comes out with it
@@ -135,15 +135,15 @@ pub told_level : {P : Type 0} {g : Ghosts P} (old mid new : Recording P g) (ripe
 told_level old mid new ripened told_more line level ripe lasting ripens at_mid receiver holds told at_new receiver_new holds_new glitch now all seen played are later has =
     let first = and_on line (option_to_list ripe) seen in
     let then_seen = and_on line (option_to_list lasting) first in
-    let are_mid = subst (λ c. AreChannelsTo c glitch level.time_ns all first played) (sym at_mid) (ripens glitch now all seen played are later) in
-    let are_new = subst (λ c. AreChannelsTo c glitch level.time_ns (and_on line (level ∷ []) all) then_seen played) (sym at_new) (told glitch level.time_ns all first played are_mid (omega arith)) in
+    let are_mid = subst (λ c. AreChannelsTo c glitch (Some level.time_ns) all first played) (sym at_mid) (ripens glitch now all seen played are later) in
+    let are_new = subst (λ c. AreChannelsTo c glitch (Some level.time_ns) (and_on line (level ∷ []) all) then_seen played) (sym at_new) (told glitch level.time_ns all first played are_mid (omega arith)) in
     let fits = holds.fits in
     record {
       more = then_seen;
       are = are_new;
       sees = λ made start calls is.
-          sees_on mid new line lasting glitch level.time_ns (and_on line (level ∷ []) all) first played receiver_new holds_new (omega (arith, has, fits)) are_new made start calls
-          (sees_on old mid line ripe glitch level.time_ns all seen played receiver holds (omega (arith, has)) are_mid made start calls is);
+          sees_on mid new line lasting glitch (Some level.time_ns) (and_on line (level ∷ []) all) first played receiver_new holds_new (omega (arith, has, fits)) are_new made start calls
+          (sees_on old mid line ripe glitch (Some level.time_ns) all seen played receiver holds (omega (arith, has)) are_mid made start calls is);
     }
 
 -- ---- levels of all lines
@@ -173,8 +173,8 @@ pub record HasTold {P : Type 0} {g : Ghosts P} (old now : Recording P g) (levels
   pub within : lines ≤ last
   pub same : now.lines ≡ old.lines
   pub time : now.now_ns ≡ levels.time_ns
-  pub told : (glitch : ℕ) (told seen played : ℕ → List Edge) → AreChannelsTo old.channels glitch old.now_ns told seen played → old.now_ns ≤ levels.time_ns → IsTrue (has_room old.held)
-      → IsToldTo old now glitch levels.time_ns (told_of_lines lines levels told) seen played
+  pub told : (glitch : ℕ) (told seen played : ℕ → List Edge) → AreChannelsTo old.channels glitch (Some old.now_ns) told seen played → old.now_ns ≤ levels.time_ns → IsTrue (has_room old.held)
+      → IsToldTo old now glitch (Some levels.time_ns) (told_of_lines lines levels told) seen played
   pub fits : IsTrue (has_room old.held) → 2 * (last - lines) ≤ room now.held
 
 has_ten : (h : Held) → IsTrue (has_room h) → 10 ≤ room h
@@ -189,8 +189,8 @@ told_none old now levels last last_is few same channels receiver held time = rec
   same = same;
   told = λ glitch told seen played are later has. record {
     more = seen;
-    are = said_so now.channels glitch levels.time_ns told (told_of_lines 0 levels told) seen played (λ line. none_yet told line)
-        (subst (λ c. AreChannelsTo c glitch levels.time_ns told seen played) (sym channels) (all_later old.channels glitch old.now_ns levels.time_ns told seen played are later));
+    are = said_so now.channels glitch (Some levels.time_ns) told (told_of_lines 0 levels told) seen played (λ line. none_yet told line)
+        (subst (λ c. AreChannelsTo c glitch (Some levels.time_ns) told seen played) (sym channels) (all_later old.channels glitch old.now_ns levels.time_ns told seen played are later));
     sees = λ made start calls is. same_played old now made start (newest seen) played calls is receiver channels held;
   };
   fits = λ has. let ten = has_ten old.held has in let it = ap room held in omega (arith, ten, few, it);
@@ -214,8 +214,8 @@ told_one old mid new levels line last level has less is one fits same time_same 
       let on = one glitch levels.time_ns (told_of_lines line levels told) before.more played before.are time (omega (arith, left, less)) in
       record {
         more = on.more;
-        are = said_so new.channels glitch levels.time_ns (and_on line (level_in levels line ∷ []) (told_of_lines line levels told)) (told_of_lines (line + 1) levels told) on.more played (next_line levels told line)
-            (subst (λ (e : Edge). AreChannelsTo new.channels glitch e.time_ns (and_on line (e ∷ []) (told_of_lines line levels told)) on.more played) is on.are);
+        are = said_so new.channels glitch (Some levels.time_ns) (and_on line (level_in levels line ∷ []) (told_of_lines line levels told)) (told_of_lines (line + 1) levels told) on.more played (next_line levels told line)
+            (subst (λ (e : Edge). AreChannelsTo new.channels glitch (Some e.time_ns) (and_on line (e ∷ []) (told_of_lines line levels told)) on.more played) is on.are);
         sees = λ made start calls played_to. on.sees made start calls (before.sees made start calls played_to);
       };
   fits = λ roomy. let left = has.fits roomy in omega (arith, left, fits, less);
@@ -224,4 +224,4 @@ told_one old mid new levels line last level has less is one fits same time_same 
 pub told_all : {P : Type 0} {g : Ghosts P} (old now : Recording P g) (levels : Levels) (line last : ℕ) → HasTold old now levels line last → last ≤ line → IsToldLevels old now levels
 told_all old now levels line last has end glitch told seen played are later roomy =
     let all : line ≡ old.lines = let w = has.within in let l = has.last_is in omega (arith, w, l, end) in
-    subst (λ n. IsToldTo old now glitch levels.time_ns (told_of_lines n levels told) seen played) all (has.told glitch told seen played are later roomy)
+    subst (λ n. IsToldTo old now glitch (Some levels.time_ns) (told_of_lines n levels told) seen played) all (has.told glitch told seen played are later roomy)

@@ -68,12 +68,12 @@ SeesMore old new seen more played =
     → IsPlayedTo old old.held.played made start (newest seen) played calls
     → IsPlayedTo new new.held.played made start (newest more) played calls
 
--- levels were told of each line up to a time, of which these changes were seen
-pub record IsToldTo {P : Type 0} {g : Ghosts P} (old new : Recording P g) (glitch time : ℕ)
-    (told seen played : ℕ → List Edge)
+-- levels were told of each line up to a time or to the end, of which these changes were seen
+pub record IsToldTo {P : Type 0} {g : Ghosts P} (old new : Recording P g) (glitch : ℕ)
+    (until : Option ℕ) (told seen played : ℕ → List Edge)
     : Type 0 where
   pub more : ℕ → List Edge
-  pub are : AreChannelsTo new.channels glitch time told more played
+  pub are : AreChannelsTo new.channels glitch until told more played
   pub sees : SeesMore old new seen more played
 
 -- a level more was told of a line
@@ -81,17 +81,18 @@ abbrev pub IsToldLevel : {P : Type 0} {g : Ghosts P} → (old new : Recording P 
     → (level : Edge) → Type 0
 IsToldLevel old new line level =
     (glitch now : ℕ) (told seen played : ℕ → List Edge)
-    → AreChannelsTo old.channels glitch now told seen played → now ≤ level.time_ns
+    → AreChannelsTo old.channels glitch (Some now) told seen played → now ≤ level.time_ns
     → 2 ≤ room old.held
-    → IsToldTo old new glitch level.time_ns (and_on line (level ∷ []) told) seen played
+    → IsToldTo old new glitch (Some level.time_ns) (and_on line (level ∷ []) told) seen played
 
 -- levels were told that do not lie before those told last, and for which there was room
 abbrev pub IsToldLevels : {P : Type 0} {g : Ghosts P} → (old new : Recording P g) → Levels → Type 0
 IsToldLevels old new levels =
     (glitch : ℕ) (told seen played : ℕ → List Edge)
-    → AreChannelsTo old.channels glitch old.now_ns told seen played
+    → AreChannelsTo old.channels glitch (Some old.now_ns) told seen played
     → old.now_ns ≤ levels.time_ns → IsTrue (has_room old.held)
-    → IsToldTo old new glitch levels.time_ns (told_of_lines old.lines levels told) seen played
+    → IsToldTo old new glitch (Some levels.time_ns) (told_of_lines old.lines levels told) seen
+    played
 
 -- the change at a place is played: whatever was played before, it is played too
 abbrev pub PlaysOn : {P : Type 0} {g : Ghosts P} → (old new : Recording P g) → Change → (place : ℕ)
@@ -135,6 +136,11 @@ pub record IsShownAs (second : RecordedSecond) (told : ToldSecond) : Type 0 wher
 
 -- ---- what was told of a recording
 
+-- up to when a recording was told, unless it has ended
+abbrev pub until_of : (ended : Option ℕ) → (now : ℕ) → Option ℕ
+until_of None now = Some now
+until_of (Some time) now = None
+
 -- a recording whose timekeeper was made of this, where a level lasts for so long or is a glitch, and to
 -- whose lines these levels were told, the oldest first
 pub record IsRecordingOf {P : Type 0} {g : Ghosts P} (r : Recording P g) (made : MadeOf) (glitch : ℕ)
@@ -143,7 +149,7 @@ pub record IsRecordingOf {P : Type 0} {g : Ghosts P} (r : Recording P g) (made :
   pub seen : ℕ → List Edge
   pub played : ℕ → List Edge
   pub calls : List Call
-  pub channels : AreChannelsTo r.channels glitch r.now_ns told seen played
+  pub channels : AreChannelsTo r.channels glitch (until_of r.end_us r.now_ns) told seen played
   pub is : IsPlayedTo r r.held.played made 0 (newest seen) played calls
 
 -- a timekeeper was told a pulse that a line has by its levels without glitches: it is as wide, and it rose

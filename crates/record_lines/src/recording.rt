@@ -131,6 +131,7 @@ impl<P: Port> Recording<P> {
     pub fn next(&mut self) -> Option<RecordedSecond>
         ensures played { IsPlayedOn self.old self.new result }
         ensures time { self.new.now_ns ≡ self.old.now_ns }
+        ensures end { self.new.end_us ≡ self.old.end_us }
         ensures room { result ≡ None → IsTrue (has_room self.new.held) }
     {
         match self.next_told() {
@@ -142,6 +143,7 @@ impl<P: Port> Recording<P> {
     fn next_told(&mut self) -> Option<ToldSecond>
         ensures steady { AreAsSteady self.old.channels self.new.channels }
         ensures time { self.new.now_ns ≡ self.old.now_ns }
+        ensures end { self.new.end_us ≡ self.old.end_us }
         ensures plays { PlaysUpTo self.old self.new result }
         ensures room { result ≡ None → IsTrue (has_room self.new.held) }
     {
@@ -159,6 +161,7 @@ impl<P: Port> Recording<P> {
     fn play_held(&mut self) -> Option<ToldSecond>
         ensures steady { AreAsSteady self.old.channels self.new.channels }
         ensures time { self.new.now_ns ≡ self.old.now_ns }
+        ensures end { self.new.end_us ≡ self.old.end_us }
         ensures plays { PlaysUpTo self.old self.new result }
         ensures room { result ≡ None → IsTrue (has_room self.new.held) }
     {
@@ -178,6 +181,7 @@ impl<P: Port> Recording<P> {
     // Time passes to the end, if that was told.
     fn pass_to_end(&mut self) -> Option<ToldSecond>
         ensures time { self.new.now_ns ≡ self.old.now_ns }
+        ensures end { self.new.end_us ≡ self.old.end_us }
         ensures ticks { TicksUntil self.old.receiver self.new.receiver result }
         ensures channels { self.new.channels ≡ self.old.channels }
         ensures held { self.new.held ≡ self.old.held }
@@ -189,6 +193,7 @@ impl<P: Port> Recording<P> {
     // Whether changes are played: from here on, if they wait no longer.
     fn is_begun(&mut self) -> bool
         ensures time { self.new.now_ns ≡ self.old.now_ns }
+        ensures end { self.new.end_us ≡ self.old.end_us }
         ensures receiver { self.new.receiver ≡ self.old.receiver }
         ensures channels { self.new.channels ≡ self.old.channels }
         ensures held { self.new.held ≡ self.old.held }
@@ -225,6 +230,7 @@ impl<P: Port> Recording<P> {
     fn play(&mut self, change: Change)
         ensures steady { AreAsSteady self.old.channels self.new.channels }
         ensures time { self.new.now_ns ≡ self.old.now_ns }
+        ensures end { self.new.end_us ≡ self.old.end_us }
         ensures held { self.new.held ≡ self.old.held }
         ensures played { (place : ℕ) → PlaysOn self.old self.new change place }
     {
@@ -241,6 +247,7 @@ impl<P: Port> Recording<P> {
     // A pulse of a line is told: its place in its frame.
     fn tell(&mut self, line: u8, pulse: Pulse) -> u8
         ensures time { self.new.now_ns ≡ self.old.now_ns }
+        ensures end { self.new.end_us ≡ self.old.end_us }
         ensures hears { HearsOn self.old.receiver self.new.receiver line
             (lines_at self.old.time pulse.rise_us) pulse.width_us result }
         ensures channels { self.new.channels ≡ self.old.channels }
@@ -253,6 +260,7 @@ impl<P: Port> Recording<P> {
     // From a time on a second is as long as that of the line in the middle.
     fn follow(&mut self, time_us: u64)
         ensures time { self.new.now_ns ≡ self.old.now_ns }
+        ensures end { self.new.end_us ≡ self.old.end_us }
         ensures receiver { self.new.receiver ≡ self.old.receiver }
         ensures channels { self.new.channels ≡ self.old.channels }
         ensures held { self.new.held ≡ self.old.held }

@@ -19,6 +19,7 @@ loop-at-preserved g c = (
       steps c.loop-at.self _ c.play.new.self c.index-deref-at.result c.loop-at.at made start seen on.0 on.1 on.2 (c.play.ensures.played c.loop-at.at) refl refl c.pass_to-told.result c.pass_to-told.ensures.ticks (sym c.is_some.ensures ∙ c.if-is_some.false) found,
   steady_on c.args.self.now.channels c.loop-at.self.channels c.play.new.self.channels c.loop-at.invariant.3 c.play.ensures.steady,
   c.play.ensures.time ∙ c.loop-at.invariant.4,
+  c.play.ensures.end ∙ c.loop-at.invariant.5,
 )
 
 pub returns-clause-plays : goal.returns-clause-plays
