@@ -1,6 +1,6 @@
 -- The lines of a recording after one of them changed.
-use Rattle.std.specs.Prelude.{◌==◌, Option, option_to_list, []}
-use Rattle.std.proofs.Common.{◌≡◌, ◌≢◌, ℕ, ◌<◌, ◌≤◌, List, ◌∷◌, None, Some, slice_get, slice_set, length, sym, refl, ap, subst, ◌∙◌, inl, inr}
+use Rattle.std.specs.Prelude.{⊤, ◌==◌, Option, option_to_list, []}
+use Rattle.std.proofs.Common.{◌≡◌, ◌≢◌, ℕ, zero, suc, ◌<◌, ◌≤◌, List, ◌∷◌, None, Some, slice_get, slice_set, length, sym, refl, ap, subst, ◌∙◌, inl, inr}
 use Rattle.std.proofs.lemmas.Bool.{cases_Bool, eqb-true, eqb-false, eq-eqb, ne_eqb}
 use Rattle.std.proofs.lemmas.Option.{same_Some}
 use Rattle.irig_frame.proofs.WritingLaws.{get-set_same, get-set_other}
@@ -92,3 +92,17 @@ ends_on old line x was glitch told seen played are small at edge ends =
     set_one (λ other c. IsChannelTo c glitch None (told other) (and_on line (option_to_list edge) seen other) (played other)) old line x small
     (rw (eq-eqb line line refl) (ends glitch (told line) (seen line) (played line) (are line was at)))
     (λ other c differs there. rw (ne_eqb line other differs) (are other c there))
+
+-- ---- five of them
+
+abbrev Every : (Channel → Type 0) → List Channel → Type 0
+Every R [] = ⊤
+Every R (c ∷ rest) = R c × Every R rest
+
+every_one : (R : Channel → Type 0) (cs : List Channel) → Every R cs → (line : ℕ) (channel : Channel) → slice_get cs line ≡ Some channel → R channel
+every_one R [] all line channel at = absurd cc
+every_one R (c ∷ rest) all zero channel at = subst R (same_Some c channel at) all.0
+every_one R (c ∷ rest) all (suc line) channel at = every_one R rest all.1 line channel at
+
+pub five_of : (R : Channel → Type 0) (a b c d e : Channel) → R a → R b → R c → R d → R e → (line : ℕ) (channel : Channel) → slice_get (a ∷ b ∷ c ∷ d ∷ e ∷ []) line ≡ Some channel → R channel
+five_of R a b c d e ra rb rc rd re = every_one R (a ∷ b ∷ c ∷ d ∷ e ∷ []) (ra, (rb, (rc, (rd, (re, tt)))))

@@ -78,7 +78,7 @@ module _ {P : Type 0} {g : Ghosts P} (old new : Recording P g) (steady : AreAsSt
         line = lines line channel at;
       }
 
-module _ {P : Type 0} {g : Ghosts P} (old new : Recording P g) (steady : AreAsSteady old.channels new.channels) (time : new.now_ns ≡ old.now_ns) (ended : new.end_us ≡ old.end_us) where
+module _ {P : Type 0} {g : Ghosts P} (old new : Recording P g) (steady : AreAsSteady old.channels new.channels) (time : new.now_ns ≡ old.now_ns) (ended : new.end_us ≡ old.end_us) (lines : new.lines ≡ old.lines) where
   same_until : until_of new.end_us new.now_ns ≡ until_of old.end_us old.now_ns
   same_until = ap (λ n. until_of new.end_us n) time ∙ ap (λ e. until_of e old.now_ns) ended
 
@@ -89,6 +89,7 @@ module _ {P : Type 0} {g : Ghosts P} (old new : Recording P g) (steady : AreAsSt
         seen = is.seen;
         played = has.played;
         calls = has.calls;
+        count = lines ∙ is.count;
         channels = subst (λ u. AreChannelsTo new.channels glitch u told is.seen has.played) (sym same_until) (channels_on old new steady glitch (until_of old.end_us old.now_ns) told is.seen is.played has.played is.channels has.is.lines);
         is = has.is;
       }

@@ -208,7 +208,7 @@ module _ {P : Type 0} {g : Ghosts P} (old new : Recording P g) (place : ℕ) (ma
 
 -- ---- all was played
 
-none_left : {A : Type 0} (xs : List A) (n : ℕ) → xs ≡ [] → drop n xs ≡ []
+pub none_left : {A : Type 0} (xs : List A) (n : ℕ) → xs ≡ [] → drop n xs ≡ []
 none_left xs n e = ap (drop n) e ∙ drop_of_length-le [] (omega arith)
 
 module _ {P : Type 0} {g : Ghosts P} (old new : Recording P g) (place : ℕ) (made : MadeOf) (start : ℕ) (seen played : ℕ → List Edge) (calls : List Call) (is : IsPlayedTo old place made start seen played calls) where

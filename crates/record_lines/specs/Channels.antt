@@ -27,6 +27,10 @@ AreChannelsTo channels glitch until told seen played =
     (line : ℕ) (channel : Channel) → slice_get channels.all line ≡ Some channel
     → IsChannelTo channel glitch until (told line) (seen line) (played line)
 
+-- of no line anything
+abbrev pub no_edges : ℕ → List Edge
+no_edges line = []
+
 -- what each line has, with more of a line
 abbrev pub and_on : (line : ℕ) → List Edge → (ℕ → List Edge) → ℕ → List Edge
 and_on line more all other = if line == other then all other ++ more else all other

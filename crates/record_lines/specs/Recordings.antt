@@ -3,6 +3,7 @@
 -- Source: this project's profile.
 use Rattle.std.specs.Prelude.{◌≡◌, ℕ, ◌+◌, ◌<◌, ◌≤◌, Bool, List, [], ◌∷◌, ◌++◌, drop, reverse, Option, Some, None, slice_get, IfSome, IsTrue, ⊤}
 use Rattle.irig_port.specs.declared.port.Port.{Ghosts}
+use Rattle.irig_vote.specs.Vote.{ports_in}
 use Rattle.irig_lines.specs.Delays.{delay_at}
 use Rattle.irig_timekeeper.specs.Life.{Call}
 use Rattle.irig_timekeeper.specs.Life.Call.{Hear, Tick}
@@ -19,7 +20,7 @@ use Rattle.record_lines.specs.declared.recording.Recording.{Recording}
 use Rattle.record_lines.specs.declared.second.RecordedSecond.{RecordedSecond}
 use Rattle.record_lines.specs.declared.told.ToldSecond.{ToldSecond}
 use Rattle.record_lines.specs.Changes.{changes_on, edge_of}
-use Rattle.record_lines.specs.Channels.{AreChannelsOf, AreChannelsTo, and_on, and_played, told_of_lines}
+use Rattle.record_lines.specs.Channels.{AreChannelsOf, AreChannelsTo, and_on, and_played, no_edges, told_of_lines}
 use Rattle.record_lines.specs.Helds.{has_room, room}
 use Rattle.record_lines.specs.Paces.{lines_at}
 use Rattle.record_lines.specs.Receivers.{IsReceiverOf}
@@ -149,6 +150,7 @@ pub record IsRecordingOf {P : Type 0} {g : Ghosts P} (r : Recording P g) (made :
   pub seen : ℕ → List Edge
   pub played : ℕ → List Edge
   pub calls : List Call
+  pub count : r.lines ≡ ports_in made.clock.redundancy
   pub channels : AreChannelsTo r.channels glitch (until_of r.end_us r.now_ns) told seen played
   pub is : IsPlayedTo r r.held.played made 0 (newest seen) played calls
 
@@ -188,3 +190,25 @@ pub record IsPlayedOn {P : Type 0} {g : Ghosts P} (old new : Recording P g)
       → IsRecordingOf new made glitch told
   pub carried : (made : MadeOf) (glitch : ℕ) (told : ℕ → List Edge) → IsRecordingOf old made glitch told
       → IfSome shown (IsCarriedBy made glitch told)
+
+-- nothing was told of a recording
+pub record IsNewRecording {P : Type 0} {g : Ghosts P} (r : Recording P g) (made : MadeOf) (glitch : ℕ)
+    : Type 0 where
+  pub is : IsRecordingOf r made glitch no_edges
+  pub now : r.now_ns ≡ 0
+  pub goes : r.end_us ≡ None
+  pub room : IsTrue (has_room r.held)
+
+-- levels are told of a recording that has not ended, and had come to no later time, if there is room
+abbrev pub IsToldOn : {P : Type 0} {g : Ghosts P} → (old new : Recording P g) → Levels → Type 0
+IsToldOn old new levels =
+    (made : MadeOf) (glitch : ℕ) (told : ℕ → List Edge) → IsRecordingOf old made glitch told
+    → old.end_us ≡ None → old.now_ns ≤ levels.time_ns → IsTrue (has_room old.held)
+    → IsRecordingOf new made glitch
+    (told_of_lines (ports_in made.clock.redundancy) levels told)
+
+-- a recording ends, if there is room for what comes then
+abbrev pub IsEndedOn : {P : Type 0} {g : Ghosts P} → (old new : Recording P g) → Type 0
+IsEndedOn old new =
+    (made : MadeOf) (glitch : ℕ) (told : ℕ → List Edge) → IsRecordingOf old made glitch told
+    → IsTrue (has_room old.held) → IsRecordingOf new made glitch told

@@ -1,6 +1,6 @@
 //! The lines of a recording.
 
-ghost use Rattle.std.specs.Prelude.{◌≡◌, ◌<◌, None, ℕ, List, length};
+ghost use Rattle.std.specs.Prelude.{◌≡◌, ◌<◌, None, Some, ℕ, List, length};
 ghost use Rattle.record_pulses.specs.Looks.{polarity_of};
 ghost use Rattle.record_lines.specs.RecordedLines.{pulse_by};
 
@@ -16,10 +16,12 @@ pub(crate) struct Channels {
 }
 
 impl Channels {
-    ghost use Rattle.record_lines.specs.Channels.{AreAsSteady, AreChannelsOf, LineIsTold, LineRipens, and_played};
+    ghost use Rattle.record_lines.specs.Channels.{AreAsSteady, AreChannelsOf, AreChannelsTo, LineEnds, LineIsTold, LineRipens, and_played, no_edges};
 
     /// Lines of which nothing came, where a level lasts for so many nanoseconds or is a glitch.
-    pub(crate) fn new(glitch_ns: u64) -> Channels {
+    pub(crate) fn new(glitch_ns: u64) -> Channels
+        ensures { AreChannelsTo result glitch_ns (Some 0) no_edges no_edges no_edges }
+    {
         Channels {
             all: [
                 Channel::new(glitch_ns),
@@ -42,6 +44,7 @@ impl Channels {
     /// The change of a line that waits.
     pub(crate) fn let_out(&mut self, line: u8) -> Option<Edge>
         requires { line < 5 }
+        ensures { LineEnds self.old self.new line result }
     {
         self.all[line as usize].let_out()
     }

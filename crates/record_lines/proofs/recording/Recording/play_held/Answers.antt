@@ -20,6 +20,7 @@ loop-at-preserved g c = (
   steady_on c.args.self.now.channels c.loop-at.self.channels c.play.new.self.channels c.loop-at.invariant.3 c.play.ensures.steady,
   c.play.ensures.time ∙ c.loop-at.invariant.4,
   c.play.ensures.end ∙ c.loop-at.invariant.5,
+  c.play.ensures.lines ∙ c.loop-at.invariant.6,
 )
 
 pub returns-clause-plays : goal.returns-clause-plays

@@ -15,3 +15,4 @@ invariant-loop-at g l =
     → (later : ℕ → List Edge) × (more : List Call) × IsPlayedTo l.self l.at made start seen later more)
     × AreAsSteady l.fn.self.channels l.self.channels × (l.self.now_ns ≡ l.fn.self.now_ns)
     × (l.self.end_us ≡ l.fn.self.end_us)
+    × (l.self.lines ≡ l.fn.self.lines)
