@@ -2,3 +2,5 @@ pub mod Parts
 pub mod Codes
 pub mod Instants
 pub mod Stamps
+pub mod Late
+pub mod Word

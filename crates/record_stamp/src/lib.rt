@@ -4,10 +4,14 @@
 
 mod code;
 mod instant;
+mod late;
 mod parts;
 mod stamp;
+mod word;
 
 pub use code::{LeapSaid, leap_said, quality_of, zone_of};
 pub use instant::{Order, Stamp, StampFault};
+pub use late::{Moment, late_ns};
 pub use parts::{ClockNumbers, DateNumbers};
 pub use stamp::{exchanged, meaning};
+pub use word::{AGREE_NS, NEAR_NS, Word, ZoneReading, step_ns, word_on};
