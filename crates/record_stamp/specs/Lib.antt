@@ -4,3 +4,4 @@ pub mod Instants
 pub mod Stamps
 pub mod Late
 pub mod Word
+pub mod WordText

@@ -1,7 +1,7 @@
 -- The word on a stamp: by how much it is off from what lines tell, and what may explain it.
 -- Source: this project's profile: a millisecond and the step of a sample for agreement, 60 s for an explanation; zones
 -- from 12 h behind UTC to 14 h ahead of it, in half hours.
-use Rattle.std.specs.Prelude.{ℕ, zero, suc, ◌+◌, ◌*◌, ◌/◌, ◌≤◌, ◌<◌, Bool, not, ◌&&◌, List, [], ◌∷◌, Option, Some, None, nat_le, nat_eq, if◌then◌else◌, ℤ, pos, negsuc, neg_ℤ, ◌-ℤ◌, ◌*ℤ◌, int_lt, unsigned_abs, ⊤}
+use Rattle.std.specs.Prelude.{ℕ, zero, suc, ◌+◌, ◌*◌, ◌/◌, ◌≤◌, ◌<◌, Bool, not, ◌&&◌, List, [], ◌∷◌, Option, Some, None, nat_le, nat_eq, if◌then◌else◌, ℤ, pos, negsuc, neg_ℤ, ◌-ℤ◌, ◌*ℤ◌, int_lt, unsigned_abs, IfSome, ⊤}
 use Rattle.irig_time.specs.declared.leap.Leap.{Leap}
 use Rattle.irig_time.specs.Seconds.{IsValid}
 use Rattle.record_comtrade.specs.declared.parts.Rate.{Rate}
@@ -89,6 +89,16 @@ zone_reading late = reading_by late (zone_near (nearest_zone late))
 abbrev pub zone_word : (zone : Option ℤ) → (late : ℤ) → Option ZoneReading
 zone_word (Some zone) late = None
 zone_word None late = zone_reading late
+
+-- a zone in which a stamp is near
+pub record IsReading (reading : ZoneReading) : Type 0 where
+  pub zone : unsigned_abs reading.zone_minutes ≤ 840
+  pub near : unsigned_abs reading.late_ns ≤ NEAR_NS
+
+-- a word whose explanations leave a stamp near
+pub record IsWord (word : Word) : Type 0 where
+  pub exchanged : IfSome word.exchanged_ns (λ late. unsigned_abs late ≤ NEAR_NS)
+  pub zone : IfSome word.zone IsReading
 
 -- the word on a stamp, by the leaps that are known
 abbrev pub word_on : List (ℕ × Leap) → Stamp → (exchanged : Option Stamp) → (truth : Moment) → (step : ℕ) → Word

@@ -7,6 +7,7 @@ mod instant;
 mod late;
 mod parts;
 mod stamp;
+mod text;
 mod word;
 
 pub use code::{LeapSaid, leap_said, quality_of, zone_of};
@@ -14,4 +15,5 @@ pub use instant::{Order, Stamp, StampFault};
 pub use late::{Moment, late_ns};
 pub use parts::{ClockNumbers, DateNumbers};
 pub use stamp::{exchanged, meaning};
+pub use text::{push_stamp_fault, push_stamp_word};
 pub use word::{AGREE_NS, NEAR_NS, Word, ZoneReading, step_ns, word_on};

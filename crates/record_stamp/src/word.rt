@@ -2,7 +2,8 @@
 
 ghost use Rattle.std.specs.Prelude.{◌≡◌, ◌≤◌, unsigned_abs, IfSome, IsTrue};
 ghost use Rattle.record_stamp.specs.Late.{IsMoment, late_ns, leaps_of};
-ghost use Rattle.record_stamp.specs.Word.{IsStamp, IsStampOf, agrees, exchanged_late, if_near, is_zone, nearest_zone, reading_in, step_ns, word_on, zone_late, zone_near, zone_reading, zone_word};
+ghost use Rattle.record_stamp.specs.declared.word.TheConstants.{NEAR_NS};
+ghost use Rattle.record_stamp.specs.Word.{IsReading, IsStamp, IsStampOf, IsWord, agrees, exchanged_late, if_near, is_zone, nearest_zone, reading_in, step_ns, word_on, zone_late, zone_near, zone_reading, zone_word};
 
 use crate::instant::Stamp;
 use crate::late::{Moment, late_ns};
@@ -71,7 +72,8 @@ pub fn word_on(
     requires exchanged { IsStampOf exchanged }
     requires truth { IsMoment truth }
     requires step { step_ns ≤ 1000000000000000 }
-    ensures { result ≡ word_on (leaps_of leap) stamp exchanged truth step_ns }
+    ensures says { result ≡ word_on (leaps_of leap) stamp exchanged truth step_ns }
+    ensures word { IsWord result }
 {
     let late = late_ns(leap, stamp.moment(), truth);
     Word {
@@ -85,7 +87,8 @@ pub fn word_on(
 fn exchanged_late(leap: Option<(u32, Leap)>, exchanged: Option<Stamp>, truth: Moment) -> Option<i64>
     requires exchanged { IsStampOf exchanged }
     requires truth { IsMoment truth }
-    ensures { result ≡ exchanged_late (leaps_of leap) exchanged truth }
+    ensures says { result ≡ exchanged_late (leaps_of leap) exchanged truth }
+    ensures near { IfSome result (λ late. unsigned_abs late ≤ NEAR_NS) }
 {
     match exchanged {
         Some(stamp) => if_near(late_ns(leap, stamp.moment(), truth)),
@@ -94,7 +97,8 @@ fn exchanged_late(leap: Option<(u32, Leap)>, exchanged: Option<Stamp>, truth: Mo
 }
 
 fn if_near(late: i64) -> Option<i64>
-    ensures { result ≡ if_near late }
+    ensures says { result ≡ if_near late }
+    ensures near { IfSome result (λ late. unsigned_abs late ≤ NEAR_NS) }
 {
     if late.unsigned_abs() <= NEAR_NS {
         Some(late)
@@ -105,7 +109,8 @@ fn if_near(late: i64) -> Option<i64>
 
 fn zone_word(zone: Option<i16>, late: i64) -> Option<ZoneReading>
     requires { unsigned_abs late ≤ 3155760002000000000 }
-    ensures { result ≡ zone_word zone late }
+    ensures says { result ≡ zone_word zone late }
+    ensures reading { IfSome result IsReading }
 {
     match zone {
         Some(_) => None,
@@ -115,7 +120,8 @@ fn zone_word(zone: Option<i16>, late: i64) -> Option<ZoneReading>
 
 fn zone_reading(late: i64) -> Option<ZoneReading>
     requires { unsigned_abs late ≤ 3155760002000000000 }
-    ensures { result ≡ zone_reading late }
+    ensures says { result ≡ zone_reading late }
+    ensures reading { IfSome result IsReading }
 {
     match zone_near(nearest_zone(late)) {
         Some(minutes) => reading_in(late, minutes),
@@ -127,7 +133,8 @@ fn zone_reading(late: i64) -> Option<ZoneReading>
 fn reading_in(late: i64, minutes: i16) -> Option<ZoneReading>
     requires late { unsigned_abs late ≤ 3155760002000000000 }
     requires zone { unsigned_abs minutes ≤ 840 }
-    ensures { result ≡ reading_in late minutes }
+    ensures says { result ≡ reading_in late minutes }
+    ensures reading { IfSome result IsReading }
 {
     let late_ns = zone_late(late, minutes);
     if late_ns.unsigned_abs() <= NEAR_NS {
