@@ -1,1 +1,2 @@
 pub mod LateLaws
+pub mod ZoneLaws

@@ -1,7 +1,7 @@
 -- The word on a stamp: by how much it is off from what lines tell, and what may explain it.
 -- Source: this project's profile: a millisecond and the step of a sample for agreement, 60 s for an explanation; zones
 -- from 12 h behind UTC to 14 h ahead of it, in half hours.
-use Rattle.std.specs.Prelude.{ℕ, zero, suc, ◌+◌, ◌*◌, ◌/◌, ◌≤◌, ◌<◌, Bool, not, ◌&&◌, List, [], ◌∷◌, Option, Some, None, nat_le, nat_eq, if◌then◌else◌, ℤ, pos, negsuc, neg_ℤ, ◌-ℤ◌, ◌*ℤ◌, int_lt, unsigned_abs, IfSome, ⊤}
+use Rattle.std.specs.Prelude.{◌≡◌, ◌≢◌, ℕ, zero, suc, ◌+◌, ◌*◌, ◌/◌, ◌≤◌, ◌<◌, Bool, not, ◌&&◌, List, [], ◌∷◌, Option, Some, None, nat_le, nat_eq, if◌then◌else◌, ℤ, pos, negsuc, neg_ℤ, ◌-ℤ◌, ◌*ℤ◌, ◌≤ℤ◌, int_lt, unsigned_abs, IfSome, ⊤}
 use Rattle.irig_time.specs.declared.leap.Leap.{Leap}
 use Rattle.irig_time.specs.Seconds.{IsValid}
 use Rattle.record_comtrade.specs.declared.parts.Rate.{Rate}
@@ -89,6 +89,16 @@ zone_reading late = reading_by late (zone_near (nearest_zone late))
 abbrev pub zone_word : (zone : Option ℤ) → (late : ℤ) → Option ZoneReading
 zone_word (Some zone) late = None
 zone_word None late = zone_reading late
+
+-- a zone explains how late a stamp is, read as UTC: it is some half hours from 12 h behind UTC to 14 h ahead of it, and
+-- as local time of it the stamp is near
+pub record Explains (late : ℤ) (reading : ZoneReading) : Type 0 where
+  pub half_hours : ℤ
+  pub minutes : reading.zone_minutes ≡ pos 30 *ℤ half_hours
+  pub some : half_hours ≢ pos 0
+  pub range : (neg_ℤ (pos 24) ≤ℤ half_hours) × (half_hours ≤ℤ pos 28)
+  pub then_late : reading.late_ns ≡ zone_late late reading.zone_minutes
+  pub near : unsigned_abs reading.late_ns ≤ NEAR_NS
 
 -- a zone in which a stamp is near
 pub record IsReading (reading : ZoneReading) : Type 0 where

@@ -5,6 +5,7 @@
 mod code;
 mod instant;
 mod late;
+mod laws;
 mod parts;
 mod stamp;
 mod text;
@@ -13,6 +14,7 @@ mod word;
 pub use code::{LeapSaid, leap_said, quality_of, zone_of};
 pub use instant::{Order, Stamp, StampFault};
 pub use late::{Moment, late_ns};
+pub use laws::{lateness_is_elapsed_time, zones_explain};
 pub use parts::{ClockNumbers, DateNumbers};
 pub use stamp::{exchanged, meaning};
 pub use text::{push_stamp_fault, push_stamp_word};
