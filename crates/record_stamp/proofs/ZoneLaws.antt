@@ -1,11 +1,10 @@
 -- The zone that is named is the one that explains a stamp, if one does.
-use Rattle.std.proofs.Common.{◌≡◌, ◌↔◌, ℕ, zero, suc, ◌+◌, ◌*◌, ◌/◌, ◌≤◌, Option, Some, None, ℤ, pos, negsuc, ◌-ℤ◌, ◌*ℤ◌, ◌≤ℤ◌, refl, ap, ◌∙◌, sym, subst, arith, true, false, Bool, if◌then◌else◌, nat_le, unsigned_abs}
+use Rattle.std.proofs.Common.{◌≡◌, ◌↔◌, zero, suc, ◌+◌, ◌/◌, ◌≤◌, Some, None, ℤ, pos, negsuc, ◌*ℤ◌, ◌≤ℤ◌, refl, ap, ◌∙◌, sym, subst, arith, true, false, Bool, if◌then◌else◌, nat_le, unsigned_abs}
 use Rattle.std.specs.Prelude.{◌≢◌, neg_ℤ}
 use Rattle.std.proofs.lemmas.Int.{ints}
 use Rattle.std.proofs.lemmas.Bool.{leb-true, le-leb}
-use Rattle.std.proofs.lemmas.Bool.Decides.{nat_tests}
 use Rattle.record_stamp.specs.declared.word.ZoneReading.{ZoneReading}
-use Rattle.record_stamp.specs.Word.{Explains, is_zone, nearest_zone, reading_by, reading_in, zone_late, zone_near, zone_reading}
+use Rattle.record_stamp.specs.Word.{Explains, is_zone, nearest_zone, reading_by, zone_late, zone_near, zone_reading}
 
 -- the half hours nearest to a lateness that some half hours leave near
 nearest_is : (late h : ℤ) → unsigned_abs (zone_late late (pos 30 *ℤ h)) ≤ 60000000000 → nearest_zone late ≡ pos 30 *ℤ h
