@@ -1,0 +1,29 @@
+-- The stamps of a record, by its configuration.
+-- Source: IEEE C37.111-2013, 5.3.10, 5.3.11 (the first sample, the trigger), 5.3.13 (time code) and 5.3.14 (quality, leap
+-- second).
+use Rattle.std.specs.Prelude.{ℕ, ◌+◌, List, Option, Some, None, Result, ℤ}
+use Rattle.record_text.specs.Fields.{field}
+use Rattle.record_comtrade.specs.Configs.{ConfigValue, text_at}
+use Rattle.record_stamp.specs.declared.instant.Stamp.{Stamp}
+use Rattle.record_stamp.specs.declared.instant.StampFault.{StampFault}
+use Rattle.record_stamp.specs.Codes.{zone_of}
+use Rattle.record_stamp.specs.Stamps.{exchanged, meaning}
+
+-- a field of a line from the first stamp on, by their places from 0
+abbrev pub below : ConfigValue → (line at : ℕ) → List ℕ
+below config line at = field at (text_at config.lines (config.stamps + line))
+
+-- the zone that is given, or else that of the time code
+abbrev pub zone_in : ConfigValue → Option ℤ → Option ℤ
+zone_in config (Some zone) = Some zone
+zone_in config None = zone_of (below config 4 0)
+
+-- the time of a line: 0 is that of the first sample, and 1 of the trigger
+abbrev pub stamp_of : ConfigValue → (line : ℕ) → Option ℤ → Result Stamp StampFault
+stamp_of config line zone =
+    meaning config.counts.edition (zone_in config zone) (below config line 0) (below config line 1)
+
+-- that of the first sample with its day and month exchanged, if that is another one
+abbrev pub exchanged_of : ConfigValue → Option ℤ → Option Stamp
+exchanged_of config zone =
+    exchanged config.counts.edition (zone_in config zone) (below config 0 0) (below config 0 1)
