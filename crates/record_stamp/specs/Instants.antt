@@ -2,8 +2,9 @@
 -- Source: IEEE C37.111-2013, 5.3.10 and 5.3.11 (dd/mm/yyyy), -1991 (mm/dd/yy), and 5.3.13 (UTC is the time less its
 -- time code); ITU-R TF.460 for second 60. The years, that a month stands first also where the second number is above
 -- 12, and that a time without a zone is UTC, is this project's profile.
-use Rattle.std.specs.Prelude.{◌≤◌, ◌<◌, ℕ, ◌+◌, ◌*◌, Bool, not, ◌&&◌, ◌||◌, ◌==◌, nat_le, nat_lt, if◌then◌else◌, Option, Some, None, Result, Ok, Err, ℤ, pos, ◌-ℤ◌, int_lt, unsigned_abs}
+use Rattle.std.specs.Prelude.{◌≤◌, ◌<◌, ℕ, ◌+◌, ◌*◌, Bool, not, ◌&&◌, ◌||◌, ◌==◌, nat_le, nat_lt, if◌then◌else◌, Option, Some, None, Result, Ok, Err, ℤ, pos, ◌-ℤ◌, int_lt, unsigned_abs, ⊤}
 use Rattle.irig_time.specs.declared.second.TheConstants.{FIRST_DAY, LAST_DAY}
+use Rattle.irig_time.specs.Seconds.{IsValid}
 use Rattle.irig_time.specs.Claims.{is_last_minute, utc_at}
 use Rattle.irig_time.specs.Texts.{date_text}
 use Rattle.irig_time.specs.TextValues.{day_read}
@@ -14,6 +15,16 @@ use Rattle.record_stamp.specs.declared.instant.Order.TheVariants.{DayFirst, Mont
 use Rattle.record_stamp.specs.declared.instant.Stamp.{Stamp}
 use Rattle.record_stamp.specs.declared.instant.StampFault.{StampFault}
 use Rattle.record_stamp.specs.declared.instant.StampFault.TheVariants as fault
+
+-- a stamp that is a time
+pub record IsStamp (stamp : Stamp) : Type 0 where
+  pub at : IsValid stamp.at
+  pub fraction : stamp.nanoseconds < 1000000000
+
+-- the same of one that may not be
+abbrev pub IsStampOf : Option Stamp → Type 0
+IsStampOf None = ⊤
+IsStampOf (Some stamp) = IsStamp stamp
 
 -- numbers of a date
 pub record IsDate (date : DateNumbers) : Type 0 where

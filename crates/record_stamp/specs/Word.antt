@@ -1,9 +1,8 @@
 -- The word on a stamp: by how much it is off from what lines tell, and what may explain it.
 -- Source: this project's profile: a millisecond and the step of a sample for agreement, 60 s for an explanation; zones
 -- from 12 h behind UTC to 14 h ahead of it, in half hours.
-use Rattle.std.specs.Prelude.{◌≡◌, ◌≢◌, ℕ, zero, suc, ◌+◌, ◌*◌, ◌/◌, ◌≤◌, ◌<◌, Bool, not, ◌&&◌, List, [], ◌∷◌, Option, Some, None, nat_le, nat_eq, if◌then◌else◌, ℤ, pos, negsuc, neg_ℤ, ◌-ℤ◌, ◌*ℤ◌, ◌≤ℤ◌, int_lt, unsigned_abs, IfSome, ⊤}
+use Rattle.std.specs.Prelude.{◌≡◌, ◌≢◌, ℕ, zero, suc, ◌+◌, ◌*◌, ◌/◌, ◌≤◌, Bool, not, ◌&&◌, List, [], ◌∷◌, Option, Some, None, nat_le, nat_eq, if◌then◌else◌, ℤ, pos, negsuc, neg_ℤ, ◌-ℤ◌, ◌*ℤ◌, ◌≤ℤ◌, int_lt, unsigned_abs, IfSome}
 use Rattle.irig_time.specs.declared.leap.Leap.{Leap}
-use Rattle.irig_time.specs.Seconds.{IsValid}
 use Rattle.record_comtrade.specs.declared.parts.Rate.{Rate}
 use Rattle.record_stamp.specs.declared.instant.Stamp.{Stamp}
 use Rattle.record_stamp.specs.declared.late.Moment.{Moment}
@@ -11,16 +10,6 @@ use Rattle.record_stamp.specs.declared.word.Word.{Word}
 use Rattle.record_stamp.specs.declared.word.ZoneReading.{ZoneReading}
 use Rattle.record_stamp.specs.declared.word.TheConstants.{AGREE_NS, NEAR_NS}
 use Rattle.record_stamp.specs.Late.{late_ns}
-
--- a stamp that is a time
-pub record IsStamp (stamp : Stamp) : Type 0 where
-  pub at : IsValid stamp.at
-  pub fraction : stamp.nanoseconds < 1000000000
-
--- the same of one that may not be
-abbrev pub IsStampOf : Option Stamp → Type 0
-IsStampOf None = ⊤
-IsStampOf (Some stamp) = IsStamp stamp
 
 -- the moment that a stamp says
 abbrev pub moment_of : Stamp → Moment

@@ -2,9 +2,8 @@
 
 ghost use Rattle.std.specs.Prelude.{◌≡◌, ◌≤◌, ◌<◌, ◌*◌, ◌+◌, IfOk, IfSome};
 ghost use Rattle.irig_time.specs.declared.second.TheConstants.{FIRST_DAY, LAST_DAY};
-ghost use Rattle.irig_time.specs.Seconds.{IsValid};
 ghost use Rattle.record_stamp.specs.Codes.{IsZone, IsZoneOf};
-ghost use Rattle.record_stamp.specs.Instants.{IsClock, IsDate, day_in, instant_of, is_in_day, minute_in, order_of, utc_minute, zone_or_utc};
+ghost use Rattle.record_stamp.specs.Instants.{IsClock, IsDate, IsStamp, day_in, instant_of, is_in_day, minute_in, order_of, utc_minute, zone_or_utc};
 ghost use Rattle.irig_time.specs.Texts.{date_text, two};
 
 use crate::parts::{ClockNumbers, DateNumbers};
@@ -70,8 +69,7 @@ pub(crate) fn instant_of(
     requires date { IsDate date }
     requires clock { IsClock clock }
     ensures says { result ≡ instant_of order zone date clock }
-    ensures valid { IfOk result (λ stamp. IsValid stamp.at) }
-    ensures fraction { IfOk result (λ stamp. stamp.nanoseconds < 1000000000) }
+    ensures stamp { IfOk result IsStamp }
 {
     let Some(day) = day_in(order, date) else {
         return Err(StampFault::NoSuchDay);
@@ -155,8 +153,7 @@ fn minute_in(minute: u32, zone: Option<i16>, clock: ClockNumbers) -> Result<Stam
     requires second { clock.second ≤ 60 }
     requires fraction { clock.nanoseconds < 1000000000 }
     ensures says { result ≡ minute_in minute zone clock }
-    ensures valid { IfOk result (λ stamp. IsValid stamp.at) }
-    ensures fraction { IfOk result (λ stamp. stamp.nanoseconds < 1000000000) }
+    ensures stamp { IfOk result IsStamp }
 {
     let day = minute / 1440;
     let minute_of_day = minute % 1440;

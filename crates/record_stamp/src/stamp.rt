@@ -1,7 +1,7 @@
 //! What a stamp says.
 
-ghost use Rattle.std.specs.Prelude.{◌≡◌, ◌<◌, IfOk, IfSome};
-ghost use Rattle.irig_time.specs.Seconds.{IsValid};
+ghost use Rattle.std.specs.Prelude.{◌≡◌, IfOk};
+ghost use Rattle.record_stamp.specs.Instants.{IsStamp, IsStampOf};
 ghost use Rattle.record_stamp.specs.Codes.{IsZoneOf};
 ghost use Rattle.record_stamp.specs.Stamps.{exchanged, meaning, other_order};
 
@@ -18,8 +18,7 @@ pub fn meaning(
 ) -> Result<Stamp, StampFault>
     requires { IsZoneOf zone }
     ensures says { result ≡ meaning edition zone date.now clock.now }
-    ensures valid { IfOk result (λ stamp. IsValid stamp.at) }
-    ensures fraction { IfOk result (λ stamp. stamp.nanoseconds < 1000000000) }
+    ensures stamp { IfOk result IsStamp }
 {
     let Some(date) = date_numbers(date) else {
         return Err(StampFault::Date);
@@ -34,8 +33,7 @@ pub fn meaning(
 pub fn exchanged(edition: u64, zone: Option<i16>, date: &[u8], clock: &[u8]) -> Option<Stamp>
     requires { IsZoneOf zone }
     ensures says { result ≡ exchanged edition zone date.now clock.now }
-    ensures valid { IfSome result (λ stamp. IsValid stamp.at) }
-    ensures fraction { IfSome result (λ stamp. stamp.nanoseconds < 1000000000) }
+    ensures stamp { IsStampOf result }
 {
     let Some(date) = date_numbers(date) else {
         return None;

@@ -1,9 +1,10 @@
 //! The word on a stamp: by how much it is off, and what may explain it.
 
 ghost use Rattle.std.specs.Prelude.{◌≡◌, ◌≤◌, unsigned_abs, IfSome, IsTrue};
+ghost use Rattle.record_stamp.specs.Instants.{IsStamp, IsStampOf};
 ghost use Rattle.record_stamp.specs.Late.{IsMoment, late_ns, leaps_of};
 ghost use Rattle.record_stamp.specs.declared.word.TheConstants.{NEAR_NS};
-ghost use Rattle.record_stamp.specs.Word.{IsReading, IsStamp, IsStampOf, IsWord, agrees, exchanged_late, if_near, is_zone, nearest_zone, reading_in, step_ns, word_on, zone_late, zone_near, zone_reading, zone_word};
+ghost use Rattle.record_stamp.specs.Word.{IsReading, IsWord, agrees, exchanged_late, if_near, is_zone, nearest_zone, reading_in, step_ns, word_on, zone_late, zone_near, zone_reading, zone_word};
 
 use crate::instant::Stamp;
 use crate::late::{Moment, late_ns};
