@@ -10,8 +10,8 @@ use crate::parts::{ClockNumbers, DateNumbers};
 use irig_time::{FIRST_DAY, LAST_DAY, UtcSecond, month_end, read_day};
 
 /// In which order a date has its day and its month.
-#[derive(Clone, Copy, PartialEq, Eq)]
-pub enum Order {
+#[derive(Clone, Copy)]
+pub(crate) enum Order {
     /// The day stands first.
     DayFirst,
     /// The month stands first.

@@ -13,10 +13,9 @@ mod text;
 mod word;
 
 pub use code::{LeapSaid, leap_said, quality_of, zone_of};
-pub use instant::{Order, Stamp, StampFault};
+pub use instant::{Stamp, StampFault};
 pub use late::{Moment, late_ns};
 pub use laws::{lateness_is_elapsed_time, zones_explain};
-pub use parts::{ClockNumbers, DateNumbers};
 pub use record::{
     exchanged_of, leap_in, push_record_word, quality_in, stamp_of, trigger_of, word_of,
 };

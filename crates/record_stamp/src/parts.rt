@@ -6,27 +6,27 @@ ghost use Rattle.record_stamp.specs.Parts.{after, before, clock_numbers, date_nu
 use record_text::number_of;
 
 /// The numbers of a date, in the order in which they stand.
-#[derive(Clone, Copy, PartialEq, Eq)]
-pub struct DateNumbers {
+#[derive(Clone, Copy)]
+pub(crate) struct DateNumbers {
     /// The first, up to 99.
-    pub first: u32,
+    pub(crate) first: u32,
     /// The second, up to 99.
-    pub second: u32,
+    pub(crate) second: u32,
     /// The year, up to 9,999; of two digits it is one from 2000 on.
-    pub year: u32,
+    pub(crate) year: u32,
 }
 
 /// The numbers of a time of day.
-#[derive(Clone, Copy, PartialEq, Eq)]
-pub struct ClockNumbers {
+#[derive(Clone, Copy)]
+pub(crate) struct ClockNumbers {
     /// Up to 99.
-    pub hour: u32,
+    pub(crate) hour: u32,
     /// Up to 99.
-    pub minute: u32,
+    pub(crate) minute: u32,
     /// Up to 99.
-    pub second: u32,
+    pub(crate) second: u32,
     /// Below 1,000,000,000.
-    pub nanoseconds: u32,
+    pub(crate) nanoseconds: u32,
 }
 
 /// The numbers of a date, which slashes part.
