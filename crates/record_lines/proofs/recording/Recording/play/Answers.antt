@@ -1,5 +1,6 @@
-use Rattle.std.proofs.Common.{◌≡◌, ◌∙◌, None, Some, refl, sym, subst}
+use Rattle.std.proofs.Common.{◌≡◌, ◌∙◌, None, Some, refl, sym, subst, Option}
 use Rattle.record_pulses.specs.declared.edge.Edge.{Edge}
+use Rattle.record_pulses.specs.declared.edge.Pulse.{Pulse}
 use Rattle.record_pulses.specs.Looks.{polarity_of}
 use Rattle.record_lines.specs.Changes.{edge_of}
 use Rattle.record_lines.specs.Channels.{AreChannelsOf, and_played}
@@ -23,7 +24,7 @@ returns-then-tell-eq100-clause-played g c place made start seen played calls is 
     let line = c.args.change.line in
     let pulse = c.in-Some.pulse in
     let after = subst (λ (e : Edge). AreChannelsOf c.play.new.self seen (and_played line e played)) c.edge.ensures (c.play.ensures.new seen played is.lines) in
-    let ends = subst (λ (e : Edge). pulse_by (polarity_of None (seen line)) e (played line) ≡ Some pulse) c.edge.ensures (sym (c.play.ensures.pulse seen played is.lines) ∙ c.in-Some.is) in
+    let ends = subst (λ (e : Edge). pulse_by (polarity_of None (seen line)) e (played line) ≡ Some pulse) c.edge.ensures (subst (λ (o : Option Pulse). o ≡ Some pulse) (c.play.ensures.pulse seen played is.lines) c.in-Some.is) in
     let told = subst (λ x. AreChannelsOf x seen (and_played line (edge_of c.args.change) played)) (sym c.tell.ensures.channels) after in
     let lines = subst (λ x. AreChannelsOf x seen (and_played line (edge_of c.args.change) played)) (sym c.follow.ensures.channels) (c.ends_at.ensures.new seen (and_played line (edge_of c.args.change) played) told) in
     let hears = subst (λ r. HearsOn c.args.self.now.receiver r line (lines_at c.args.self.now.time pulse.rise_us) pulse.width_us c.tell.result) (sym c.follow.ensures.receiver) c.tell.ensures.hears in
@@ -37,7 +38,7 @@ returns-else-tell-eq100-clause-played g c place made start seen played calls is 
     let line = c.args.change.line in
     let pulse = c.in-Some.pulse in
     let after = subst (λ (e : Edge). AreChannelsOf c.play.new.self seen (and_played line e played)) c.edge.ensures (c.play.ensures.new seen played is.lines) in
-    let ends = subst (λ (e : Edge). pulse_by (polarity_of None (seen line)) e (played line) ≡ Some pulse) c.edge.ensures (sym (c.play.ensures.pulse seen played is.lines) ∙ c.in-Some.is) in
+    let ends = subst (λ (e : Edge). pulse_by (polarity_of None (seen line)) e (played line) ≡ Some pulse) c.edge.ensures (subst (λ (o : Option Pulse). o ≡ Some pulse) (c.play.ensures.pulse seen played is.lines) c.in-Some.is) in
     let lines = subst (λ x. AreChannelsOf x seen (and_played line (edge_of c.args.change) played)) (sym c.tell.ensures.channels) after in
     plays_one c.args.self.now c.tell.new.self c.args.change place made start seen played calls is at c.tell.ensures.held lines pulse c.args.self.now.time c.tell.result ends c.tell.ensures.hears
 
