@@ -13,7 +13,7 @@ use Rattle.record_lines.specs.Heard.{EndsOn, IsChannelTo, IsSteadyTo, MayCome, I
 use Rattle.record_lines.specs.RecordedLines.{IsRecordedLine}
 
 -- what comes from a time on comes from each before it on
-from_later : (now time : ℕ) (rest : List Edge) → now ≤ time → AreFrom time rest → AreFrom now rest
+pub from_later : (now time : ℕ) (rest : List Edge) → now ≤ time → AreFrom time rest → AreFrom now rest
 from_later now time [] later from = tt
 from_later now time (c ∷ rest) later from = (omega (arith, later, from.0), from_later now time rest later from.1)
 

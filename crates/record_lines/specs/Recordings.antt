@@ -12,7 +12,7 @@ use Rattle.record_levels.specs.declared.levels.Levels.{Levels}
 use Rattle.record_pulses.specs.declared.edge.Edge.{Edge}
 use Rattle.record_pulses.specs.declared.edge.Pulse.{Pulse}
 use Rattle.record_pulses.specs.Looks.{polarity_of}
-use Rattle.record_pulses.specs.Glitches.{without_glitches}
+use Rattle.record_pulses.specs.Glitches.{AreInOrder, without_glitches}
 use Rattle.record_pulses.specs.Pulses.{IsOneOf, pulses_of}
 use Rattle.record_lines.specs.declared.change.Change.{Change}
 use Rattle.record_lines.specs.declared.pace.LinesTime.{LinesTime}
@@ -21,6 +21,7 @@ use Rattle.record_lines.specs.declared.second.RecordedSecond.{RecordedSecond}
 use Rattle.record_lines.specs.declared.told.ToldSecond.{ToldSecond}
 use Rattle.record_lines.specs.Changes.{changes_on, edge_of}
 use Rattle.record_lines.specs.Channels.{AreChannelsOf, AreChannelsTo, and_on, and_played, no_edges, told_of_lines}
+use Rattle.record_lines.specs.Heard.{MayCome}
 use Rattle.record_lines.specs.Helds.{has_room, room}
 use Rattle.record_lines.specs.Paces.{lines_at}
 use Rattle.record_lines.specs.Receivers.{IsReceiverOf}
@@ -154,32 +155,36 @@ pub record IsRecordingOf {P : Type 0} {g : Ghosts P} (r : Recording P g) (made :
   pub channels : AreChannelsTo r.channels glitch (until_of r.end_us r.now_ns) told seen played
   pub is : IsPlayedTo r r.held.played made 0 (newest seen) played calls
 
--- a timekeeper was told a pulse that a line has by its levels without glitches: it is as wide, and it rose
--- at a lines' time of its rise
-pub record IsOfLevels (made : MadeOf) (glitch : ℕ) (told : ℕ → List Edge) (line rise width : ℕ)
+-- a timekeeper was told a pulse that a line has by its levels without glitches, whatever may still come: it
+-- is as wide, and it rose at a lines' time of its rise
+pub record IsOfLevels (made : MadeOf) (glitch : ℕ) (until : Option ℕ) (told : ℕ → List Edge)
+    (line rise width : ℕ)
     : Type 0 where
   pub polarity : Bool
   pub pulse : Pulse
-  pub of : IsOneOf pulse (pulses_of polarity (reverse (without_glitches glitch (told line))))
+  pub of : (rest : List Edge) → MayCome until rest → AreInOrder rest → IsOneOf pulse
+      (pulses_of polarity (reverse (without_glitches glitch (told line ++ rest))))
   pub wide : width ≡ pulse.width_us
   pub time : LinesTime
   pub rises : risen_at (lines_at time pulse.rise_us) (delay_at made.clock.delays line) ≡ Some rise
 
 -- so is each that it was told
-abbrev pub AreOfLevels : MadeOf → (glitch : ℕ) → (told : ℕ → List Edge) → List Call → Type 0
-AreOfLevels made glitch told [] = ⊤
-AreOfLevels made glitch told (Hear line rise width ∷ calls) =
-    IsOfLevels made glitch told line rise width × AreOfLevels made glitch told calls
-AreOfLevels made glitch told (Tick now ∷ calls) = AreOfLevels made glitch told calls
+abbrev pub AreOfLevels : MadeOf → (glitch : ℕ) → Option ℕ → (told : ℕ → List Edge) → List Call
+    → Type 0
+AreOfLevels made glitch until told [] = ⊤
+AreOfLevels made glitch until told (Hear line rise width ∷ calls) =
+    IsOfLevels made glitch until told line rise width × AreOfLevels made glitch until told calls
+AreOfLevels made glitch until told (Tick now ∷ calls) = AreOfLevels made glitch until told calls
 
 -- a second that is shown was told by a timekeeper after such pulses alone
-pub record IsCarriedBy (made : MadeOf) (glitch : ℕ) (told : ℕ → List Edge) (second : RecordedSecond)
+pub record IsCarriedBy (made : MadeOf) (glitch : ℕ) (until : Option ℕ) (told : ℕ → List Edge)
+    (second : RecordedSecond)
     : Type 0 where
   pub at : ToldSecond
   pub shown : IsShownAs second at
   pub calls : List Call
   pub tells : IsToldAfter made calls at
-  pub are : AreOfLevels made glitch told calls
+  pub are : AreOfLevels made glitch until told calls
 
 -- more was played, and nothing told: whatever was told of it before, it is a recording of that, and what is
 -- shown is carried by that
@@ -189,7 +194,7 @@ pub record IsPlayedOn {P : Type 0} {g : Ghosts P} (old new : Recording P g)
   pub is : (made : MadeOf) (glitch : ℕ) (told : ℕ → List Edge) → IsRecordingOf old made glitch told
       → IsRecordingOf new made glitch told
   pub carried : (made : MadeOf) (glitch : ℕ) (told : ℕ → List Edge) → IsRecordingOf old made glitch told
-      → IfSome shown (IsCarriedBy made glitch told)
+      → IfSome shown (IsCarriedBy made glitch (until_of old.end_us old.now_ns) told)
 
 -- nothing was told of a recording
 pub record IsNewRecording {P : Type 0} {g : Ghosts P} (r : Recording P g) (made : MadeOf) (glitch : ℕ)
