@@ -1,6 +1,7 @@
 -- The codes that stand below the stamps since 2013.
--- Source: IEEE C37.111-2013, 5.3.13 (time code and local code, as IEEE C37.232 writes them: -5h30, 0, -4t) and 5.3.14
--- (time quality and leap second). Which texts else are a time code, and that it is below a day, is this project's profile.
+-- Source: IEEE C37.111-2013, the lines of the configuration with time code and local code (as IEEE C37.232 writes them:
+-- -5h30, 0, -4t) and with time quality and leap second. Which texts else are a time code, and that it is below a day, is
+-- this project's profile.
 use Rattle.std.specs.Prelude.{ℕ, ◌+◌, ◌-◌, ◌*◌, ◌≤◌, Bool, ◌&&◌, ◌||◌, if◌then◌else◌, List, [], ◌∷◌, take, drop, Option, Some, None, nat_eq, nat_le, ℤ, pos, neg_ℤ, unsigned_abs, ⊤}
 use Rattle.record_text.specs.Numbers.{is_digit}
 use Rattle.record_stamp.specs.Parts.{number_up_to, with_some}

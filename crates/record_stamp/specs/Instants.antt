@@ -1,6 +1,6 @@
 -- The instant that the numbers of a stamp name.
--- Source: IEEE C37.111-2013, 5.3.10 and 5.3.11 (dd/mm/yyyy), -1991 (mm/dd/yy), and 5.3.13 (UTC is the time less its
--- time code); ITU-R TF.460 for second 60. The years, that a month stands first also where the second number is above
+-- Source: IEEE C37.111-1999 and -2013 (dd/mm/yyyy), -1991 (mm/dd/yy), and the time code of -2013 (UTC is the time less
+-- its time code); ITU-R TF.460 for second 60. The years, that a month stands first also where the second number is above
 -- 12, and that a time without a zone is UTC, is this project's profile.
 use Rattle.std.specs.Prelude.{◌≤◌, ◌<◌, ℕ, ◌+◌, ◌*◌, Bool, not, ◌&&◌, ◌||◌, ◌==◌, nat_le, nat_lt, if◌then◌else◌, Option, Some, None, Result, Ok, Err, ℤ, pos, ◌-ℤ◌, int_lt, unsigned_abs, ⊤}
 use Rattle.irig_time.specs.declared.second.TheConstants.{FIRST_DAY, LAST_DAY}

@@ -1,5 +1,5 @@
 -- The numbers of a stamp as they stand in its text: dd/mm/yyyy and hh:mm:ss.ssssss.
--- Source: IEEE C37.111-1991, -1999 and -2013, 5.3 (the lines of date and time; since 2013 up to nine decimals). That a
+-- Source: IEEE C37.111-1991, -1999 and -2013 (the lines of date and time; since 2013 up to nine decimals). That a
 -- year of two digits is one from 2000 on, and that decimals after the ninth are zeros, is this project's profile.
 use Rattle.std.specs.Prelude.{ℕ, ◌+◌, if◌then◌else◌, List, [], ◌∷◌, length, take, drop, Option, Some, None, nat_eq, nat_le}
 use Rattle.record_text.specs.Numbers.{number}

@@ -1,6 +1,6 @@
 -- The stamps of a record, by its configuration.
--- Source: IEEE C37.111-2013, 5.3.10, 5.3.11 (the first sample, the trigger), 5.3.13 (time code) and 5.3.14 (quality, leap
--- second).
+-- Source: IEEE C37.111-2013: below the rates stand the lines of the first sample, of the trigger, of how samples are
+-- stored, of the multiple, of the time code, and of quality and leap second.
 use Rattle.std.specs.Prelude.{ℕ, ◌+◌, List, Option, Some, None, Result, Ok, Err, ℤ}
 use Rattle.record_text.specs.Fields.{field}
 use Rattle.record_comtrade.specs.Configs.{ConfigValue, text_at}

@@ -1,5 +1,5 @@
 -- What a stamp says.
--- Source: IEEE C37.111-1991, -1999 and -2013, 5.3 (the lines of date and time), by the definitions of Parts.antt and
+-- Source: IEEE C37.111-1991, -1999 and -2013 (the lines of date and time), by the definitions of Parts.antt and
 -- Instants.antt.
 use Rattle.std.specs.Prelude.{ℕ, List, Option, Some, None, Result, Ok, Err, ℤ, nat_eq, if◌then◌else◌}
 use Rattle.record_stamp.specs.declared.parts.DateNumbers.{DateNumbers}
