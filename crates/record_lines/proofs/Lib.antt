@@ -6,3 +6,7 @@ pub mod ToldLaws
 pub mod HearLaws
 pub mod CarriedLaws
 pub mod ReceiverFacts
+pub mod HeardLaws
+pub mod ChannelLaws
+pub mod PlayLaws
+pub mod SeeLaws

@@ -4,3 +4,9 @@ pub mod ToldSeconds
 pub mod Receivers
 pub mod Passing
 pub mod RecordedLines
+pub mod Paces
+pub mod Heard
+pub mod Changes
+pub mod Helds
+pub mod Channels
+pub mod Recordings

@@ -7,14 +7,22 @@
 //! of more than f of them ([`named_seconds_are_carried`]).
 #![tactic(auto)]
 
+mod change;
+mod channel;
+mod channels;
 mod laws;
 mod line;
+mod pace;
 mod receiver;
+mod recording;
 mod rises;
+mod second;
 mod told;
 
 pub use laws::{named_seconds_are_carried, what_is_in_order_is_told};
 pub use line::RecordedLine;
 pub use receiver::Receiver;
+pub use recording::Recording;
 pub use rises::Rises;
+pub use second::RecordedSecond;
 pub use told::ToldSecond;

@@ -11,7 +11,8 @@ use irig_port::FlowPort;
 use irig_reader::ReaderRules;
 use irig_time::{LeapTable, Rules, Timeline, UtcSecond};
 use irig_vote::Redundancy;
-use record_lines::{Receiver, ToldSecond};
+use record_levels::Levels;
+use record_lines::{Receiver, RecordedSecond, Recording, ToldSecond};
 use std::test::Fail;
 
 const BEGIN_US: u64 = 4_295_000_000;
@@ -160,4 +161,123 @@ fn what_is_not_in_order_is_not_told(rt: HostRuntime) -> Result<(), Fail> {
     assert!(rt; receiver.hear(2, BEGIN_US, 8_000) == 0);
     assert!(rt; receiver.hear(2, BEGIN_US + 5_000_000, 8_000) == 1);
     Ok(())
+}
+
+/// What three lines say at a time of an element: pulses of the second one are low.
+fn levels(frame: [Symbol; 100], lie: [Symbol; 100], place: usize, at_us: u32) -> u8
+    requires { place < 100 }
+{
+    let is_high = at_us < frame[place].width_us();
+    let is_lie_high = at_us < lie[place].width_us();
+    u8::from(is_high) | u8::from(!is_high) << 1 | u8::from(is_lie_high) << 2
+}
+
+/// The last second that a recording told, and how many it did.
+#[derive(Clone, Copy)]
+struct Shown {
+    last: Option<RecordedSecond>,
+    count: u32,
+}
+
+fn show(recording: &mut Recording<FlowPort>, shown: Shown) -> Shown {
+    let mut shown = shown;
+    for _ in 0..100 {
+        let Some(second) = recording.next() else {
+            return shown;
+        };
+        shown = Shown {
+            last: Some(second),
+            count: shown.count.saturating_add(1),
+        };
+    }
+    shown
+}
+
+/// A second of the lines by a recorder whose clock is 0.3% fast.
+fn record_second(
+    recording: &mut Recording<FlowPort>,
+    frame: [Symbol; 100],
+    lie: [Symbol; 100],
+    edge_us: u64,
+    shown: Shown,
+) -> Shown
+    requires { edge_us < 2 ^ 50 }
+{
+    let mut shown = shown;
+    for place in 0..100usize {
+        for at_us in [0u32, 2_000, 5_000, 8_000] {
+            let time_us = edge_us + place as u64 * 10_000 + u64::from(at_us);
+            recording.levels(Levels {
+                time_ns: time_us * 1_003,
+                high: levels(frame, lie, place, at_us),
+            });
+            shown = show(recording, shown);
+        }
+    }
+    shown
+}
+
+#[test]
+fn a_recording_shows_the_seconds_of_most_lines(rt: HostRuntime) -> Result<(), Fail> {
+    let zone = Zone {
+        half_hours: 0,
+        dst: false,
+    };
+    let (Ok(timeline), Ok(generator), Ok(mut recording)) = (
+        Timeline::new(rt.alloc(), START, &[]),
+        Generator::new(rt.alloc(), zone, &[], Rules::PLAIN),
+        Recording::<FlowPort>::new(Rules::PLAIN, clock(), LeapTable::empty(), 50_000),
+    ) else {
+        return Err(Fail::from("no recording"));
+    };
+    recording.levels(Levels {
+        time_ns: 0,
+        high: 2,
+    });
+    let mut shown = Shown {
+        last: None,
+        count: 0,
+    };
+    for n in 0u32..6 {
+        let (Some(frame), Some(lie)) = (
+            generator.frame_at(&timeline, u64::from(n)),
+            generator.frame_at(&timeline, u64::from(n) + 18),
+        ) else {
+            return Err(Fail::from("no frame"));
+        };
+        let edge_us = 300_000 + u64::from(n) * 1_000_000;
+        shown = record_second(&mut recording, frame, lie, edge_us, shown);
+    }
+    recording.end(6_310_000 * 1_003);
+    shown = show(&mut recording, shown);
+    assert!(rt; shown.count == 6);
+    assert!(rt; is_shown(shown.last, START.sod + 5, 6_300_000));
+    assert!(rt; recording.line(1).polarity() == Some(false));
+    Ok(())
+}
+
+/// Whether a second has this one as its vote, which ended at an edge of the lines' time or 1 ms from it,
+/// by the recorder's clock 0.3% later, and whether each line's frame ended there.
+fn is_shown(shown: Option<RecordedSecond>, sod: u32, edge_us: u64) -> bool {
+    let Some(second) = shown else {
+        return false;
+    };
+    let Some(claim) = second.vote else {
+        return false;
+    };
+    let recorder_us = edge_us.saturating_mul(1_003) / 1_000;
+    claim.at.sod == sod
+        && edge_us.abs_diff(second.lines_us) <= 1_000
+        && recorder_us.abs_diff(second.edge_us) <= 1_000
+        && is_near(second.ends_us[0], recorder_us)
+        && is_near(second.ends_us[1], recorder_us)
+        && is_near(second.ends_us[2], recorder_us)
+        && second.ends_us[3].is_none()
+}
+
+fn is_near(end_us: Option<u64>, edge_us: u64) -> bool {
+    match end_us {
+        Some(end_us) => end_us.abs_diff(edge_us) <= 1_000,
+        None => false,
+    }
 }
