@@ -24,7 +24,8 @@ pub fn offset_between(truth: Option<UtcSecond>, told: Option<UtcSecond>) -> Opti
     }
 }
 
-fn offset_from(truth: UtcSecond, told: UtcSecond) -> Offset
+/// How far a second is from the true one.
+pub fn offset_from(truth: UtcSecond, told: UtcSecond) -> Offset
     ensures { result ≡ offset_from truth told }
 {
     Offset {

@@ -80,7 +80,8 @@ pub fn push_offsets(
     text.push_str(" at last")
 }
 
-fn push_offset(text: &mut String, offset: Offset) -> Result<(), AllocError>
+/// Pushes how far a second was from the true one, as `18 s ahead`.
+pub fn push_offset(text: &mut String, offset: Offset) -> Result<(), AllocError>
     ensures { OnOk result (string_bytes text.new
         ≡ string_bytes text.old ++ offset_text offset) }
 {

@@ -29,4 +29,6 @@ mod texts;
 #[cfg(test)]
 mod times;
 #[cfg(test)]
+mod verdicts;
+#[cfg(test)]
 mod wires;

@@ -1,0 +1,3 @@
+pub mod EndedLaws
+pub mod ZeroLaws
+pub mod StandardFacts

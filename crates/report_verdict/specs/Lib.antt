@@ -1,0 +1,9 @@
+pub mod Tales
+pub mod Stretches
+pub mod Lines
+pub mod Ended
+pub mod Zeros
+pub mod Verdicts
+pub mod NumberText
+pub mod LineText
+pub mod VerdictText

@@ -1,0 +1,215 @@
+//! The text of a verdict.
+
+ghost use Rattle.std.specs.Prelude.{◌≡◌, ◌++◌, string_bytes, OnOk};
+ghost use Rattle.report_verdict.specs.VerdictText.{
+  agreed_line,
+  agreed_words,
+  apart_line,
+  begins_line,
+  decided_text,
+  differs,
+  lines_text,
+  month_line,
+  month_words,
+  others_line,
+  same_line,
+  undecided_line,
+  verdict_text,
+  wrong_text,
+  zero_line,
+};
+
+use crate::line_seen::{LineSeen, push_line};
+use crate::number_text::{push_instant, push_seconds, push_utc};
+use crate::stretch::AgreedSecond;
+use crate::stretch_text::{push_more, push_stretches, push_unended};
+use crate::verdict::Verdict;
+use crate::zero::{Zero, zero_at};
+use irig_time::UtcSecond;
+use std::alloc::AllocError;
+
+/// Pushes the text of a verdict: which line is wrong, since when and by how much; on which seconds most
+/// lines agree; when the recording begins; and what was seen on each line. It fails only if there is no
+/// memory.
+pub fn push_verdict(
+    text: &mut String,
+    verdict: &Verdict,
+    lines: &[LineSeen<'_>],
+) -> Result<(), AllocError>
+    ensures { OnOk result (string_bytes text.new
+        ≡ string_bytes text.old ++ verdict_text verdict.now lines.now) }
+{
+    push_judgement(text, verdict, lines)?;
+    push_lines(text, lines)
+}
+
+fn push_judgement(
+    text: &mut String,
+    verdict: &Verdict,
+    lines: &[LineSeen<'_>],
+) -> Result<(), AllocError>
+    ensures { OnOk result (string_bytes text.new
+        ≡ string_bytes text.old ++ decided_text verdict.now lines.now) }
+{
+    match (&verdict.first, &verdict.last) {
+        (Some(first), Some(last)) => {
+            push_wrong(text, verdict, lines)?;
+            push_agreed(text, verdict, first, last)?;
+            push_others(text, verdict.without_vote)?;
+            push_apart(text, verdict)?;
+            push_zero(text, zero_at(first))
+        }
+        _ => text.push_str(undecided_line(verdict.lines)),
+    }
+}
+
+// What is wrong with lines.
+fn push_wrong(
+    text: &mut String,
+    verdict: &Verdict,
+    lines: &[LineSeen<'_>],
+) -> Result<(), AllocError>
+    ensures { OnOk result (string_bytes text.new
+        ≡ string_bytes text.old ++ wrong_text verdict.now lines.now) }
+{
+    if !verdict.differs() {
+        return text.push_str(same_line(verdict.lines));
+    }
+    push_stretches(text, lines, &verdict.ended.kept)?;
+    push_more(text, verdict.ended.more)?;
+    push_unended(text, lines, &verdict.unended)
+}
+
+impl Verdict {
+    // Whether any line is wrong.
+    fn differs(&self) -> bool
+        ensures { result ≡ differs self.now }
+    {
+        !self.ended.kept.is_empty()
+            || self.unended.a.is_some()
+            || self.unended.b.is_some()
+            || self.unended.c.is_some()
+            || self.unended.d.is_some()
+            || self.unended.e.is_some()
+    }
+}
+
+fn same_line(lines: u8) -> &'static str
+    ensures { result.now ≡ same_line lines }
+{
+    if lines == 1 {
+        "one line alone: no other can outvote it\n"
+    } else {
+        "no line differs\n"
+    }
+}
+
+fn undecided_line(lines: u8) -> &'static str
+    ensures { result.now ≡ undecided_line lines }
+{
+    if lines == 1 {
+        "undecided: the line has no whole frame that claims a second\n"
+    } else {
+        "undecided: most lines never claim one second in frames that end near one another\n"
+    }
+}
+
+#[tactic(auto, unfolding(crate::specs::VerdictText::agreed_line))]
+fn push_agreed(
+    text: &mut String,
+    verdict: &Verdict,
+    first: &AgreedSecond,
+    last: &AgreedSecond,
+) -> Result<(), AllocError>
+    ensures { OnOk result (string_bytes text.new
+        ≡ string_bytes text.old ++ agreed_line verdict.now first.now last.now) }
+{
+    text.push_str(agreed_words(verdict.lines))?;
+    push_seconds(text, verdict.agreed, first, last)?;
+    text.push_str("\n")
+}
+
+fn agreed_words(lines: u8) -> &'static str
+    ensures { result.now ≡ agreed_words lines }
+{
+    if lines == 1 {
+        "the line claims "
+    } else {
+        "most lines agree on "
+    }
+}
+
+// How many seconds were counted on which they do not agree.
+#[tactic(auto, unfolding(crate::specs::VerdictText::others_line))]
+fn push_others(text: &mut String, seconds: u64) -> Result<(), AllocError>
+    ensures { OnOk result (string_bytes text.new ≡ string_bytes text.old ++ others_line seconds) }
+{
+    match seconds {
+        0 => Ok(()),
+        1 => text.push_str("1 more second has no vote\n"),
+        _ => write!(text, "{seconds} more seconds have no vote\n"),
+    }
+}
+
+#[tactic(auto, unfolding(crate::specs::VerdictText::apart_line))]
+fn push_apart(text: &mut String, verdict: &Verdict) -> Result<(), AllocError>
+    ensures { OnOk result (string_bytes text.new
+        ≡ string_bytes text.old ++ apart_line verdict.now) }
+{
+    if verdict.lines == 1 {
+        return Ok(());
+    }
+    let apart_us = verdict.apart_us;
+    write!(
+        text,
+        "the lines that agree are at most {apart_us} us apart\n"
+    )
+}
+
+fn push_zero(text: &mut String, zero: Zero) -> Result<(), AllocError>
+    ensures { OnOk result (string_bytes text.new ≡ string_bytes text.old ++ zero_line zero) }
+{
+    match zero {
+        Zero::At { second, since_us } => push_begins(text, &second, since_us),
+        Zero::Undecided { day } => push_month(text, &UtcSecond { day, sod: 86_399 }),
+        Zero::OutOfYears => {
+            text.push_str("the recording does not begin between 2000-01-02 and 2099-12-30\n")
+        }
+    }
+}
+
+#[tactic(auto, unfolding(crate::specs::VerdictText::begins_line))]
+fn push_begins(text: &mut String, second: &UtcSecond, since_us: u32) -> Result<(), AllocError>
+    ensures { OnOk result (string_bytes text.new
+        ≡ string_bytes text.old ++ begins_line second.now since_us) }
+{
+    text.push_str("0.000 s of the recording is ")?;
+    push_instant(text, second, since_us)?;
+    text.push_str("\n")
+}
+
+#[tactic(auto, unfolding(crate::specs::VerdictText::month_line))]
+fn push_month(text: &mut String, last: &UtcSecond) -> Result<(), AllocError>
+    ensures { OnOk result (string_bytes text.new ≡ string_bytes text.old ++ month_line last.now) }
+{
+    text.push_str(month_words())?;
+    push_utc(text, last)?;
+    text.push_str("\n")
+}
+
+#[tactic(auto, unfolding(crate::specs::VerdictText::month_words))]
+fn month_words() -> &'static str
+    ensures { result.now ≡ month_words }
+{
+    "undecided when the recording begins: no frame says if a leap second follows "
+}
+
+// What was seen on each line.
+fn push_lines(text: &mut String, lines: &[LineSeen<'_>]) -> Result<(), AllocError>
+    ensures { OnOk result (string_bytes text.new ≡ string_bytes text.old ++ lines_text lines.now) }
+{
+    for line in lines {
+        push_line(text, line)?;
+    }
+    Ok(())
+}
