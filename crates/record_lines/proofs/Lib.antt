@@ -10,3 +10,4 @@ pub mod HeardLaws
 pub mod ChannelLaws
 pub mod PlayLaws
 pub mod SeeLaws
+pub mod OnLaws

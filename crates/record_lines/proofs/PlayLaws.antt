@@ -30,12 +30,13 @@ use Rattle.record_lines.specs.Receivers.{IsReceiverOf, told_rise}
 use Rattle.record_lines.specs.RecordedLines.{pulse_by}
 use Rattle.record_lines.specs.Recordings.{AreOfLines, HasPlayed, IsOfLine, IsOfRecording, IsPlayedTo, PlaysOn}
 use Rattle.record_lines.specs.Times.{risen_at}
+use Rattle.irig_timekeeper.proofs.OrderLaws.{five}
 use Rattle.record_lines.proofs.HearLaws.{may_be_told}
 
 -- ---- more is played
 
 -- a pulse is one of those with one more
-one_with : (p : Pulse) (o : Option Pulse) (pulses : List Pulse) → IsOneOf p pulses → IsOneOf p (with_pulse o pulses)
+pub one_with : (p : Pulse) (o : Option Pulse) (pulses : List Pulse) → IsOneOf p pulses → IsOneOf p (with_pulse o pulses)
 one_with p None pulses is = is
 one_with p (Some q) pulses is = inr is
 
@@ -48,6 +49,7 @@ one_later p polarity line other edge played is = elim (cases_Bool (line == other
 module _ (made : MadeOf) (seen played : ℕ → List Edge) (line : ℕ) (edge : Edge) where
   of_later : (other rise width : ℕ) → IsOfLine made seen played other rise width → IsOfLine made seen (and_played line edge played) other rise width
   of_later other rise width is = record {
+    there = is.there;
     polarity = is.polarity;
     known = is.known;
     pulse = is.pulse;
@@ -108,6 +110,7 @@ module _ {P : Type 0} {g : Ghosts P} (old new : Receiver P g) (made : MadeOf) (s
         is = (hears made start calls is).is;
         are = (
           record {
+            there = omega (arith, may.there, five old.clock.redundancy);
             polarity = by.known;
             known = by.is;
             pulse = pulse;
@@ -205,7 +208,7 @@ module _ {P : Type 0} {g : Ghosts P} (old new : Recording P g) (place : ℕ) (ma
 
 -- ---- all was played
 
-none_left : {A : Type 0} (xs : List A) (n : ℕ) → xs ≡ [] → drop n xs ≡ []
+pub none_left : {A : Type 0} (xs : List A) (n : ℕ) → xs ≡ [] → drop n xs ≡ []
 none_left xs n e = ap (drop n) e ∙ drop_of_length-le [] (omega arith)
 
 module _ {P : Type 0} {g : Ghosts P} (old new : Recording P g) (place : ℕ) (made : MadeOf) (start : ℕ) (seen played : ℕ → List Edge) (calls : List Call) (is : IsPlayedTo old place made start seen played calls) where

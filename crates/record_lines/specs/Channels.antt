@@ -19,12 +19,17 @@ AreChannelsOf channels seen played =
     (line : ℕ) (channel : Channel) → slice_get channels.all line ≡ Some channel
     → IsRecordedLine channel.line None (seen line) (played line)
 
--- to the lines these levels were told up to a time; those changes were seen, the oldest first, and those
--- were played
-abbrev pub AreChannelsTo : Channels → (glitch now : ℕ) → (told seen played : ℕ → List Edge) → Type 0
-AreChannelsTo channels glitch now told seen played =
+-- to the lines these levels were told up to a time or to the end; those changes were seen, the oldest
+-- first, and those were played
+abbrev pub AreChannelsTo : Channels → (glitch : ℕ) → Option ℕ → (told seen played : ℕ → List Edge)
+    → Type 0
+AreChannelsTo channels glitch until told seen played =
     (line : ℕ) (channel : Channel) → slice_get channels.all line ≡ Some channel
-    → IsChannelTo channel glitch now (told line) (seen line) (played line)
+    → IsChannelTo channel glitch until (told line) (seen line) (played line)
+
+-- of no line anything
+abbrev pub no_edges : ℕ → List Edge
+no_edges line = []
 
 -- what each line has, with more of a line
 abbrev pub and_on : (line : ℕ) → List Edge → (ℕ → List Edge) → ℕ → List Edge
@@ -34,16 +39,22 @@ and_on line more all other = if line == other then all other ++ more else all ot
 abbrev pub LineRipens : (old new : Channels) → (line time : ℕ) → Option Edge → Type 0
 LineRipens old new line time edge =
     (glitch now : ℕ) (told seen played : ℕ → List Edge)
-    → AreChannelsTo old glitch now told seen played → now ≤ time
-    → AreChannelsTo new glitch time told (and_on line (option_to_list edge) seen) played
+    → AreChannelsTo old glitch (Some now) told seen played → now ≤ time
+    → AreChannelsTo new glitch (Some time) told (and_on line (option_to_list edge) seen) played
 
 -- a level more was told of a line, and what comes out with it is seen
 abbrev pub LineIsTold : (old new : Channels) → (line : ℕ) → (level : Edge) → Option Edge → Type 0
 LineIsTold old new line level edge =
     (glitch now : ℕ) (told seen played : ℕ → List Edge)
-    → AreChannelsTo old glitch now told seen played → now ≤ level.time_ns
-    → AreChannelsTo new glitch level.time_ns (and_on line (level ∷ []) told)
+    → AreChannelsTo old glitch (Some now) told seen played → now ≤ level.time_ns
+    → AreChannelsTo new glitch (Some level.time_ns) (and_on line (level ∷ []) told)
     (and_on line (option_to_list edge) seen) played
+
+-- at the end what comes out on a line is seen
+abbrev pub LineEnds : (old new : Channels) → (line : ℕ) → Option Edge → Type 0
+LineEnds old new line edge =
+    (glitch : ℕ) (told seen played : ℕ → List Edge) → AreChannelsTo old glitch None told seen played
+    → AreChannelsTo new glitch None told (and_on line (option_to_list edge) seen) played
 
 -- what levels say of a line
 abbrev pub level_in : Levels → (line : ℕ) → Edge
@@ -56,3 +67,9 @@ level_in levels line = record {
 abbrev pub told_of_lines : (lines : ℕ) → Levels → (ℕ → List Edge) → ℕ → List Edge
 told_of_lines lines levels told line =
     if nat_lt line lines then told line ++ level_in levels line ∷ [] else told line
+
+-- of each line the same waits to be known as no glitch
+abbrev pub AreAsSteady : (old new : Channels) → Type 0
+AreAsSteady old new =
+    (line : ℕ) (channel : Channel) → slice_get new.all line ≡ Some channel
+    → (was : Channel) × (slice_get old.all line ≡ Some was) × (channel.steady ≡ was.steady)

@@ -1,8 +1,9 @@
 -- A recording as it is played: the pulses that a timekeeper was told are those of its lines. Changes of a
 -- line, without glitches, are listed the newest first.
 -- Source: this project's profile.
-use Rattle.std.specs.Prelude.{◌≡◌, ℕ, ◌+◌, ◌≤◌, Bool, List, [], ◌∷◌, ◌++◌, drop, reverse, Option, Some, None, slice_get, IsTrue, ⊤}
+use Rattle.std.specs.Prelude.{◌≡◌, ℕ, ◌+◌, ◌<◌, ◌≤◌, Bool, List, [], ◌∷◌, ◌++◌, drop, reverse, Option, Some, None, slice_get, IfSome, IsTrue, ⊤}
 use Rattle.irig_port.specs.declared.port.Port.{Ghosts}
+use Rattle.irig_vote.specs.Vote.{ports_in}
 use Rattle.irig_lines.specs.Delays.{delay_at}
 use Rattle.irig_timekeeper.specs.Life.{Call}
 use Rattle.irig_timekeeper.specs.Life.Call.{Hear, Tick}
@@ -11,6 +12,7 @@ use Rattle.record_levels.specs.declared.levels.Levels.{Levels}
 use Rattle.record_pulses.specs.declared.edge.Edge.{Edge}
 use Rattle.record_pulses.specs.declared.edge.Pulse.{Pulse}
 use Rattle.record_pulses.specs.Looks.{polarity_of}
+use Rattle.record_pulses.specs.Glitches.{AreInOrder, without_glitches}
 use Rattle.record_pulses.specs.Pulses.{IsOneOf, pulses_of}
 use Rattle.record_lines.specs.declared.change.Change.{Change}
 use Rattle.record_lines.specs.declared.pace.LinesTime.{LinesTime}
@@ -18,7 +20,8 @@ use Rattle.record_lines.specs.declared.recording.Recording.{Recording}
 use Rattle.record_lines.specs.declared.second.RecordedSecond.{RecordedSecond}
 use Rattle.record_lines.specs.declared.told.ToldSecond.{ToldSecond}
 use Rattle.record_lines.specs.Changes.{changes_on, edge_of}
-use Rattle.record_lines.specs.Channels.{AreChannelsOf, AreChannelsTo, and_on, and_played, told_of_lines}
+use Rattle.record_lines.specs.Channels.{AreChannelsOf, AreChannelsTo, and_on, and_played, no_edges, told_of_lines}
+use Rattle.record_lines.specs.Heard.{MayCome}
 use Rattle.record_lines.specs.Helds.{has_room, room}
 use Rattle.record_lines.specs.Paces.{lines_at}
 use Rattle.record_lines.specs.Receivers.{IsReceiverOf}
@@ -28,6 +31,7 @@ use Rattle.record_lines.specs.ToldSeconds.{IsToldAfter}
 -- a timekeeper was told a pulse of a line: it is one of those that its changes make by the line's polarity,
 -- is as wide, and rose at the lines' time of its rise
 pub record IsOfLine (made : MadeOf) (seen played : ℕ → List Edge) (line rise width : ℕ) : Type 0 where
+  pub there : line < 5
   pub polarity : Bool
   pub known : polarity_of None (seen line) ≡ Some polarity
   pub pulse : Pulse
@@ -66,12 +70,12 @@ SeesMore old new seen more played =
     → IsPlayedTo old old.held.played made start (newest seen) played calls
     → IsPlayedTo new new.held.played made start (newest more) played calls
 
--- levels were told of each line up to a time, of which these changes were seen
-pub record IsToldTo {P : Type 0} {g : Ghosts P} (old new : Recording P g) (glitch time : ℕ)
-    (told seen played : ℕ → List Edge)
+-- levels were told of each line up to a time or to the end, of which these changes were seen
+pub record IsToldTo {P : Type 0} {g : Ghosts P} (old new : Recording P g) (glitch : ℕ)
+    (until : Option ℕ) (told seen played : ℕ → List Edge)
     : Type 0 where
   pub more : ℕ → List Edge
-  pub are : AreChannelsTo new.channels glitch time told more played
+  pub are : AreChannelsTo new.channels glitch until told more played
   pub sees : SeesMore old new seen more played
 
 -- a level more was told of a line
@@ -79,17 +83,18 @@ abbrev pub IsToldLevel : {P : Type 0} {g : Ghosts P} → (old new : Recording P 
     → (level : Edge) → Type 0
 IsToldLevel old new line level =
     (glitch now : ℕ) (told seen played : ℕ → List Edge)
-    → AreChannelsTo old.channels glitch now told seen played → now ≤ level.time_ns
+    → AreChannelsTo old.channels glitch (Some now) told seen played → now ≤ level.time_ns
     → 2 ≤ room old.held
-    → IsToldTo old new glitch level.time_ns (and_on line (level ∷ []) told) seen played
+    → IsToldTo old new glitch (Some level.time_ns) (and_on line (level ∷ []) told) seen played
 
 -- levels were told that do not lie before those told last, and for which there was room
 abbrev pub IsToldLevels : {P : Type 0} {g : Ghosts P} → (old new : Recording P g) → Levels → Type 0
 IsToldLevels old new levels =
     (glitch : ℕ) (told seen played : ℕ → List Edge)
-    → AreChannelsTo old.channels glitch old.now_ns told seen played
+    → AreChannelsTo old.channels glitch (Some old.now_ns) told seen played
     → old.now_ns ≤ levels.time_ns → IsTrue (has_room old.held)
-    → IsToldTo old new glitch levels.time_ns (told_of_lines old.lines levels told) seen played
+    → IsToldTo old new glitch (Some levels.time_ns) (told_of_lines old.lines levels told) seen
+    played
 
 -- the change at a place is played: whatever was played before, it is played too
 abbrev pub PlaysOn : {P : Type 0} {g : Ghosts P} → (old new : Recording P g) → Change → (place : ℕ)
@@ -131,9 +136,84 @@ pub record IsShownAs (second : RecordedSecond) (told : ToldSecond) : Type 0 wher
   pub beat : second.beat ≡ told.beat
   pub vote : second.vote ≡ told.vote
 
--- what is shown next was told, or nothing was
-abbrev pub ShowsOn : {P : Type 0} {g : Ghosts P} → (old new : Recording P g) → Option RecordedSecond
+-- ---- what was told of a recording
+
+-- up to when a recording was told, unless it has ended
+abbrev pub until_of : (ended : Option ℕ) → (now : ℕ) → Option ℕ
+until_of None now = Some now
+until_of (Some time) now = None
+
+-- a recording whose timekeeper was made of this, where a level lasts for so long or is a glitch, and to
+-- whose lines these levels were told, the oldest first
+pub record IsRecordingOf {P : Type 0} {g : Ghosts P} (r : Recording P g) (made : MadeOf) (glitch : ℕ)
+    (told : ℕ → List Edge)
+    : Type 0 where
+  pub seen : ℕ → List Edge
+  pub played : ℕ → List Edge
+  pub calls : List Call
+  pub count : r.lines ≡ ports_in made.clock.redundancy
+  pub channels : AreChannelsTo r.channels glitch (until_of r.end_us r.now_ns) told seen played
+  pub is : IsPlayedTo r r.held.played made 0 (newest seen) played calls
+
+-- a timekeeper was told a pulse that a line has by its levels without glitches, whatever may still come: it
+-- is as wide, and it rose at a lines' time of its rise
+pub record IsOfLevels (made : MadeOf) (glitch : ℕ) (until : Option ℕ) (told : ℕ → List Edge)
+    (line rise width : ℕ)
+    : Type 0 where
+  pub polarity : Bool
+  pub pulse : Pulse
+  pub of : (rest : List Edge) → MayCome until rest → AreInOrder rest → IsOneOf pulse
+      (pulses_of polarity (reverse (without_glitches glitch (told line ++ rest))))
+  pub wide : width ≡ pulse.width_us
+  pub time : LinesTime
+  pub rises : risen_at (lines_at time pulse.rise_us) (delay_at made.clock.delays line) ≡ Some rise
+
+-- so is each that it was told
+abbrev pub AreOfLevels : MadeOf → (glitch : ℕ) → Option ℕ → (told : ℕ → List Edge) → List Call
     → Type 0
-ShowsOn old new None = PlaysUpTo old new None
-ShowsOn old new (Some second) =
-    (told : ToldSecond) × IsShownAs second told × PlaysUpTo old new (Some told)
+AreOfLevels made glitch until told [] = ⊤
+AreOfLevels made glitch until told (Hear line rise width ∷ calls) =
+    IsOfLevels made glitch until told line rise width × AreOfLevels made glitch until told calls
+AreOfLevels made glitch until told (Tick now ∷ calls) = AreOfLevels made glitch until told calls
+
+-- a second that is shown was told by a timekeeper after such pulses alone
+pub record IsCarriedBy (made : MadeOf) (glitch : ℕ) (until : Option ℕ) (told : ℕ → List Edge)
+    (second : RecordedSecond)
+    : Type 0 where
+  pub at : ToldSecond
+  pub shown : IsShownAs second at
+  pub calls : List Call
+  pub tells : IsToldAfter made calls at
+  pub are : AreOfLevels made glitch until told calls
+
+-- more was played, and nothing told: whatever was told of it before, it is a recording of that, and what is
+-- shown is carried by that
+pub record IsPlayedOn {P : Type 0} {g : Ghosts P} (old new : Recording P g)
+    (shown : Option RecordedSecond)
+    : Type 0 where
+  pub is : (made : MadeOf) (glitch : ℕ) (told : ℕ → List Edge) → IsRecordingOf old made glitch told
+      → IsRecordingOf new made glitch told
+  pub carried : (made : MadeOf) (glitch : ℕ) (told : ℕ → List Edge) → IsRecordingOf old made glitch told
+      → IfSome shown (IsCarriedBy made glitch (until_of old.end_us old.now_ns) told)
+
+-- nothing was told of a recording
+pub record IsNewRecording {P : Type 0} {g : Ghosts P} (r : Recording P g) (made : MadeOf) (glitch : ℕ)
+    : Type 0 where
+  pub is : IsRecordingOf r made glitch no_edges
+  pub now : r.now_ns ≡ 0
+  pub goes : r.end_us ≡ None
+  pub room : IsTrue (has_room r.held)
+
+-- levels are told of a recording that has not ended, and had come to no later time, if there is room
+abbrev pub IsToldOn : {P : Type 0} {g : Ghosts P} → (old new : Recording P g) → Levels → Type 0
+IsToldOn old new levels =
+    (made : MadeOf) (glitch : ℕ) (told : ℕ → List Edge) → IsRecordingOf old made glitch told
+    → old.end_us ≡ None → old.now_ns ≤ levels.time_ns → IsTrue (has_room old.held)
+    → IsRecordingOf new made glitch
+    (told_of_lines (ports_in made.clock.redundancy) levels told)
+
+-- a recording ends, if there is room for what comes then
+abbrev pub IsEndedOn : {P : Type 0} {g : Ghosts P} → (old new : Recording P g) → Type 0
+IsEndedOn old new =
+    (made : MadeOf) (glitch : ℕ) (told : ℕ → List Edge) → IsRecordingOf old made glitch told
+    → IsTrue (has_room old.held) → IsRecordingOf new made glitch told

@@ -1,8 +1,8 @@
 //! A line as a recording has it.
 
-ghost use Rattle.std.specs.Prelude.{◌≡◌, ◌∷◌, List, None};
+ghost use Rattle.std.specs.Prelude.{◌≡◌, [], ◌∷◌, List, None, Some};
 ghost use Rattle.record_pulses.specs.Looks.{polarity_of};
-ghost use Rattle.record_lines.specs.Heard.{IsToldMore, RipensTo, SeesOn};
+ghost use Rattle.record_lines.specs.Heard.{EndsOn, IsChannelTo, IsToldMore, RipensTo, SeesOn};
 ghost use Rattle.record_lines.specs.RecordedLines.{IsRecordedLine, pulse_by};
 
 use crate::line::RecordedLine;
@@ -18,7 +18,9 @@ pub(crate) struct Channel {
 
 impl Channel {
     /// A line of which nothing came, where a level lasts for so many nanoseconds or is a glitch.
-    pub(crate) fn new(glitch_ns: u64) -> Channel {
+    pub(crate) fn new(glitch_ns: u64) -> Channel
+        ensures { IsChannelTo result glitch_ns (Some 0) [] [] [] }
+    {
         Channel {
             steady: Steady::new(glitch_ns),
             line: RecordedLine::new(None),
@@ -39,7 +41,9 @@ impl Channel {
     }
 
     /// The change that waits is seen, and comes out.
-    pub(crate) fn let_out(&mut self) -> Option<Edge> {
+    pub(crate) fn let_out(&mut self) -> Option<Edge>
+        ensures { EndsOn self.old self.new result }
+    {
         let edge = self.steady.let_out();
         self.see(edge);
         edge
@@ -70,13 +74,15 @@ impl Channel {
             → result ≡ pulse_by (polarity_of None seen) edge played }
         ensures new { (seen played : List Edge) → IsRecordedLine self.old.line None seen played
             → IsRecordedLine self.new.line None seen (edge ∷ played) }
+        ensures steady { self.new.steady ≡ self.old.steady }
     {
         self.line.play(edge)
     }
 
     /// A whole frame ends then.
     pub(crate) fn ends_at(&mut self, end_us: u64)
-        ensures { self.new.line ≡ self.old.line }
+        ensures line { self.new.line ≡ self.old.line }
+        ensures steady { self.new.steady ≡ self.old.steady }
     {
         self.end_us = Some(end_us);
     }

@@ -1,8 +1,7 @@
 //! The lines of a recording.
 
-ghost use Rattle.std.specs.Prelude.{◌≡◌, ◌<◌, None, ℕ, List};
+ghost use Rattle.std.specs.Prelude.{◌≡◌, ◌<◌, None, Some, ℕ, List, length};
 ghost use Rattle.record_pulses.specs.Looks.{polarity_of};
-ghost use Rattle.record_lines.specs.Channels.{AreChannelsOf, LineIsTold, LineRipens, and_played};
 ghost use Rattle.record_lines.specs.RecordedLines.{pulse_by};
 
 use crate::channel::Channel;
@@ -13,11 +12,16 @@ use record_pulses::{Edge, Looks, Pulse};
 #[derive(Drop)]
 pub(crate) struct Channels {
     pub(crate) all: [Channel; 5],
+    ghost five: { length all ≡ 5 },
 }
 
 impl Channels {
+    ghost use Rattle.record_lines.specs.Channels.{AreAsSteady, AreChannelsOf, AreChannelsTo, LineEnds, LineIsTold, LineRipens, and_played, no_edges};
+
     /// Lines of which nothing came, where a level lasts for so many nanoseconds or is a glitch.
-    pub(crate) fn new(glitch_ns: u64) -> Channels {
+    pub(crate) fn new(glitch_ns: u64) -> Channels
+        ensures { AreChannelsTo result glitch_ns (Some 0) no_edges no_edges no_edges }
+    {
         Channels {
             all: [
                 Channel::new(glitch_ns),
@@ -40,6 +44,7 @@ impl Channels {
     /// The change of a line that waits.
     pub(crate) fn let_out(&mut self, line: u8) -> Option<Edge>
         requires { line < 5 }
+        ensures { LineEnds self.old self.new line result }
     {
         self.all[line as usize].let_out()
     }
@@ -60,6 +65,7 @@ impl Channels {
             → result ≡ pulse_by (polarity_of None (seen line)) edge (played line) }
         ensures new { (seen played : ℕ → List Edge) → AreChannelsOf self.old seen played
             → AreChannelsOf self.new seen (and_played line edge played) }
+        ensures steady { AreAsSteady self.old self.new }
     {
         self.all[line as usize].play(edge)
     }
@@ -67,7 +73,8 @@ impl Channels {
     /// A whole frame of a line ends then.
     pub(crate) fn ends_at(&mut self, line: u8, end_us: u64)
         requires { line < 5 }
-        ensures { (seen played : ℕ → List Edge) → AreChannelsOf self.old seen played
+        ensures steady { AreAsSteady self.old self.new }
+        ensures new { (seen played : ℕ → List Edge) → AreChannelsOf self.old seen played
             → AreChannelsOf self.new seen played }
     {
         self.all[line as usize].ends_at(end_us);

@@ -19,7 +19,7 @@ mod rises;
 mod second;
 mod told;
 
-pub use laws::{named_seconds_are_carried, what_is_in_order_is_told};
+pub use laws::{named_seconds_are_carried, what_is_carried_stays_so, what_is_in_order_is_told};
 pub use line::RecordedLine;
 pub use receiver::Receiver;
 pub use recording::Recording;

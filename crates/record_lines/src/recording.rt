@@ -1,8 +1,9 @@
 //! A recording of lines, heard while its time passes.
 
-ghost use Rattle.std.specs.Prelude.{◌≡◌, ◌≤◌, ◌<◌, ◌+◌, IsTrue, None, true, false, ℕ, max};
+ghost use Rattle.std.specs.Prelude.{◌≡◌, ◌≤◌, ◌<◌, ◌+◌, IsTrue, MatchResult, Some, None, true, false, ℕ, max};
+ghost use Rattle.irig_lines.specs.Refusals.{clock_fault};
 ghost use Rattle.irig_reader.specs.Rules.{IsReaderRules};
-ghost use Rattle.record_lines.specs.Channels.{level_in};
+ghost use Rattle.record_lines.specs.Channels.{AreAsSteady, level_in};
 
 use crate::change::{Change, Held};
 use crate::channels::Channels;
@@ -48,7 +49,7 @@ impl<P: Port> Recording<P> {
     ghost use Rattle.record_lines.specs.Helds.{HoldsMore, has_room, room};
     ghost use Rattle.record_lines.specs.Paces.{lines_at};
     ghost use Rattle.record_lines.specs.Passing.{HearsOn, TicksUntil};
-    ghost use Rattle.record_lines.specs.Recordings.{IsShownAs, IsToldLevel, IsToldLevels, PlaysOn, PlaysUpTo, ShowsOn};
+    ghost use Rattle.record_lines.specs.Recordings.{IsEndedOn, IsNewRecording, IsPlayedOn, IsShownAs, IsToldLevel, IsToldOn, PlaysOn, PlaysUpTo};
 
     /// A recording of which nothing was told, where a level lasts for so many nanoseconds or is a glitch;
     /// with reader's rules that are [`in_range`](irig_reader::in_range). Or the first fault of its setup,
@@ -60,24 +61,35 @@ impl<P: Port> Recording<P> {
         glitch_ns: u64,
     ) -> Result<Self, ClockFault>
         requires { IsReaderRules clock.reader_rules }
+        ensures { MatchResult result
+            (λ recording. IsNewRecording recording (record {
+              rules = rules;
+              clock = clock;
+              table = table;
+            }) glitch_ns)
+            (λ fault. clock_fault clock.reader_rules clock.drift_us clock.wander_ppb ≡ Some fault) }
     {
-        Ok(Recording {
-            receiver: Receiver::new(rules, clock, table, 0)?,
-            lines: clock.redundancy.ports(),
-            channels: Channels::new(glitch_ns),
-            held: Held::new(),
-            time: LinesTime::new(),
-            first_ns: None,
-            now_ns: 0,
-            end_us: None,
-            is_played: false,
-        })
+        match Receiver::new(rules, clock, table, 0) {
+            Ok(receiver) => Ok(Recording {
+                receiver,
+                lines: clock.redundancy.ports(),
+                channels: Channels::new(glitch_ns),
+                held: Held::new(),
+                time: LinesTime::new(),
+                first_ns: None,
+                now_ns: 0,
+                end_us: None,
+                is_played: false,
+            }),
+            Err(fault) => Err(fault),
+        }
     }
 
     /// What the recording says from a time on. What lies before the levels told last is left out, and so
     /// is what finds no room, as [`next`](Self::next) was not called until it answered `None`.
     pub fn levels(&mut self, levels: Levels)
-        ensures told { IsToldLevels self.old self.new levels }
+        ensures told { IsToldOn self.old self.new levels }
+        ensures end { self.new.end_us ≡ self.old.end_us }
         ensures time { self.new.now_ns ≡ max self.old.now_ns levels.time_ns }
     {
         if levels.time_ns < self.now_ns {
@@ -97,6 +109,7 @@ impl<P: Port> Recording<P> {
         ensures room { room self.old.held ≤ room self.new.held + 2 }
         ensures lines { self.new.lines ≡ self.old.lines }
         ensures time { self.new.now_ns ≡ self.old.now_ns }
+        ensures end { self.new.end_us ≡ self.old.end_us }
     {
         let ripe = self.channels.ripen(line, level.time_ns);
         self.hold(line, ripe);
@@ -111,6 +124,7 @@ impl<P: Port> Recording<P> {
         ensures channels { self.new.channels ≡ self.old.channels }
         ensures receiver { self.new.receiver ≡ self.old.receiver }
         ensures time { self.new.now_ns ≡ self.old.now_ns }
+        ensures end { self.new.end_us ≡ self.old.end_us }
     {
         if let Some(edge) = edge {
             self.held.push(Change::of(line, edge));
@@ -118,7 +132,9 @@ impl<P: Port> Recording<P> {
     }
 
     /// The recording ends at a time.
-    pub fn end(&mut self, time_ns: u64) {
+    pub fn end(&mut self, time_ns: u64)
+        ensures { IsEndedOn self.old self.new }
+    {
         for line in 0..self.lines {
             let last = self.channels.let_out(line);
             self.hold(line, last);
@@ -129,7 +145,10 @@ impl<P: Port> Recording<P> {
     /// The next second that the recording shows by what was told of it; `None` until more is told. It is
     /// to be called until then, after each levels and after the end.
     pub fn next(&mut self) -> Option<RecordedSecond>
-        ensures shows { ShowsOn self.old self.new result }
+        ensures played { IsPlayedOn self.old self.new result }
+        ensures time { self.new.now_ns ≡ self.old.now_ns }
+        ensures end { self.new.end_us ≡ self.old.end_us }
+        ensures lines { self.new.lines ≡ self.old.lines }
         ensures room { result ≡ None → IsTrue (has_room self.new.held) }
     {
         match self.next_told() {
@@ -139,6 +158,10 @@ impl<P: Port> Recording<P> {
     }
 
     fn next_told(&mut self) -> Option<ToldSecond>
+        ensures steady { AreAsSteady self.old.channels self.new.channels }
+        ensures time { self.new.now_ns ≡ self.old.now_ns }
+        ensures end { self.new.end_us ≡ self.old.end_us }
+        ensures lines { self.new.lines ≡ self.old.lines }
         ensures plays { PlaysUpTo self.old self.new result }
         ensures room { result ≡ None → IsTrue (has_room self.new.held) }
     {
@@ -154,6 +177,10 @@ impl<P: Port> Recording<P> {
 
     // Plays the changes that wait, up to one before which a tick tells a second.
     fn play_held(&mut self) -> Option<ToldSecond>
+        ensures steady { AreAsSteady self.old.channels self.new.channels }
+        ensures time { self.new.now_ns ≡ self.old.now_ns }
+        ensures end { self.new.end_us ≡ self.old.end_us }
+        ensures lines { self.new.lines ≡ self.old.lines }
         ensures plays { PlaysUpTo self.old self.new result }
         ensures room { result ≡ None → IsTrue (has_room self.new.held) }
     {
@@ -172,6 +199,9 @@ impl<P: Port> Recording<P> {
 
     // Time passes to the end, if that was told.
     fn pass_to_end(&mut self) -> Option<ToldSecond>
+        ensures time { self.new.now_ns ≡ self.old.now_ns }
+        ensures end { self.new.end_us ≡ self.old.end_us }
+        ensures lines { self.new.lines ≡ self.old.lines }
         ensures ticks { TicksUntil self.old.receiver self.new.receiver result }
         ensures channels { self.new.channels ≡ self.old.channels }
         ensures held { self.new.held ≡ self.old.held }
@@ -182,6 +212,9 @@ impl<P: Port> Recording<P> {
 
     // Whether changes are played: from here on, if they wait no longer.
     fn is_begun(&mut self) -> bool
+        ensures time { self.new.now_ns ≡ self.old.now_ns }
+        ensures end { self.new.end_us ≡ self.old.end_us }
+        ensures lines { self.new.lines ≡ self.old.lines }
         ensures receiver { self.new.receiver ≡ self.old.receiver }
         ensures channels { self.new.channels ≡ self.old.channels }
         ensures held { self.new.held ≡ self.old.held }
@@ -216,6 +249,10 @@ impl<P: Port> Recording<P> {
 
     // A change is played: the pulse that ends with it is told.
     fn play(&mut self, change: Change)
+        ensures steady { AreAsSteady self.old.channels self.new.channels }
+        ensures time { self.new.now_ns ≡ self.old.now_ns }
+        ensures end { self.new.end_us ≡ self.old.end_us }
+        ensures lines { self.new.lines ≡ self.old.lines }
         ensures held { self.new.held ≡ self.old.held }
         ensures played { (place : ℕ) → PlaysOn self.old self.new change place }
     {
@@ -231,6 +268,9 @@ impl<P: Port> Recording<P> {
 
     // A pulse of a line is told: its place in its frame.
     fn tell(&mut self, line: u8, pulse: Pulse) -> u8
+        ensures time { self.new.now_ns ≡ self.old.now_ns }
+        ensures end { self.new.end_us ≡ self.old.end_us }
+        ensures lines { self.new.lines ≡ self.old.lines }
         ensures hears { HearsOn self.old.receiver self.new.receiver line
             (lines_at self.old.time pulse.rise_us) pulse.width_us result }
         ensures channels { self.new.channels ≡ self.old.channels }
@@ -242,6 +282,9 @@ impl<P: Port> Recording<P> {
 
     // From a time on a second is as long as that of the line in the middle.
     fn follow(&mut self, time_us: u64)
+        ensures time { self.new.now_ns ≡ self.old.now_ns }
+        ensures end { self.new.end_us ≡ self.old.end_us }
+        ensures lines { self.new.lines ≡ self.old.lines }
         ensures receiver { self.new.receiver ≡ self.old.receiver }
         ensures channels { self.new.channels ≡ self.old.channels }
         ensures held { self.new.held ≡ self.old.held }

@@ -1,3 +1,4 @@
 pub mod EndedLaws
 pub mod ZeroLaws
+pub mod NamingLaws
 pub mod StandardFacts

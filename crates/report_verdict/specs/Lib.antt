@@ -7,3 +7,5 @@ pub mod Verdicts
 pub mod NumberText
 pub mod LineText
 pub mod VerdictText
+pub mod JsonText
+pub mod Naming

@@ -6,6 +6,8 @@
 #![tactic(auto)]
 
 mod ended;
+mod json;
+mod laws;
 mod line_seen;
 mod number_text;
 mod stretch;
@@ -16,6 +18,8 @@ mod text;
 mod verdict;
 mod zero;
 
+pub use json::push_json;
+pub use laws::wrong_lines_are_named;
 pub use line_seen::LineSeen;
 pub use stretch::{AgreedSecond, Stretch};
 pub use tale::{Kind, Tale};

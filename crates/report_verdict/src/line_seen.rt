@@ -68,7 +68,8 @@ fn push_code(text: &mut String, byte: u8) -> Result<(), AllocError>
     push_digit(text, byte % 16)
 }
 
-fn push_digit(text: &mut String, number: u8) -> Result<(), AllocError>
+/// Pushes a hexadecimal digit.
+pub(crate) fn push_digit(text: &mut String, number: u8) -> Result<(), AllocError>
     requires { number < 16 }
     ensures { OnOk result (string_bytes text.new
         ≡ string_bytes text.old ++ hex_digit number ∷ []) }
@@ -88,7 +89,8 @@ fn hex_digit(number: u8) -> u8
     }
 }
 
-fn is_plain(byte: u8) -> bool
+/// Whether a byte is plain ASCII, and no backslash.
+pub(crate) fn is_plain(byte: u8) -> bool
     ensures { result ≡ is_plain byte }
 {
     (0x20..0x7f).contains(&byte) && byte != b'\\'

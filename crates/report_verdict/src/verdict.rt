@@ -8,7 +8,7 @@ ghost use Rattle.report_verdict.specs.Zeros.{zero_of};
 use crate::ended::{Ended, Unended};
 use crate::stretch::AgreedSecond;
 use crate::tales::Tales;
-use crate::zero::{Zero, zero_at};
+use crate::zero::{Zero, zero_by};
 use irig_time::Claim;
 use record_lines::RecordedSecond;
 
@@ -106,9 +106,6 @@ impl Verdict {
         ensures { (n : ℕ) (seconds : List SecondOf) → IsVerdictOf self.now n seconds
             → result ≡ zero_of (first_agreed seconds) }
     {
-        match &self.first {
-            Some(first) => Some(zero_at(first)),
-            None => None,
-        }
+        zero_by(&self.first)
     }
 }

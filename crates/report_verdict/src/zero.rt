@@ -3,7 +3,7 @@
 ghost use Rattle.std.specs.Prelude.{◌≡◌, ◌≤◌, IsTrue};
 ghost use Rattle.irig_time.specs.Seconds.{IsValid, is_valid};
 ghost use Rattle.irig_time.specs.declared.second.TheConstants.{LAST_DAY};
-ghost use Rattle.report_verdict.specs.Zeros.{before_day, instant, instant_before, instant_of, zero_at};
+ghost use Rattle.report_verdict.specs.Zeros.{before_day, instant, instant_before, instant_of, zero_at, zero_of};
 
 use crate::stretch::AgreedSecond;
 use irig_time::{Claim, UtcSecond, month_end, next, relations_compute, valid};
@@ -39,6 +39,16 @@ pub(crate) fn is_second(second: &UtcSecond) -> bool
 {
     relations_compute();
     valid(second)
+}
+
+/// When 0.000 s was, by the first second on which lines agree, if there is one.
+pub(crate) fn zero_by(first: &Option<AgreedSecond>) -> Option<Zero>
+    ensures { result ≡ zero_of first.now }
+{
+    match first {
+        Some(first) => Some(zero_at(first)),
+        None => None,
+    }
 }
 
 /// When 0.000 s was, by a second on which lines agree.

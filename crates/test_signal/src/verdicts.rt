@@ -7,7 +7,7 @@ use irig_timekeeper::Beat;
 use irig_vote::Tells;
 use record_lines::RecordedSecond;
 use record_pulses::{Counts, Seen, Spread, Widths};
-use report_verdict::{LineSeen, Verdict, push_verdict};
+use report_verdict::{LineSeen, Verdict, push_json, push_verdict};
 use std::test::Fail;
 
 /// 2026-11-24.
@@ -113,8 +113,7 @@ the lines that agree are at most 300 us apart
 }
 
 /// G1 is 3.2 ms late, then 3.25 ms, and then sends frames of a wrong parity.
-#[test]
-fn a_line_is_late(rt: HostRuntime) -> Result<(), Fail> {
+fn late_then_faulty() -> Verdict {
     let mut verdict = Verdict::new(3);
     let first = claim(DAY, MORNING);
     let next = claim(DAY, MORNING + 1);
@@ -122,6 +121,12 @@ fn a_line_is_late(rt: HostRuntime) -> Result<(), Fail> {
     verdict.take(&second(next, 2_050_000, Told::Claim(next), 2_053_250));
     let fault = Told::Fault(PortFault::Parity);
     verdict.take(&second(claim(DAY, MORNING + 2), 3_050_000, fault, 3_050_000));
+    verdict
+}
+
+#[test]
+fn a_line_is_late(rt: HostRuntime) -> Result<(), Fail> {
+    let verdict = late_then_faulty();
     let mut text = String::new(rt.alloc());
     push_verdict(&mut text, &verdict, &[])?;
     assert!(rt;
@@ -211,18 +216,19 @@ const SEEN: Seen = Seen {
     },
 };
 
-/// Nothing is agreed on, and a line has a name that a terminal would take for a command.
+/// A line with a name that a terminal would take for a command.
+const LINE: LineSeen<'static> = LineSeen {
+    name: b"G \x1b[2J\\",
+    is_inverted: true,
+    decoded: 7,
+    bare: 7,
+    seen: &SEEN,
+};
+
 #[test]
 fn lines_are_told(rt: HostRuntime) -> Result<(), Fail> {
-    let line = LineSeen {
-        name: b"G \x1b[2J\\",
-        is_inverted: true,
-        decoded: 7,
-        bare: 7,
-        seen: &SEEN,
-    };
     let mut text = String::new(rt.alloc());
-    push_verdict(&mut text, &Verdict::new(1), &[line])?;
+    push_verdict(&mut text, &Verdict::new(1), &[LINE])?;
     assert!(rt;
         text.as_str()
             == "undecided: the line has no whole frame that claims a second
@@ -231,6 +237,17 @@ G \\x1b[2J\\x5c: 700 pulses, 7 frames, 0 out of step, inverted
     a second is 40.0 ppm longer than one of the recorder
     its year and control bits are all 0, as of a clock without those of IEEE 1344
 "
+    );
+    Ok(())
+}
+
+#[test]
+fn a_verdict_is_an_object(rt: HostRuntime) -> Result<(), Fail> {
+    let mut text = String::new(rt.alloc());
+    push_json(&mut text, &late_then_faulty(), &[LINE, LINE])?;
+    assert!(rt;
+        text.as_str()
+            == "{\"decided\":true,\"seconds\":3,\"without_vote\":0,\"apart_us\":300,\"first\":{\"utc\":\"2026-11-24T09:30:00Z\",\"edge_us\":1050000},\"last\":{\"utc\":\"2026-11-24T09:30:02Z\",\"edge_us\":3050000},\"zero\":\"2026-11-24T09:29:59.950000Z\",\"stretches\":[{\"line\":1,\"kind\":\"late\",\"least_us\":3200,\"most_us\":3250,\"seconds\":2,\"first\":{\"utc\":\"2026-11-24T09:30:00Z\",\"edge_us\":1050000},\"last\":{\"utc\":\"2026-11-24T09:30:01Z\",\"edge_us\":2050000}}],\"more\":0,\"open\":[null,{\"line\":1,\"kind\":\"faulty\",\"fault\":17,\"seconds\":1,\"first\":{\"utc\":\"2026-11-24T09:30:02Z\",\"edge_us\":3050000},\"last\":{\"utc\":\"2026-11-24T09:30:02Z\",\"edge_us\":3050000}},null,null,null],\"lines\":[{\"name\":\"G \\u001b[2J\\u005c\",\"inverted\":true,\"pulses\":700,\"frames\":7,\"out_of_step\":0},{\"name\":\"G \\u001b[2J\\u005c\",\"inverted\":true,\"pulses\":700,\"frames\":7,\"out_of_step\":0}]}\n"
     );
     Ok(())
 }

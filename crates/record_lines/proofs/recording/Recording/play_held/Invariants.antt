@@ -3,6 +3,7 @@ use Rattle.arrayvec.specs.ArrayVec.{array_vec_len}
 use Rattle.irig_timekeeper.specs.Life.{Call}
 use Rattle.irig_timekeeper.specs.Lived.{MadeOf}
 use Rattle.record_pulses.specs.declared.edge.Edge.{Edge}
+use Rattle.record_lines.specs.Channels.{AreAsSteady}
 use Rattle.record_lines.specs.Recordings.{IsPlayedTo}
 use Rattle.record_lines.proofs.recording.Recording.play_held.Given as goal
 
@@ -12,3 +13,6 @@ invariant-loop-at g l =
     × ((made : MadeOf) (start : ℕ) (seen played : ℕ → List Edge) (calls : List Call)
     → IsPlayedTo l.fn.self l.fn.self.held.played made start seen played calls
     → (later : ℕ → List Edge) × (more : List Call) × IsPlayedTo l.self l.at made start seen later more)
+    × AreAsSteady l.fn.self.channels l.self.channels × (l.self.now_ns ≡ l.fn.self.now_ns)
+    × (l.self.end_us ≡ l.fn.self.end_us)
+    × (l.self.lines ≡ l.fn.self.lines)

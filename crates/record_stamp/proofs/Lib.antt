@@ -1,0 +1,3 @@
+pub mod LateLaws
+pub mod ZoneLaws
+pub mod StandardFacts
