@@ -6,6 +6,7 @@ declare -gA _irig_options=(
     [run]='--all --ports --help'
     [flatten]='--help'
     [blame]='--recorded= --help'
+    [judge]='--channels= --glitch= --parity= --sense= --sbs= --help'
     [frame]='--local= --pending= --dst --quality= --parity= --sense= --help'
     [read]='--parity= --sense= --sbs= --help'
     [explain]='--help'
@@ -38,14 +39,15 @@ _irig() {
         mapfile -t COMPREPLY < <(compgen -W "${_irig_options[$command]-}" -- "$word")
         [[ ${COMPREPLY-} != *= ]] || compopt -o nospace
     elif [[ $command == irig ]]; then
-        mapfile -t COMPREPLY < <(compgen -W 'run flatten blame frame read explain help' -- "$word")
-    elif [[ $command == run || $command == flatten || $command == blame ]]; then
+        mapfile -t COMPREPLY < \
+            <(compgen -W 'run flatten blame judge frame read explain help' -- "$word")
+    elif [[ $command =~ ^(run|flatten|blame|judge)$ ]]; then
         mapfile -t COMPREPLY < <(compgen -f -- "$word")
         compopt -o filenames
     elif [[ $command == explain ]]; then
         mapfile -t COMPREPLY < <(compgen -W "$_irig_explained" -- "$word")
     elif [[ $command == help ]]; then
-        mapfile -t COMPREPLY < <(compgen -W 'run flatten blame frame read explain' -- "$word")
+        mapfile -t COMPREPLY < <(compgen -W 'run flatten blame judge frame read explain' -- "$word")
     fi
 }
 

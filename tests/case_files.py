@@ -1,7 +1,7 @@
 """The one reader of cases and examples: what the program is asked, and what it has to answer. And what it does.
 
-A case is a folder of cases/: `args` (one word a line, SCENARIO standing for its `scenario.jsonl`),
-`stdin` where it reads any, `stdout` (each byte), `stderr` where anything is written there, and
+A case is a folder of cases/: `args` (one word a line, SCENARIO standing for its `scenario.jsonl` and
+RECORDING for its `recording.vcd`), `stdin` where it reads any, `stdout` (each byte), `stderr` where anything is written there, and
 `status`. A `note`, which nothing reads, may say what to look at. Of a text that `clap`, a library or the system wrote `stderr` has the first words, and then
 `..`; of a refusal it may be missing: then the line of the log that says so stands for it, with any
 reason behind it. An example is NAME.jsonl of examples/ with its log NAME.log, and NAME.args has the
@@ -17,6 +17,7 @@ from pathlib import Path
 ROOT = Path(__file__).resolve().parent.parent
 PROGRAM = ROOT / "crates/irig_main/out/irig_main"  # that was proved
 NOTHING = "/dev/null"
+OF_NO_SCENARIO = ([b"read"], [b"judge"])  # commands whose input is none
 
 
 @dataclass(frozen=True)
@@ -69,7 +70,8 @@ def standard_error(folder: Path, status: int, stdout: bytes) -> bytes:
 def case_in(folder: Path) -> Case:
     name = str(folder.relative_to(ROOT))
     scenario = f"{name}/scenario.jsonl"
-    words = [scenario.encode() if word == b"SCENARIO" else word for word in words_in(folder / "args")]
+    files = {b"SCENARIO": scenario.encode(), b"RECORDING": f"{name}/recording.vcd".encode()}
+    words = [files.get(word, word) for word in words_in(folder / "args")]
     status, stdout = int((folder / "status").read_text()), (folder / "stdout").read_bytes()
     return Case(
         name, words, f"{name}/stdin" if (folder / "stdin").exists() else NOTHING, status, stdout,
@@ -110,7 +112,7 @@ def scenarios(statuses: tuple[int, ...] = (0, 3)) -> dict[str, bytes]:
     """The scenarios of cases and examples that have no devices and end with these, by their names."""
     found = {}
     for case in all_cases():
-        path = case.scenario or (case.input if case.words[:1] != [b"read"] else NOTHING)
+        path = case.scenario or (case.input if case.words[:1] not in OF_NO_SCENARIO else NOTHING)
         text = (ROOT / path).read_bytes() if path != NOTHING else b""
         if path != NOTHING and case.status in statuses and not has_devices(text):
             found[case.name] = text
@@ -121,7 +123,7 @@ def over_whole_ports(case: Case) -> Case | None:
     """The same for test_whole_port, which runs what it is given and takes no more words than --all;
     none where a case is of something else, or of devices."""
     words, input = case.words, case.input
-    if words[:1] in ([b"flatten"], [b"blame"]):
+    if words[:1] in ([b"flatten"], [b"blame"], [b"judge"]):
         return None
     if case.scenario and has_devices((ROOT / case.scenario).read_bytes()):
         return None

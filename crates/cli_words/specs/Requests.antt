@@ -1,13 +1,20 @@
 -- What a command line asks for.
-use Rattle.std.specs.Prelude.{⊤}
+use Rattle.std.specs.Prelude.{◌≤◌, ⊤}
 use Rattle.text_frame.specs.Frame.{IsFrameOptions}
+use Rattle.cli_words.specs.declared.request.Judging.{Judging}
 use Rattle.cli_words.specs.declared.request.Request.{Request}
-use Rattle.cli_words.specs.declared.request.Request.TheVariants.{Plain, Play, Frame, Read, Explain}
+use Rattle.cli_words.specs.declared.request.Request.TheVariants.{Plain, Play, Judge, Frame, Read, Explain}
 
--- the control bits of a frame that is asked for have room for its options
+-- a level that lasts for 4 ms is no glitch
+abbrev pub IsJudging : Judging → Type 0
+IsJudging judging = judging.glitch_us ≤ 4000
+
+-- the control bits of a frame that is asked for have room for its options, and the glitches of a recording
+-- are in their range
 abbrev pub IsRequest : Request → Type 0
 IsRequest Plain = ⊤
 IsRequest (Play wanted source) = ⊤
+IsRequest (Judge judging source) = IsJudging judging
 IsRequest (Frame time options) = IsFrameOptions options
 IsRequest (Read frame rules) = ⊤
 IsRequest (Explain word) = ⊤

@@ -2,13 +2,13 @@
 
 ghost use Rattle.std.specs.Prelude.{◌≡◌, ◌≢◌, ◌↔◌, ◌≤◌, IfOk, IfSome, Ok, Some, length, unsigned_abs};
 ghost use Rattle.text_frame.specs.Frame.{IsFrameOptions};
-ghost use Rattle.cli_words.specs.Requests.{IsRequest};
+ghost use Rattle.cli_words.specs.Requests.{IsJudging, IsRequest};
 
 use crate::help::{
-    ABOUT, AFTER, BLAME_AFTER, EXPLAIN_AFTER, FLATTEN_AFTER, FRAME_AFTER, READ_AFTER, RUN_AFTER,
-    USAGE,
+    ABOUT, AFTER, BLAME_AFTER, EXPLAIN_AFTER, FLATTEN_AFTER, FRAME_AFTER, JUDGE_AFTER, READ_AFTER,
+    RUN_AFTER, USAGE,
 };
-use crate::request::{NoRequest, Request, Source, Wanted};
+use crate::request::{Judging, NoRequest, Request, Source, Wanted};
 use crate::tip::fault_with_tip;
 use clap::builder::ValueParser;
 use clap::error::ErrorKind;
@@ -65,6 +65,7 @@ fn request_by<'a>(name: &str, matches: &ArgMatches<'a>) -> Option<Request<'a>>
         "run" => Some(play_of(log_of(matches), matches)),
         "flatten" => Some(play_of(Wanted::Flat, matches)),
         "blame" => Some(play_of(blame_of(matches), matches)),
+        "judge" => judge_of(matches),
         "frame" => frame_of(matches),
         "read" => read_of(matches),
         "explain" => Some(explain_of(matches)),
@@ -90,11 +91,37 @@ fn play_of<'a>(wanted: Wanted<'a>, matches: &ArgMatches<'a>) -> Request<'a>
     ensures not_plain { result ≢ Request.Plain }
     ensures in_range { IsRequest result }
 {
-    let source = match matches.get_str("FILE") {
+    Request::Play {
+        wanted,
+        source: source_of(matches),
+    }
+}
+
+fn source_of<'a>(matches: &ArgMatches<'a>) -> Source<'a> {
+    match matches.get_str("FILE") {
         None | Some("-") => Source::Input,
         Some(path) => Source::File(path),
-    };
-    Request::Play { wanted, source }
+    }
+}
+
+fn judge_of<'a>(matches: &ArgMatches<'a>) -> Option<Request<'a>>
+    ensures not_plain { result ≢ Some Request.Plain }
+    ensures in_range { IfSome result IsRequest }
+{
+    Some(Request::Judge {
+        judging: judging_of(matches)?,
+        source: source_of(matches),
+    })
+}
+
+fn judging_of<'a>(matches: &ArgMatches<'a>) -> Option<Judging<'a>>
+    ensures { IfSome result IsJudging }
+{
+    Some(Judging {
+        channels: matches.get_str("channels"),
+        glitch_us: glitch(matches),
+        rules: rules_of(matches)?,
+    })
 }
 
 fn frame_of<'a>(matches: &ArgMatches<'a>) -> Option<Request<'a>>
@@ -126,11 +153,15 @@ fn read_of<'a>(matches: &ArgMatches<'a>) -> Option<Request<'a>>
 {
     Some(Request::Read {
         frame: value(matches, "FRAME"),
-        rules: Rules {
-            parity: parity(matches)?,
-            sense: sense(matches)?,
-            sbs: sbs(matches)?,
-        },
+        rules: rules_of(matches)?,
+    })
+}
+
+fn rules_of(matches: &ArgMatches<'_>) -> Option<Rules> {
+    Some(Rules {
+        parity: parity(matches)?,
+        sense: sense(matches)?,
+        sbs: sbs(matches)?,
     })
 }
 
@@ -174,6 +205,13 @@ fn quality(matches: &ArgMatches<'_>) -> u8
     matches.get_one::<u8>("quality").unwrap_or(0).min(15)
 }
 
+// The same.
+fn glitch(matches: &ArgMatches<'_>) -> u16
+    ensures { result ≤ 4000 }
+{
+    matches.get_one::<u16>("glitch").unwrap_or(0).min(4_000)
+}
+
 fn pending(matches: &ArgMatches<'_>) -> Option<Leap> {
     leap_named(matches.get_str("pending")?)
 }
@@ -194,6 +232,7 @@ fn program<'a>(alloc: Global) -> Result<Command<'a>, AllocError> {
     let program = with_command(described_program(alloc), run_command(alloc));
     let program = with_command(program, flatten_command(alloc));
     let program = with_command(program, blame_command(alloc));
+    let program = with_command(program, judge_command(alloc));
     let program = with_command(program, frame_command(alloc));
     let program = with_command(program, read_command(alloc));
     with_command(program, explain_command(alloc))
@@ -267,6 +306,41 @@ fn recorded_option<'a>(alloc: Global) -> Arg<'a> {
         .help(
             "The scenario is of a recording of these lines, as IRIG1,IRIG2,IRIG3, one for each port",
         )
+}
+
+fn judge_command<'a>(alloc: Global) -> Result<Command<'a>, AllocError> {
+    let about = "Says of a recording of lines which one is wrong, since when and by how much";
+    described(alloc, "judge", about, JUDGE_AFTER)
+        .arg(recording_argument(alloc))?
+        .arg(channels_option(alloc))?
+        .arg(glitch_option(alloc))?
+        .arg(parity_option(alloc))?
+        .arg(sense_option(alloc))?
+        .arg(sbs_option(alloc))
+}
+
+fn recording_argument<'a>(alloc: Global) -> Arg<'a> {
+    Arg::new(alloc, "FILE")
+        .help("The recording: a value change dump (.vcd); - for standard input")
+        .required(true)
+}
+
+fn channels_option<'a>(alloc: Global) -> Arg<'a> {
+    Arg::new(alloc, "channels")
+        .long("channels")
+        .value_name("NAMES")
+        .help(
+            "Its lines: one, three or five of its channels of one bit, as G0,G1,G2; without it all",
+        )
+}
+
+fn glitch_option<'a>(alloc: Global) -> Arg<'a> {
+    Arg::new(alloc, "glitch")
+        .long("glitch")
+        .value_name("US")
+        .help("A level that lasts for less than so many microseconds, 0 to 4000, is left out")
+        .value_parser(ValueParser::signed(0, 4_000))
+        .default_value("50")
 }
 
 fn frame_command<'a>(alloc: Global) -> Result<Command<'a>, AllocError> {

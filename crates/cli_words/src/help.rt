@@ -3,8 +3,8 @@
 /// What the program does.
 pub const ABOUT: &str =
     "Runs scenarios of a plant in which three or five generators of IRIG-B time code feed readers, or devices with a
-counter of their own, that vote; and writes and reads frames of that code (B004: pulse width, with the year,
-control functions and straight binary seconds).";
+counter of their own, that vote; judges recordings of lines that carry it; and writes and reads frames of that code
+(B004: pulse width, with the year, control functions and straight binary seconds).";
 
 /// How the program is called.
 pub const USAGE: &str = "irig [COMMAND]";
@@ -18,6 +18,7 @@ Examples:
   $ irig run examples/two_liars.jsonl --all
   $ irig flatten examples/leap_inserted.jsonl
   $ irig blame examples/one_liar.jsonl
+  $ irig judge examples/one_clock_ahead.vcd
   $ irig frame 2016-12-31T23:59:59Z --pending=insert
   $ irig read \"$(irig frame 2016-12-31T23:59:59Z)\"
   $ irig explain 26
@@ -25,10 +26,12 @@ Examples:
 Exit statuses:
   0  done; that a frame is faulty, or a premise broken, is an answer too
   2  the command line, TIME or FRAME is not understood
-  3  a line of the scenario is refused; the last line of the log says which, standard error why
+  3  a line of the scenario is refused; the last line of the log says which, standard error why; or a recording is
+     refused, and standard error says why
   4  FILE or standard input can't be read
   5  the output took no more
-  6  out of memory";
+  6  out of memory
+  7  a recording is undecided: most of its lines never agree on a second";
 
 /// What follows the options of `run`.
 pub const RUN_AFTER: &str =
@@ -91,6 +94,20 @@ than what most lines told.
 Example:
   $ irig blame examples/one_liar.jsonl | grep 'told another second'
   2017-06-30T23:59:52Z to 2017-06-30T23:59:55Z, edges 5 to 8: port 1 of relay told another second, 5 s ahead, first 2017-06-30T23:59:57Z; relay announced 4 seconds";
+
+/// What follows the options of `judge`.
+pub const JUDGE_AFTER: &str =
+    "FILE is a recording of a logic analyser, of one, three or five lines of IRIG-B as pulses. It is heard as a device
+hears lines that are up to 450 us off. First stand the lines that differ from most of them: in which seconds and from
+where to where, by most lines and by the recorder's time, and by how much. Then the seconds on which most lines agree,
+how far they are apart, when 0.000 s of the recording was in UTC, and what is on each line.
+
+That a line differs is no proof that it is wrong: nobody knows more of a recording than what most lines told. If most
+lines never agree, the first line says undecided. A frame that has a time quality of 8 or more has no vote.
+
+Example:
+  $ irig judge examples/one_clock_ahead.vcd | head -n 1
+  G1 differs: 18 s ahead in 3 seconds, 2026-11-24T09:30:04Z at 5.050 s to 2026-11-24T09:30:06Z at 7.050 s";
 
 /// What follows the options of `frame`.
 pub const FRAME_AFTER: &str =

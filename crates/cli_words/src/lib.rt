@@ -7,4 +7,4 @@ mod request;
 mod tip;
 
 pub use command::parse;
-pub use request::{NoRequest, Request, Source, Wanted};
+pub use request::{Judging, NoRequest, Request, Source, Wanted};

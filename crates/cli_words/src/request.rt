@@ -22,13 +22,24 @@ pub enum Wanted<'a> {
     },
 }
 
-/// Where a scenario is read from.
+/// Where a scenario or a recording is read from.
 #[derive(Clone, Copy)]
 pub enum Source<'a> {
     /// The input.
     Input,
     /// The file with this path.
     File(&'a str),
+}
+
+/// How a recording is judged.
+#[derive(Clone, Copy)]
+pub struct Judging<'a> {
+    /// The names of its lines, with a comma between two; nothing for all that it has.
+    pub channels: Option<&'a str>,
+    /// A level that lasts for less is a glitch: microseconds, 0 to 4,000.
+    pub glitch_us: u16,
+    /// How frames are read.
+    pub rules: Rules,
 }
 
 /// What a command line asks for.
@@ -39,6 +50,12 @@ pub enum Request<'a> {
     /// A scenario is played, and what is wanted of it is written.
     Play {
         wanted: Wanted<'a>,
+        source: Source<'a>,
+    },
+    /// A recording of lines is judged.
+    Judge {
+        /// How; its glitches are in their range.
+        judging: Judging<'a>,
         source: Source<'a>,
     },
     /// The frame of a UTC second.

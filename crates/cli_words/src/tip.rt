@@ -49,6 +49,9 @@ fn tip_for(words: &[&str]) -> &'static str {
             "\n\n  tip: quotes hold the groups of a frame together: irig read 'P10.. 100.. ..'"
         }
         Some(&"frame") => "\n\n  tip: TIME is one word, as 2016-12-31T23:59:59Z",
+        Some(&"judge") => {
+            "\n\n  tip: one FILE is judged; --channels=G0,G1,G2 names lines that are in it"
+        }
         Some(&"explain") => {
             "\n\n  tip: one word stands here: irig explain 25, irig explain premises"
         }
@@ -64,6 +67,9 @@ fn tip_for_option(words: &[&str]) -> &'static str {
         }
         Some(&"read") => "\n\n  tip: the options of read are --parity, --sense and --sbs",
         Some(&"blame") => "\n\n  tip: the option of blame is --recorded",
+        Some(&"judge") => {
+            "\n\n  tip: the options of judge are --channels, --glitch, --parity, --sense and --sbs"
+        }
         Some(&"flatten" | &"explain") => "\n\n  tip: this command has no options",
         _ => {
             "\n\n  tip: options follow the command: irig run FILE --all; '-' is standard input: irig run - --all"

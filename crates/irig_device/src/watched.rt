@@ -6,7 +6,7 @@ ghost use Rattle.irig_device.specs.Lines.{GivesLine, GivesPart, says_device};
 ghost use Rattle.irig_device.specs.Watched.{AppendsPart, device_of, has_failed};
 
 use crate::line::{LineEnd, ReadFault, read_part};
-use std::io::{BufRead, Write};
+use std::io::{BufRead, Read, Write};
 
 /// A reader or a writer, and a note that one of its calls failed. The calls of this crate alone
 /// set the note, and nothing takes it away.
@@ -45,6 +45,30 @@ impl<T> Watched<T> {
     {
         let Watched { inner, is_noted: _ } = self;
         inner
+    }
+}
+
+impl<R: Read> Watched<R> {
+    /// Reads some of the bytes that follow into the front of these, by one `read`, and answers how many:
+    /// none only where no byte is left. At a fault none was taken, and the note is set.
+    pub fn read_some(&mut self, bytes: &mut [u8]) -> Result<usize, DeviceFault>
+        requires { 0 < length bytes.old }
+        ensures taken { IfOk result (λ count. Consumes (R.remaining (device_of self.old))
+            (R.remaining (device_of self.new)) (take count bytes.new)) }
+        ensures within { IfOk result (λ count. count ≤ length bytes.new) }
+        ensures end { IfOk result (λ count. count ≡ 0
+            → IsAtEnd (R.remaining (device_of self.old))) }
+        ensures err { OnErr result
+            (Keeps (R.remaining (device_of self.old)) (R.remaining (device_of self.new))) }
+        ensures note { has_failed self.new ≡ (has_failed self.old || is_err result) }
+    {
+        match self.inner.read(bytes) {
+            Ok(count) => Ok(count),
+            Err(_) => {
+                self.is_noted = true;
+                Err(DeviceFault)
+            }
+        }
     }
 }
 

@@ -1,7 +1,7 @@
 -- What is done for a request.
 -- Source: docs/irig.1, the commands; the exit statuses are those of Status.antt.
-use Rattle.std.specs.Prelude.{◌≡◌, ℕ, ◌≤◌, ◌↔◌, ◌⊎◌, Bool, false, true, ⊤, List, Result, Ok, Err, string_bytes}
-use Rattle.std.specs.Io.KnownBytes.{Appends, Keeps}
+use Rattle.std.specs.Prelude.{◌≡◌, ◌≢◌, ℕ, ◌≤◌, ◌↔◌, ◌⊎◌, Bool, false, true, IsTrue, IsFalse, ⊤, List, Option, IfSome, Result, Ok, Err, string_bytes}
+use Rattle.std.specs.Io.KnownBytes.{Appends, IsAtEnd, Keeps}
 use Rattle.std.specs.declared.io.Error.{Error}
 use Rattle.irig_device.specs.Lines.{Bytes}
 use Rattle.irig_device.specs.Watched.{AppendsPart}
@@ -15,8 +15,15 @@ use Rattle.report_log.specs.declared.shown.Shown.{Shown}
 use Rattle.irig_scenario.specs.Scenarios.{RanScenario}
 use Rattle.report_flat.specs.Flattening.{RanEither, WroteTheLog}
 use Rattle.report_blame.specs.Blaming.{RanBlame}
+use Rattle.report_judge.specs.declared.fault.JudgeFault.{JudgeFault}
+use Rattle.report_judge.specs.declared.fault.JudgeFault.TheVariants as judging
+use Rattle.report_judge.specs.declared.reading.Judged.{Judged}
+use Rattle.report_judge.specs.declared.asked.Asked.{Asked}
+use Rattle.report_judge.specs.Channels.{channel_bytes}
+use Rattle.report_judge.specs.Readings.{JudgedWhole, RefusedBy}
+use Rattle.cli_words.specs.declared.request.Judging.{Judging}
 use Rattle.cli_words.specs.declared.request.Request.{Request}
-use Rattle.cli_words.specs.declared.request.Request.TheVariants.{Plain, Play, Frame, Read, Explain}
+use Rattle.cli_words.specs.declared.request.Request.TheVariants.{Plain, Play, Judge, Frame, Read, Explain}
 use Rattle.cli_words.specs.declared.request.Source.{Source}
 use Rattle.cli_words.specs.declared.request.Source.TheVariants.{Input, File}
 use Rattle.cli_words.specs.declared.request.Wanted.{Wanted}
@@ -25,7 +32,7 @@ use Rattle.cli_words.specs.declared.request.NoRequest.{NoRequest}
 use Rattle.cli_words.specs.declared.request.NoRequest.TheVariants as none
 use Rattle.irig_main.specs.declared.fault.Fault.{Fault}
 use Rattle.irig_main.specs.declared.fault.Fault.TheVariants as fault
-use Rattle.irig_main.specs.Status.{ended, result_of, status_of_answer}
+use Rattle.irig_main.specs.Status.{ended, fault_of_judging, result_of, status_of_answer}
 
 -- what the program answers
 abbrev pub Answer : Type 0
@@ -92,6 +99,52 @@ Plays remaining wanted Input answer input left old new =
 Plays remaining wanted (File path) answer input left old new =
     PlaysFile remaining wanted answer old new
 
+-- the verdict on a recording was written, and is the answer if it decides nothing; or a prefix of it
+-- before the output failed
+abbrev pub ShowsJudged : Judged → Answer → Bytes → Bytes → Type 0
+ShowsJudged judged (Ok done) old new = IsTrue judged.is_decided × Appends old new (string_bytes judged.text)
+ShowsJudged judged (Err f) old new =
+    ((f ≡ fault.Undecided) × IsFalse judged.is_decided × Appends old new (string_bytes judged.text))
+    ⊎ ((f ≡ fault.Write) × AppendsPart old new (string_bytes judged.text))
+
+-- how a recording is judged that is asked for so
+abbrev pub asked_of : Judging → Asked
+asked_of asked = record { channels = asked.channels; glitch_us = asked.glitch_us; rules = asked.rules }
+
+-- the recording on an input was judged to its end, or refused for what it says
+abbrev pub JudgedRecording : (names : Option (List ℕ)) → Result Judged JudgeFault → Bytes → Bytes → Type 0
+JudgedRecording names (Ok judged) input left =
+    IfSome input (JudgedWhole names) × IfSome input (λ text. IsAtEnd left)
+JudgedRecording names (Err f) input left =
+    f ≢ judging.Read → IfSome input (λ text. RefusedBy names text f)
+
+-- a recording was judged, or why it was not is the answer, and then nothing is written
+abbrev pub ShowsJudging : Result Judged JudgeFault → Answer → Bytes → Bytes → Type 0
+ShowsJudging (Ok judged) answer old new = ShowsJudged judged answer old new
+ShowsJudging (Err f) answer old new = Refuses (fault_of_judging f) answer old new
+
+-- the recording on an input was judged so, of which `left` is left
+pub record JudgesRecording (asked : Judging) (answer : Answer) (input left old new : Bytes) : Type 0 where
+  pub result : Result Judged JudgeFault
+  pub judged : JudgedRecording (channel_bytes asked.channels) result input left
+  pub shown : ShowsJudging result answer old new
+
+-- so of what a file gives; or it can't be opened, or there is no memory for it
+abbrev pub JudgesFile : {F : Type 0} → (F → Bytes) → Judging → Answer → Bytes → Bytes → Type 0
+JudgesFile remaining asked answer old new =
+    ((input left : Bytes) × AreOfFile remaining input
+    × JudgesRecording asked answer input left old new)
+    ⊎ (((error : Error) × Refuses (fault.Open error) answer old new)
+    ⊎ Refuses fault.Memory answer old new)
+
+-- so of the recording on the input or in a file
+abbrev pub Judges : {F : Type 0} → (F → Bytes) → Judging → Source → Answer → Bytes → Bytes → Bytes
+    → Bytes → Type 0
+Judges remaining asked Input answer input left old new =
+    JudgesRecording asked answer input left old new
+Judges remaining asked (File path) answer input left old new =
+    JudgesFile remaining asked answer old new
+
 -- the frame of the second that the time names, with the options, if it names one
 abbrev pub ShowsFrame : List ℕ → FrameOptions → Answer → Bytes → Bytes → Type 0
 ShowsFrame time options answer old new =
@@ -129,6 +182,7 @@ is_input (File path) = false
 abbrev pub reads_input : Request → Bool
 reads_input Plain = true
 reads_input (Play wanted source) = is_input source
+reads_input (Judge asked source) = is_input source
 reads_input (Frame time options) = false
 reads_input (Read frame rules) = false
 reads_input (Explain word) = false
@@ -140,6 +194,8 @@ Serves remaining Plain answer input left old new =
     PlaysScene plain_log answer input left old new
 Serves remaining (Play wanted source) answer input left old new =
     Plays remaining wanted source answer input left old new
+Serves remaining (Judge asked source) answer input left old new =
+    Judges remaining asked source answer input left old new
 Serves remaining (Frame time options) answer input left old new =
     ShowsFrame time.now options answer old new
 Serves remaining (Read frame rules) answer input left old new =

@@ -1,10 +1,12 @@
 //! What the program says on the standard error beside the line of a fault.
 
 use crate::fault::Fault;
-use cli_words::{Request, Source};
+use cli_words::{Judging, Request, Source};
 use irig_scenario::WhyRefused;
 use irig_scene::{Refusal, RefusedLine, SceneFault};
+use report_judge::{JudgeFault, why_refused as why_refused_recording};
 use std::alloc::{AllocError, Global};
+use std::io::Error;
 use text_refusal::{PlantContext, Reason, why_refused};
 use text_words::{meaning_of, why_no_frame, why_no_time};
 
@@ -84,33 +86,61 @@ fn help_text(
     let text = match (fault, request) {
         (Fault::BadTime, Some(Request::Frame { time, .. })) => why_no_time(alloc, time),
         (Fault::BadFrameText, Some(Request::Read { frame, .. })) => why_no_frame(alloc, frame),
-        (
-            Fault::Open(error),
-            Some(
-                Request::Play {
-                    source: Source::File(file),
-                    ..
-                },
-            ),
-        ) => { format!(in alloc; "{file}: {error}") }
-        (
-            Fault::Read,
-            Some(
-                Request::Play {
-                    source: Source::File(file),
-                    ..
-                },
-            ),
-        ) => format!(in alloc;
-            "{file}: it was opened, and could not be read to its end; is it a folder?"
-        ),
-        (Fault::Read, _) => format!(in alloc;
-            "standard input could not be read to its end; is it a folder?"
-        ),
+        (Fault::Recording(why), Some(Request::Judge { judging, source })) => {
+            recording_text(alloc, why, judging, source)
+        }
+        (Fault::Open(error), Some(request)) => open_text(alloc, error, request),
+        (Fault::Read, request) => read_text(alloc, request),
         (Fault::Write, _) => format!(in alloc;
             "standard output took no more: is the disk full, or has its reader ended?"
         ),
         _ => return Ok(None),
     };
     Ok(Some(text?))
+}
+
+fn recording_text(
+    alloc: Global,
+    why: &JudgeFault,
+    judging: Judging<'_>,
+    source: Source<'_>,
+) -> Result<String, AllocError> {
+    let reason = why_refused_recording(alloc, why, judging.channels)?;
+    let name = name_of(source);
+    format!(in alloc; "{name}: {reason}")
+}
+
+fn open_text(alloc: Global, error: &Error, request: Request<'_>) -> Result<String, AllocError> {
+    let name = name_of(source_of(request));
+    format!(in alloc; "{name}: {error}")
+}
+
+fn read_text(alloc: Global, request: Option<Request<'_>>) -> Result<String, AllocError> {
+    let source = match request {
+        Some(request) => source_of(request),
+        None => Source::Input,
+    };
+    match source {
+        Source::File(file) => format!(in alloc;
+            "{file}: it was opened, and could not be read to its end; is it a folder?"
+        ),
+        Source::Input => format!(in alloc;
+            "standard input could not be read to its end; is it a folder?"
+        ),
+    }
+}
+
+fn source_of<'a>(request: Request<'a>) -> Source<'a> {
+    match request {
+        Request::Play { source, .. } => source,
+        Request::Judge { source, .. } => source,
+        _ => Source::Input,
+    }
+}
+
+fn name_of<'a>(source: Source<'a>) -> &'a str {
+    match source {
+        Source::File(file) => file,
+        Source::Input => "standard input",
+    }
 }

@@ -2,9 +2,10 @@
 
 ghost use Rattle.std.specs.Prelude.{◌≡◌};
 ghost use Rattle.irig_main.specs.declared.fault.Fault.TheVariants.{BadTime, Memory};
-ghost use Rattle.irig_main.specs.Status.{fault_of, fault_of_reading, status_of};
+ghost use Rattle.irig_main.specs.Status.{fault_of, fault_of_judging, fault_of_reading, status_of};
 
 use irig_scene::{OUT_OF_MEMORY, READ_FAILED, REFUSED, SceneFault, WRITE_FAILED};
+use report_judge::JudgeFault;
 use std::alloc::AllocError;
 use std::fmt;
 use std::io::Error;
@@ -12,6 +13,9 @@ use text_frame::{BadTime, ReadingFault};
 
 // The exit status if the words of the command line are at fault.
 const BAD_WORDS: u8 = 2;
+
+// If no second of a recording is decided.
+const UNDECIDED: u8 = 7;
 
 /// What ends the program. Its text is the line on the standard error.
 #[derive(Drop)]
@@ -26,6 +30,10 @@ pub enum Fault {
     BadFrameText,
     /// A line of the scenario, which the log names.
     Refused,
+    /// A recording that can't be judged, and why.
+    Recording(JudgeFault),
+    /// A recording of which no second is decided; the verdict says so.
+    Undecided,
     /// FILE can't be opened.
     Open(Error),
     /// FILE or the input can't be read.
@@ -45,7 +53,8 @@ impl Fault {
             Fault::CommandLine(_) | Fault::NotText | Fault::BadTime | Fault::BadFrameText => {
                 BAD_WORDS
             }
-            Fault::Refused => REFUSED,
+            Fault::Refused | Fault::Recording(_) => REFUSED,
+            Fault::Undecided => UNDECIDED,
             Fault::Open(_) | Fault::Read => READ_FAILED,
             Fault::Write => WRITE_FAILED,
             Fault::Memory => OUT_OF_MEMORY,
@@ -61,6 +70,8 @@ impl fmt::Display for Fault {
             Fault::BadTime => "bad time",
             Fault::BadFrameText => "bad frame text",
             Fault::Refused => "scenario refused",
+            Fault::Recording(_) => "recording refused",
+            Fault::Undecided => "undecided",
             Fault::Open(_) | Fault::Read => "read failed",
             Fault::Write => "write failed",
             Fault::Memory => "out of memory",
@@ -108,11 +119,24 @@ impl From<ReadingFault> for Fault {
     }
 }
 
-/// Writes the fault to the standard error, except a refusal, which the log has; answers its status.
+impl From<JudgeFault> for Fault {
+    ghost from_gives = { λ judging fault. fault ≡ fault_of_judging judging };
+
+    fn from(fault: JudgeFault) -> Fault {
+        match fault {
+            JudgeFault::Read => Fault::Read,
+            JudgeFault::Memory => Fault::Memory,
+            _ => Fault::Recording(fault),
+        }
+    }
+}
+
+/// Writes the fault to the standard error, except what the output has: a scenario's refusal, and that a
+/// recording is undecided; answers its status.
 pub fn report<R: Eprint>(rt: &R, fault: &Fault) -> u8
     ensures { result ≡ status_of fault.now }
 {
-    if !matches!(fault, Fault::Refused) {
+    if !matches!(fault, Fault::Refused | Fault::Undecided) {
         // A standard error that takes nothing changes no status.
         let _ = rt.eprintln(fault);
     }

@@ -3,6 +3,7 @@
 
 mod explain;
 mod fault;
+mod judge;
 mod play;
 mod program;
 mod request;

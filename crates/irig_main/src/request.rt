@@ -8,6 +8,7 @@ ghost use Rattle.text_frame.specs.Frame.{IsFrameOptions};
 ghost use Rattle.irig_main.specs.Serving.{
   AreOfFile,
   IsUnknownWord,
+  Judges,
   Plays,
   Serves,
   ShowsFrame,
@@ -19,8 +20,9 @@ ghost use Rattle.irig_main.specs.Serving.{
 };
 
 use crate::fault::Fault;
+use crate::judge::{judge_file, judge_input};
 use crate::play::{play_file, play_input};
-use cli_words::{Request, Source, Wanted};
+use cli_words::{Judging, Request, Source, Wanted};
 use irig_device::Watched;
 use irig_time::Rules;
 use std::alloc::Global;
@@ -37,13 +39,15 @@ const PLAIN_LOG: Wanted<'static> = Wanted::Log {
 };
 
 /// Does what is asked for: plays a scenario and writes its log, what its readers or devices hear, or who
-/// lied in it; writes a frame or what one says; or explains a word. Neither device may have failed before.
+/// lied in it; judges a recording; writes a frame or what one says; or explains a word. Neither device may
+/// have failed before.
 ///
 /// `BadTime` if TIME is the text of no second, `BadFrameText` if FRAME has a letter of no
 /// symbol, `CommandLine` if WORD is none that is explained, and then nothing is written; `Refused`
 /// if a line of the scenario is refused, which the
-/// standard error then explains; `Open` if FILE can't be opened, `Read` if the scenario can't
-/// be read to its end, `Write` if the output fails; `Memory` if there was none.
+/// standard error then explains; `Recording` if a recording is refused, and nothing is written;
+/// `Undecided` if its verdict, which is written, decides nothing; `Open` if FILE can't be opened, `Read` if
+/// it can't be read to its end, `Write` if the output fails; `Memory` if there was none.
 pub fn serve<'a, R: Files + Eprint + AllocGlobal, I: BufRead, O: Write>(
     rt: &R,
     request: Request<'a>,
@@ -66,6 +70,7 @@ pub fn serve<'a, R: Files + Eprint + AllocGlobal, I: BufRead, O: Write>(
     match request {
         Request::Plain => play_input(rt, PLAIN_LOG, input, output),
         Request::Play { wanted, source } => play(rt, wanted, source, input, output),
+        Request::Judge { judging, source } => judge(rt, judging, source, input, output),
         Request::Frame { time, options } => show_frame(time, &options, output),
         Request::Read { frame, rules } => show_reading(rt.alloc(), frame, rules, output),
         Request::Explain { word } => show_meaning(rt.alloc(), word, output),
@@ -94,6 +99,31 @@ fn play<'a, R: Files + Eprint + AllocGlobal, I: BufRead, O: Write>(
     match source {
         Source::Input => play_input(rt, wanted, input, output),
         Source::File(path) => play_file(rt, wanted, path, output),
+    }
+}
+
+fn judge<R: Files + AllocGlobal, I: BufRead, O: Write>(
+    rt: &R,
+    judging: Judging<'_>,
+    source: Source<'_>,
+    input: &mut Watched<I>,
+    output: &mut Watched<O>,
+) -> Result<(), Fault>
+    requires input_whole { has_failed input.old ≡ false }
+    requires output_whole { has_failed output.old ≡ false }
+    ensures judged { Judges R.File.remaining judging.entry source.entry result
+        (I.remaining (device_of input.old)) (I.remaining (device_of input.new))
+        (O.contents (device_of output.old)) (O.contents (device_of output.new)) }
+    ensures write { (result ≡ Err Fault.Write) ↔ (has_failed output.new ≡ true) }
+    ensures read { is_input source.entry ≡ true
+        → (result ≡ Err Fault.Read) ↔ (has_failed input.new ≡ true) }
+    ensures unread { is_input source.entry ≡ false → input.new ≡ input.old }
+    ensures time { result ≢ Err Fault.BadTime }
+    ensures frame { result ≢ Err Fault.BadFrameText }
+{
+    match source {
+        Source::Input => judge_input(rt.alloc(), judging, input, output),
+        Source::File(path) => judge_file(rt, judging, path, output),
     }
 }
 

@@ -1,0 +1,107 @@
+-- What is read of a recording, and why it is refused.
+-- Source: docs/irig.1, judge; the definitions of value change dumps are those of record_vcd.
+use Rattle.std.specs.Prelude.{◌≡◌, ℕ, ◌-◌, ◌^◌, ◌≤◌, ◌==◌, Bool, false, ◌||◌, IsTrue, IsFalse, List, [], ◌∷◌, ◌++◌, length, Option, Some, None, Result, Ok, Err, ⊤}
+use Rattle.std.specs.Char.{is_ascii_whitespace}
+use Rattle.record_text.specs.Words.{words_of}
+use Rattle.record_vcd.specs.declared.head.Head.{Head as HeadReader}
+use Rattle.record_vcd.specs.declared.changes.HeadFault.TheVariants as head
+use Rattle.record_vcd.specs.Sections.{is_over}
+use Rattle.record_vcd.specs.Heads.{HeadEnd, head_end, head_from, top}
+use Rattle.record_vcd.specs.Changes.{Said}
+use Rattle.record_vcd.specs.Changes.Said.{Refused, Ends}
+use Rattle.record_vcd.specs.Dumps.{dump_of, to_come}
+use Rattle.report_judge.specs.declared.channels.ChannelFault.{ChannelFault}
+use Rattle.report_judge.specs.declared.fault.JudgeFault.{JudgeFault}
+use Rattle.report_judge.specs.declared.fault.JudgeFault.TheVariants.{Empty, Form, Head, Channels, Dump, Endless, Read, Memory}
+use Rattle.report_judge.specs.declared.reading.Below.{Below}
+use Rattle.report_judge.specs.declared.reading.Stage.{Stage}
+use Rattle.report_judge.specs.declared.reading.Stage.TheVariants as stage
+use Rattle.report_judge.specs.Channels.{places_of}
+
+-- a value change dump may begin with this byte: a $ or a blank
+abbrev pub is_of_dump : (byte : ℕ) → Bool
+is_of_dump b = b == 36 || is_ascii_whitespace b
+
+-- a text begins as a value change dump
+abbrev pub begins_dump : (text : List ℕ) → Bool
+begins_dump [] = false
+begins_dump (b ∷ bs) = is_of_dump b
+
+-- the head of a text, and the words below it
+abbrev pub head_of : (text : List ℕ) → HeadEnd
+head_of text = head_from top (words_of text)
+
+-- the places of the wires that are judged of a text
+abbrev pub judged_places : (names : Option (List ℕ)) → (text : List ℕ) → Result (List ℕ) ChannelFault
+judged_places names text = places_of (head_of text).head.wires names
+
+-- what a dump says of the wires at these places, if there are such
+abbrev pub said_at : Result (List ℕ) ChannelFault → (text : List ℕ) → Option (List Said)
+said_at (Ok places) text = dump_of places text
+said_at (Err fault) text = None
+
+-- what a text says of the lines that are judged
+abbrev pub said_of_lines : (names : Option (List ℕ)) → (text : List ℕ) → Option (List Said)
+said_of_lines names text = said_at (judged_places names text) text
+
+-- the head of a text is not over: so is that of a text which goes on in some way
+abbrev pub IsUnended : (text : List ℕ) → Type 0
+IsUnended text = (more : List ℕ) × IsFalse (is_over (head_of (text ++ more)).head.section)
+
+-- a text is refused by this fault; what can't be read is none
+abbrev pub RefusedBy : (names : Option (List ℕ)) → (text : List ℕ) → JudgeFault → Type 0
+RefusedBy names text Empty = text ≡ []
+RefusedBy names text Form = IsFalse (begins_dump text)
+RefusedBy names text (Head head.Unended) = IsUnended text
+RefusedBy names text (Head head.NoTimescale) =
+    IsTrue (is_over (head_of text).head.section) × ((head_of text).head.unit ≡ None)
+RefusedBy names text (Head head.Memory) = ⊥
+RefusedBy names text (Channels fault there) = judged_places names text ≡ Err fault
+RefusedBy names text (Dump fault) =
+    (said : List Said) × (said_of_lines names text ≡ Some (said ++ Refused fault ∷ []))
+RefusedBy names text Endless = 2 ^ 64 - 1 ≤ length text
+RefusedBy names text Read = ⊥
+RefusedBy names text Memory = ⊤
+
+-- a fault says why wires are not judged, or that there was no memory to say it
+abbrev pub IsChannelFault : ChannelFault → JudgeFault → Type 0
+IsChannelFault fault (Channels found there) = found ≡ fault
+IsChannelFault fault Memory = ⊤
+IsChannelFault fault Empty = ⊥
+IsChannelFault fault Form = ⊥
+IsChannelFault fault (Head why) = ⊥
+IsChannelFault fault (Dump why) = ⊥
+IsChannelFault fault Endless = ⊥
+IsChannelFault fault Read = ⊥
+
+-- a text is refused by this fault, whatever follows
+abbrev pub RefusedFrom : (names : Option (List ℕ)) → (text : List ℕ) → JudgeFault → Type 0
+RefusedFrom names text fault = (more : List ℕ) → RefusedBy names (text ++ more) fault
+
+-- ---- as far as it was read
+
+-- this reader of a head has read this text
+abbrev pub HasReadHead : (text : List ℕ) → HeadReader → Type 0
+HasReadHead text reader = (more : List ℕ) → head_of (text ++ more) ≡ head_end reader more
+
+-- this text was read, up to below its head, and the lines that are judged have heard what it says
+pub record HasReadBelow (names : Option (List ℕ)) (text : List ℕ) (below : Below) : Type 0 where
+  pub said : List Said
+  pub says : (more : List ℕ)
+      → said_of_lines names (text ++ more) ≡ Some (said ++ to_come below.changes more)
+
+-- this text was read
+abbrev pub HasReadTo : (names : Option (List ℕ)) → (text : List ℕ) → Stage → Type 0
+HasReadTo names text stage.Start = text ≡ []
+HasReadTo names text (stage.Head reader) =
+    IsTrue (begins_dump text) × HasReadHead text reader × IsFalse (is_over reader.section)
+HasReadTo names text (stage.Below below) = IsTrue (begins_dump text) × HasReadBelow names text below
+
+-- ---- at its end
+
+-- this text was judged to its end
+pub record JudgedWhole (names : Option (List ℕ)) (text : List ℕ) : Type 0 where
+  pub begins : IsTrue (begins_dump text)
+  pub said : List Said
+  pub end : ℕ
+  pub says : said_of_lines names text ≡ Some (said ++ Ends end ∷ [])

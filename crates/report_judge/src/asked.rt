@@ -1,0 +1,14 @@
+//! How a recording is judged.
+
+use irig_time::Rules;
+
+/// How a recording is judged.
+#[derive(Clone, Copy)]
+pub struct Asked<'a> {
+    /// The names of its lines, with a comma between two; nothing for all its wires.
+    pub channels: Option<&'a str>,
+    /// A level that lasts for less is a glitch: microseconds, 0 to 4,000.
+    pub glitch_us: u16,
+    /// How frames are read.
+    pub rules: Rules,
+}

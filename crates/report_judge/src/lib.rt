@@ -1,0 +1,20 @@
+//! A recording of lines, judged: which of its wires are judged, and what is said of them.
+//!
+//! [`judge`] reads a recording from a device in pieces, in memory that does not grow with it, and answers
+//! its verdict, or why it is refused. [`Reading`] is the same for bytes that come by themselves.
+#![tactic(auto)]
+
+mod asked;
+mod channels;
+mod fault;
+mod hearing;
+mod reading;
+mod run;
+mod why;
+
+pub use asked::Asked;
+pub use channels::ChannelFault;
+pub use fault::JudgeFault;
+pub use reading::{Judged, Reading};
+pub use run::judge;
+pub use why::why_refused;

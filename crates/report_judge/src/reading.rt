@@ -1,0 +1,233 @@
+//! A recording that comes in pieces.
+
+ghost use Rattle.std.specs.Prelude.{◌≡◌, ◌<◌, ◌++◌, [], All, IsTrue, IfErr, IfOk, List, Option, ℕ, length};
+ghost use Rattle.record_vcd.specs.Sections.{is_over};
+ghost use Rattle.report_judge.specs.declared.fault.JudgeFault.TheVariants.{Dump};
+ghost use Rattle.report_judge.specs.Channels.{channel_bytes};
+ghost use Rattle.report_judge.specs.Readings.{HasReadBelow, HasReadHead, HasReadTo, IsChannelFault, JudgedWhole, RefusedBy, RefusedFrom, begins_dump};
+
+use crate::asked::Asked;
+use crate::channels::{ChannelFault, places_of, redundancy_of};
+use crate::fault::JudgeFault;
+use crate::hearing::Hearing;
+use crate::why::names_of;
+use record_vcd::{Changes, Fault, Head, HeadFault, Wire};
+use std::alloc::{AllocError, Global};
+
+/// What a recording comes to.
+#[derive(Drop)]
+pub struct Judged {
+    /// The verdict, in lines.
+    pub text: String,
+    /// Whether most lines agree on any second.
+    pub is_decided: bool,
+}
+
+/// A recording as far as it was read.
+#[derive(Drop)]
+pub struct Reading {
+    stage: Stage,
+}
+
+// Where it is read.
+#[derive(Drop)]
+enum Stage {
+    // Nothing was read.
+    Start,
+    // In the head of a value change dump.
+    Head(Head),
+    // Below it.
+    Below(Below),
+}
+
+// A value change dump below its head.
+#[derive(Drop)]
+struct Below {
+    names: Vec<Vec<u8>>,
+    changes: Changes,
+    hearing: Hearing,
+}
+
+impl Reading {
+    /// One of which nothing was read.
+    pub fn new() -> Reading
+        ensures { (names : Option (List ℕ)) → HasReadTo names [] result.stage }
+    {
+        Reading {
+            stage: Stage::Start,
+        }
+    }
+
+    /// Reads the next piece.
+    pub fn read(self, alloc: Global, asked: &Asked<'_>, bytes: &[u8]) -> Result<Reading, JudgeFault>
+        ensures reads { IfOk result (λ reading. (text : List ℕ)
+            → HasReadTo (channel_bytes asked.now.channels) text self.stage
+            → HasReadTo (channel_bytes asked.now.channels) (text ++ bytes.now) reading.stage) }
+        ensures refuses { IfErr result (λ fault. (text : List ℕ)
+            → HasReadTo (channel_bytes asked.now.channels) text self.stage
+            → RefusedFrom (channel_bytes asked.now.channels) (text ++ bytes.now) fault) }
+    {
+        let stage = match self.stage {
+            Stage::Start => start(alloc, asked, bytes)?,
+            Stage::Head(head) => read_head(alloc, asked, head, bytes)?,
+            Stage::Below(mut below) => {
+                below.read(bytes)?;
+                Stage::Below(below)
+            }
+        };
+        Ok(Reading { stage })
+    }
+
+    /// The recording has ended: its verdict.
+    pub fn end(self, alloc: Global) -> Result<Judged, JudgeFault>
+        ensures judged { IfOk result (λ _. (names : Option (List ℕ)) (text : List ℕ)
+            → HasReadTo names text self.stage → JudgedWhole names text) }
+        ensures refuses { IfErr result (λ fault. (names : Option (List ℕ)) (text : List ℕ)
+            → HasReadTo names text self.stage → RefusedBy names text fault) }
+    {
+        match self.stage {
+            Stage::Start => Err(JudgeFault::Empty),
+            Stage::Head(_) => Err(JudgeFault::Head(HeadFault::Unended)),
+            Stage::Below(below) => below.end(alloc),
+        }
+    }
+}
+
+// The first piece shows the form.
+fn start(alloc: Global, asked: &Asked<'_>, bytes: &[u8]) -> Result<Stage, JudgeFault>
+    ensures reads { IfOk result (HasReadTo (channel_bytes asked.now.channels) bytes.now) }
+    ensures refuses { IfErr result (RefusedFrom (channel_bytes asked.now.channels) bytes.now) }
+{
+    if bytes.is_empty() {
+        return Ok(Stage::Start);
+    }
+    if !begins_dump(bytes) {
+        return Err(JudgeFault::Form);
+    }
+    let stage = read_head(alloc, asked, Head::new(alloc), bytes)?;
+    Ok(stage)
+}
+
+// Whether a value change dump may begin so: with a word of its head, or a blank.
+fn begins_dump(bytes: &[u8]) -> bool
+    ensures { result ≡ begins_dump bytes.now }
+{
+    match bytes {
+        [first, ..] => *first == b'$' || first.is_ascii_whitespace(),
+        [] => false,
+    }
+}
+
+fn read_head(
+    alloc: Global,
+    asked: &Asked<'_>,
+    mut head: Head,
+    bytes: &[u8],
+) -> Result<Stage, JudgeFault>
+    ensures reads { IfOk result (λ stage. (text : List ℕ) → HasReadHead text head
+        → IsTrue (begins_dump (text ++ bytes.now))
+        → HasReadTo (channel_bytes asked.now.channels) (text ++ bytes.now) stage) }
+    ensures refuses { IfErr result (λ fault. (text : List ℕ) → HasReadHead text head
+        → RefusedFrom (channel_bytes asked.now.channels) (text ++ bytes.now) fault) }
+{
+    let taken = head.read(alloc, bytes)?;
+    if !taken.is_over {
+        return Ok(Stage::Head(head));
+    }
+    let mut below = Below::new(alloc, asked, head)?;
+    below.read(bytes.split_at(taken.count).1)?;
+    Ok(Stage::Below(below))
+}
+
+impl Below {
+    // What follows a head that is over.
+    fn new(alloc: Global, asked: &Asked<'_>, head: Head) -> Result<Below, JudgeFault>
+        requires { IsTrue (is_over head.section) }
+        ensures reads { IfOk result (λ below. (text : List ℕ) → HasReadHead text head
+            → HasReadBelow (channel_bytes asked.now.channels) text below) }
+        ensures refuses { IfErr result (λ fault. (text : List ℕ) → HasReadHead text head
+            → RefusedFrom (channel_bytes asked.now.channels) text fault) }
+    {
+        let places = match places_of(head.wires(), asked.channels) {
+            Ok(places) => places,
+            Err(fault) => return Err(fault_of(alloc, head.wires(), fault)),
+        };
+        let names = names_at(alloc, head.wires(), places.as_slice())?;
+        let changes = Changes::new(alloc, head, places.as_slice())?;
+        let hearing = hearing_of(places.len(), asked)?;
+        Ok(Below {
+            names,
+            changes,
+            hearing,
+        })
+    }
+
+    fn read(&mut self, bytes: &[u8]) -> Result<(), Fault>
+        ensures reads { IfOk result (λ _. (names : Option (List ℕ)) (text : List ℕ)
+            → HasReadBelow names text self.old → HasReadBelow names (text ++ bytes.now) self.new) }
+        ensures refuses { IfErr result (λ fault. (names : Option (List ℕ)) (text : List ℕ)
+            → HasReadBelow names text self.old → RefusedFrom names (text ++ bytes.now) (Dump fault)) }
+    {
+        let mut rest = bytes;
+        while !rest.is_empty() {
+            let taken = self.changes.read(rest)?;
+            self.hearing.hear(taken.levels);
+            rest = rest.split_at(taken.count).1;
+        }
+        Ok(())
+    }
+
+    fn end(self, alloc: Global) -> Result<Judged, JudgeFault>
+        ensures judged { IfOk result (λ _. (names : Option (List ℕ)) (text : List ℕ)
+            → IsTrue (begins_dump text) → HasReadBelow names text self → JudgedWhole names text) }
+        ensures refuses { IfErr result (λ fault. (names : Option (List ℕ)) (text : List ℕ)
+            → HasReadBelow names text self → RefusedBy names text fault) }
+    {
+        let Below {
+            names,
+            changes,
+            mut hearing,
+        } = self;
+        let end = changes.end()?;
+        hearing.hear(end.levels);
+        hearing.end(end.time_ns);
+        Ok(Judged {
+            text: hearing.text(alloc, names.as_slice())?,
+            is_decided: hearing.is_decided(),
+        })
+    }
+}
+
+// So many lines that are heard; by their setup there are such, which no contract says.
+fn hearing_of(lines: usize, asked: &Asked<'_>) -> Result<Hearing, AllocError> {
+    let Some(redundancy) = redundancy_of(lines) else {
+        return Err(AllocError);
+    };
+    match Hearing::new(redundancy, asked) {
+        Ok(hearing) => Ok(hearing),
+        Err(_) => Err(AllocError),
+    }
+}
+
+// The names of the wires at these places.
+fn names_at(alloc: Global, wires: &[Wire], places: &[usize]) -> Result<Vec<Vec<u8>>, AllocError>
+    requires { All (λ place. place < length wires.now) places.now }
+{
+    let mut names = Vec::new(alloc);
+    for &place in places {
+        let mut name = Vec::new(alloc);
+        name.extend_from_slice(wires[place].name.as_slice())?;
+        names.push(name)?;
+    }
+    Ok(names)
+}
+
+// What is said of wires that are not judged.
+fn fault_of(alloc: Global, wires: &[Wire], fault: ChannelFault) -> JudgeFault
+    ensures { IsChannelFault fault result }
+{
+    match names_of(alloc, wires) {
+        Ok(names) => JudgeFault::Channels(fault, names),
+        Err(_) => JudgeFault::Memory,
+    }
+}
