@@ -10,7 +10,8 @@ use irig_time::LeapTable;
 use irig_vote::Redundancy;
 use record_levels::Levels;
 use record_lines::Recording;
-use report_verdict::{LineSeen, Verdict, push_verdict};
+use record_verdict::Verdict;
+use report_verdict::{LineSeen, push_verdict};
 use std::alloc::{AllocError, Global};
 
 /// Lines that are heard.
