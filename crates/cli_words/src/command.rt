@@ -121,6 +121,7 @@ fn judging_of<'a>(matches: &ArgMatches<'a>) -> Option<Judging<'a>>
         channels: matches.get_str("channels"),
         glitch_us: glitch(matches),
         rules: rules_of(matches)?,
+        as_json: matches.get_flag("json"),
     })
 }
 
@@ -316,7 +317,15 @@ fn judge_command<'a>(alloc: Global) -> Result<Command<'a>, AllocError> {
         .arg(glitch_option(alloc))?
         .arg(parity_option(alloc))?
         .arg(sense_option(alloc))?
-        .arg(sbs_option(alloc))
+        .arg(sbs_option(alloc))?
+        .arg(json_option(alloc))
+}
+
+fn json_option<'a>(alloc: Global) -> Arg<'a> {
+    Arg::new(alloc, "json")
+        .long("json")
+        .help("Writes the verdict as an object of JSON, on one line")
+        .action(ArgAction::SetTrue)
 }
 
 fn recording_argument<'a>(alloc: Global) -> Arg<'a> {

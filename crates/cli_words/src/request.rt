@@ -40,6 +40,8 @@ pub struct Judging<'a> {
     pub glitch_us: u16,
     /// How frames are read.
     pub rules: Rules,
+    /// Whether the verdict is an object of JSON, and else lines for a person.
+    pub as_json: bool,
 }
 
 /// What a command line asks for.

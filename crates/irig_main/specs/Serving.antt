@@ -109,7 +109,12 @@ ShowsJudged judged (Err f) old new =
 
 -- how a recording is judged that is asked for so
 abbrev pub asked_of : Judging → Asked
-asked_of asked = record { channels = asked.channels; glitch_us = asked.glitch_us; rules = asked.rules }
+asked_of asked = record {
+  channels = asked.channels;
+  glitch_us = asked.glitch_us;
+  rules = asked.rules;
+  as_json = asked.as_json;
+}
 
 -- the recording on an input was judged to its end, or refused for what it says
 abbrev pub JudgedRecording : (names : Option (List ℕ)) → Result Judged JudgeFault → Bytes → Bytes → Type 0

@@ -48,6 +48,7 @@ fn asked_of<'a>(judging: Judging<'a>) -> Asked<'a>
         channels: judging.channels,
         glitch_us: judging.glitch_us,
         rules: judging.rules,
+        as_json: judging.as_json,
     }
 }
 

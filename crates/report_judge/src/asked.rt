@@ -11,4 +11,6 @@ pub struct Asked<'a> {
     pub glitch_us: u16,
     /// How frames are read.
     pub rules: Rules,
+    /// Whether the verdict is an object of JSON, and else lines for a person.
+    pub as_json: bool,
 }

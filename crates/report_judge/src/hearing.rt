@@ -11,7 +11,7 @@ use irig_vote::Redundancy;
 use record_levels::Levels;
 use record_lines::Recording;
 use record_verdict::Verdict;
-use report_verdict::{LineSeen, push_verdict};
+use report_verdict::{LineSeen, push_json, push_verdict};
 use std::alloc::{AllocError, Global};
 
 /// Lines that are heard.
@@ -19,6 +19,7 @@ use std::alloc::{AllocError, Global};
 pub(crate) struct Hearing {
     recording: Recording<FlowPort>,
     verdict: Verdict,
+    as_json: bool,
 }
 
 impl Hearing {
@@ -30,6 +31,7 @@ impl Hearing {
         Ok(Hearing {
             recording,
             verdict: Verdict::new(redundancy.ports()),
+            as_json: asked.as_json,
         })
     }
 
@@ -78,7 +80,11 @@ impl Hearing {
             })?;
         }
         let mut text = String::new(alloc);
-        push_verdict(&mut text, &self.verdict, lines.as_slice())?;
+        if self.as_json {
+            push_json(&mut text, &self.verdict, lines.as_slice())?;
+        } else {
+            push_verdict(&mut text, &self.verdict, lines.as_slice())?;
+        }
         Ok(text)
     }
 }
