@@ -1,6 +1,6 @@
 -- Ticks one after another.
 use Rattle.std.specs.Prelude.{is_some}
-use Rattle.std.proofs.Common.{◌≡◌, ◌∙◌, ℕ, ◌≤◌, false, List, [], ◌∷◌, Option, Some, None, sym, ap, subst, refl}
+use Rattle.std.proofs.Common.{◌≡◌, ◌∙◌, ℕ, ◌≤◌, false, List, [], ◌∷◌, Option, Some, None, sym, ap, subst, refl, ◌<◌, arith}
 use Rattle.irig_port.specs.declared.port.Port.{Ghosts}
 use Rattle.irig_timekeeper.specs.Life.{Call}
 use Rattle.irig_timekeeper.specs.Life.Call.{Tick}
@@ -10,7 +10,7 @@ use Rattle.record_lines.specs.declared.told.ToldSecond.{ToldSecond}
 use Rattle.record_lines.specs.Receivers.{IsReceiverOf}
 use Rattle.record_lines.specs.Times.{asked_at}
 use Rattle.record_lines.proofs.CallLaws.{stands}
-use Rattle.record_lines.specs.Passing.{HasTicked, IsTickOn, TellsAtLast, TicksUntil, ticks_after}
+use Rattle.record_lines.specs.Passing.{HasTicked, IsTickOn, IsTickedLater, TellsAtLast, TicksUntil, ticks_after}
 
 pub none_of : {A : Type 0} (o : Option A) → is_some o ≡ false → o ≡ None
 none_of None e = refl
@@ -54,3 +54,17 @@ passes_on old mid new None none ticked forward keeper clock last rises due = λ 
     let had = ticked made start calls is in
     (had.0, none_till old made start calls mid new had.0 had.1 forward keeper clock last rises due)
 passes_on old mid new (Some second) none ticked forward keeper clock last rises due = absurd cc
+
+-- it was ticked since, whether it told a second or not
+pub told_later : {P : Type 0} {g : Ghosts P} (old new : Receiver P g) (told : Option ToldSecond) → old.ticked_us < new.ticked_us → IsTickedLater old new told
+told_later old new None later = omega (arith, later)
+told_later old new (Some second) later = later
+
+pub not_sooner : {P : Type 0} {g : Ghosts P} (old new : Receiver P g) (told : Option ToldSecond) → IsTickedLater old new told → old.ticked_us ≤ new.ticked_us
+not_sooner old new None later = later
+not_sooner old new (Some second) later = omega (arith, later)
+
+-- so after it was ticked before
+pub later_on : {P : Type 0} {g : Ghosts P} (old mid new : Receiver P g) (told : Option ToldSecond) → old.ticked_us ≤ mid.ticked_us → IsTickedLater mid new told → IsTickedLater old new told
+later_on old mid new None before later = omega (arith, before, later)
+later_on old mid new (Some second) before later = omega (arith, before, later)

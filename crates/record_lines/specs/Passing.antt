@@ -114,3 +114,9 @@ abbrev pub HearsOn : {P : Type 0} {g : Ghosts P} → (old new : Receiver P g) �
     → Type 0
 HearsOn old new line rise width place =
     HearsIf old new (told_rise old line rise width) line width place
+
+-- it was ticked since, if it told a second, and else perhaps
+abbrev pub IsTickedLater : {P : Type 0} {g : Ghosts P} → (old new : Receiver P g) → Option ToldSecond
+    → Type 0
+IsTickedLater old new None = old.ticked_us ≤ new.ticked_us
+IsTickedLater old new (Some second) = old.ticked_us < new.ticked_us

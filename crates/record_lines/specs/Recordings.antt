@@ -217,3 +217,9 @@ abbrev pub IsEndedOn : {P : Type 0} {g : Ghosts P} → (old new : Recording P g)
 IsEndedOn old new =
     (made : MadeOf) (glitch : ℕ) (told : ℕ → List Edge) → IsRecordingOf old made glitch told
     → IsTrue (has_room old.held) → IsRecordingOf new made glitch told
+
+-- what is shown takes time: its timekeeper was ticked since
+abbrev pub IsLater : {P : Type 0} {g : Ghosts P} → (old new : Recording P g) → Option RecordedSecond
+    → Type 0
+IsLater old new None = ⊤
+IsLater old new (Some second) = old.receiver.ticked_us < new.receiver.ticked_us

@@ -47,7 +47,7 @@ pub struct Receiver<P: Port> {
 
 impl<P: Port> Receiver<P> {
     ghost use Rattle.record_lines.specs.Receivers.{IsNewReceiver, may_hear, told_rise};
-    ghost use Rattle.record_lines.specs.Passing.{HearsOn, StandsAt, TicksOn, TicksUntil};
+    ghost use Rattle.record_lines.specs.Passing.{HearsOn, IsTickedLater, StandsAt, TicksOn, TicksUntil};
 
     /// A receiver to which nothing was told, where time stands at `start_us`, with reader's rules that are
     /// [`in_range`](irig_reader::in_range); or the first fault of its setup, by
@@ -95,6 +95,7 @@ impl<P: Port> Receiver<P> {
         ensures ticks { TicksUntil self.old self.new result }
         ensures stands { StandsAt self.old self.new time_us result }
         ensures before { time_us < self.old.now_us → (result ≡ None) × (self.new ≡ self.old) }
+        ensures later { IsTickedLater self.old self.new result }
         ensures set { self.new.clock ≡ self.old.clock }
     {
         if time_us < self.now_us {
@@ -114,6 +115,7 @@ impl<P: Port> Receiver<P> {
         ensures ticks { TicksUntil self.old self.new result }
         ensures none { result ≡ None → (self.new.now_us ≤ time_us) × (time_us < self.new.due_us) }
         ensures some { IfSome result (λ told. (self.new.now_us ≡ told.at_us) × (told.at_us ≤ time_us)) }
+        ensures later { IsTickedLater self.old self.new result }
         ensures set { self.new.clock ≡ self.old.clock }
     {
         // each tick comes a millisecond after the one before at the soonest
@@ -136,6 +138,7 @@ impl<P: Port> Receiver<P> {
         ensures at { IfSome result (λ told. told.at_us ≡ self.old.due_us) }
         ensures now { self.new.now_us ≡ self.old.due_us }
         ensures later { self.old.due_us + 1000 ≤ self.new.due_us }
+        ensures ticked { self.new.ticked_us ≡ self.old.due_us }
         ensures set { self.new.clock ≡ self.old.clock }
     {
         let at_us = self.due_us;
@@ -156,6 +159,7 @@ impl<P: Port> Receiver<P> {
     /// tick.
     pub fn hear(&mut self, line: u8, rise_us: u64, width_us: u32) -> u8
         ensures hears { HearsOn self.old self.new line rise_us width_us result }
+        ensures ticked { self.new.ticked_us ≡ self.old.ticked_us }
         ensures set { self.new.clock ≡ self.old.clock }
     {
         let Some(rise) = self.told_rise(line, rise_us, width_us) else {

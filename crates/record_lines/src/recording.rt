@@ -1,6 +1,6 @@
 //! A recording of lines, heard while its time passes.
 
-ghost use Rattle.std.specs.Prelude.{◌≡◌, ◌≤◌, ◌<◌, ◌+◌, IsTrue, MatchResult, Some, None, true, false, ℕ, max};
+ghost use Rattle.std.specs.Prelude.{◌≡◌, ◌≤◌, ◌<◌, ◌+◌, ◌/◌, IsTrue, MatchResult, Some, None, true, false, ℕ, max};
 ghost use Rattle.irig_lines.specs.Refusals.{clock_fault};
 ghost use Rattle.irig_reader.specs.Rules.{IsReaderRules};
 ghost use Rattle.record_lines.specs.Channels.{AreAsSteady, level_in};
@@ -48,8 +48,8 @@ pub struct Recording<P: Port> {
 impl<P: Port> Recording<P> {
     ghost use Rattle.record_lines.specs.Helds.{HoldsMore, has_room, room};
     ghost use Rattle.record_lines.specs.Paces.{lines_at};
-    ghost use Rattle.record_lines.specs.Passing.{HearsOn, TicksUntil};
-    ghost use Rattle.record_lines.specs.Recordings.{IsEndedOn, IsNewRecording, IsPlayedOn, IsShownAs, IsToldLevel, IsToldOn, PlaysOn, PlaysUpTo};
+    ghost use Rattle.record_lines.specs.Passing.{HearsOn, IsTickedLater, TicksUntil};
+    ghost use Rattle.record_lines.specs.Recordings.{IsEndedOn, IsLater, IsNewRecording, IsPlayedOn, IsShownAs, IsToldLevel, IsToldOn, PlaysOn, PlaysUpTo};
 
     /// A recording of which nothing was told, where a level lasts for so many nanoseconds or is a glitch;
     /// with reader's rules that are [`in_range`](irig_reader::in_range). Or the first fault of its setup,
@@ -133,7 +133,8 @@ impl<P: Port> Recording<P> {
 
     /// The recording ends at a time.
     pub fn end(&mut self, time_ns: u64)
-        ensures { IsEndedOn self.old self.new }
+        ensures ended { IsEndedOn self.old self.new }
+        ensures end { self.new.end_us ≡ Some (time_ns / 1000) }
     {
         for line in 0..self.lines {
             let last = self.channels.let_out(line);
@@ -146,6 +147,7 @@ impl<P: Port> Recording<P> {
     /// to be called until then, after each levels and after the end.
     pub fn next(&mut self) -> Option<RecordedSecond>
         ensures played { IsPlayedOn self.old self.new result }
+        ensures later { IsLater self.old self.new result }
         ensures time { self.new.now_ns ≡ self.old.now_ns }
         ensures end { self.new.end_us ≡ self.old.end_us }
         ensures lines { self.new.lines ≡ self.old.lines }
@@ -158,6 +160,7 @@ impl<P: Port> Recording<P> {
     }
 
     fn next_told(&mut self) -> Option<ToldSecond>
+        ensures later { IsTickedLater self.old.receiver self.new.receiver result }
         ensures steady { AreAsSteady self.old.channels self.new.channels }
         ensures time { self.new.now_ns ≡ self.old.now_ns }
         ensures end { self.new.end_us ≡ self.old.end_us }
@@ -177,6 +180,7 @@ impl<P: Port> Recording<P> {
 
     // Plays the changes that wait, up to one before which a tick tells a second.
     fn play_held(&mut self) -> Option<ToldSecond>
+        ensures later { IsTickedLater self.old.receiver self.new.receiver result }
         ensures steady { AreAsSteady self.old.channels self.new.channels }
         ensures time { self.new.now_ns ≡ self.old.now_ns }
         ensures end { self.new.end_us ≡ self.old.end_us }
@@ -199,6 +203,7 @@ impl<P: Port> Recording<P> {
 
     // Time passes to the end, if that was told.
     fn pass_to_end(&mut self) -> Option<ToldSecond>
+        ensures later { IsTickedLater self.old.receiver self.new.receiver result }
         ensures time { self.new.now_ns ≡ self.old.now_ns }
         ensures end { self.new.end_us ≡ self.old.end_us }
         ensures lines { self.new.lines ≡ self.old.lines }
@@ -249,6 +254,7 @@ impl<P: Port> Recording<P> {
 
     // A change is played: the pulse that ends with it is told.
     fn play(&mut self, change: Change)
+        ensures ticked { self.new.receiver.ticked_us ≡ self.old.receiver.ticked_us }
         ensures steady { AreAsSteady self.old.channels self.new.channels }
         ensures time { self.new.now_ns ≡ self.old.now_ns }
         ensures end { self.new.end_us ≡ self.old.end_us }
@@ -268,6 +274,7 @@ impl<P: Port> Recording<P> {
 
     // A pulse of a line is told: its place in its frame.
     fn tell(&mut self, line: u8, pulse: Pulse) -> u8
+        ensures ticked { self.new.receiver.ticked_us ≡ self.old.receiver.ticked_us }
         ensures time { self.new.now_ns ≡ self.old.now_ns }
         ensures end { self.new.end_us ≡ self.old.end_us }
         ensures lines { self.new.lines ≡ self.old.lines }

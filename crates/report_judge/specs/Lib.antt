@@ -1,3 +1,4 @@
 pub mod Channels
 pub mod Faults
 pub mod Readings
+pub mod Hearings

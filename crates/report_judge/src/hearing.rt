@@ -23,6 +23,11 @@ pub(crate) struct Hearing {
 }
 
 impl Hearing {
+    ghost use Rattle.std.specs.Prelude.{◌≡◌, IsTrue, None, Some};
+    ghost use Rattle.record_levels.specs.declared.levels.Levels.{Levels as LevelsOf};
+    ghost use Rattle.record_lines.specs.Helds.{has_room};
+    ghost use Rattle.report_judge.specs.Hearings.{EndsOn, HearsOn, TakesOn};
+
     /// So many lines, of which nothing was heard.
     pub(crate) fn new(redundancy: Redundancy, asked: &Asked<'_>) -> Result<Hearing, ClockFault> {
         let glitch_ns = u64::from(asked.glitch_us) * 1_000;
@@ -36,7 +41,10 @@ impl Hearing {
     }
 
     /// Levels are heard, if there are some, and judged up to where they come.
-    pub(crate) fn hear(&mut self, levels: Option<Levels>) {
+    pub(crate) fn hear(&mut self, levels: Option<Levels>)
+        ensures some { (heard : LevelsOf) → levels ≡ Some heard → HearsOn self.old self.new heard }
+        ensures none { levels ≡ None → self.new ≡ self.old }
+    {
         if let Some(levels) = levels {
             self.recording.levels(levels);
             self.take_seconds();
@@ -44,16 +52,21 @@ impl Hearing {
     }
 
     /// The recording ends.
-    pub(crate) fn end(&mut self, time_ns: u64) {
+    pub(crate) fn end(&mut self, time_ns: u64)
+        ensures { EndsOn self.old self.new }
+    {
         self.recording.end(time_ns);
         self.take_seconds();
     }
 
-    fn take_seconds(&mut self) {
-        for _second in 0..u64::MAX {
-            let Some(second) = self.recording.next() else {
-                return;
-            };
+    // What the recording shows now.
+    fn take_seconds(&mut self)
+        ensures takes { TakesOn self.old self.new }
+        ensures time { self.new.recording.now_ns ≡ self.old.recording.now_ns }
+        ensures end { self.new.recording.end_us ≡ self.old.recording.end_us }
+        ensures room { IsTrue (has_room self.new.recording.held) }
+    {
+        while let Some(second) = self.recording.next() {
             self.verdict.take(&second);
         }
     }

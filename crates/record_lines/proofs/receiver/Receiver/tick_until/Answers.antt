@@ -1,6 +1,6 @@
 use Rattle.std.proofs.Common.{◌≡◌, ◌∙◌, ◌∷◌, None, sym, subst, arith}
 use Rattle.record_lines.specs.Passing.{IsTickOn, ticks_after}
-use Rattle.record_lines.proofs.PassLaws.{none_of, one_more}
+use Rattle.record_lines.proofs.PassLaws.{none_of, one_more, told_later}
 use Rattle.record_lines.proofs.receiver.Receiver.tick_until.Goals as goal
 
 pub loop-preserved : goal.loop-preserved
@@ -18,4 +18,15 @@ loop-preserved g c =
             one_more c.args.self.now made start calls c.loop.self told.new.self had.0 had.1
                 (subst (λ o. IsTickOn c.loop.self told.new.self o made start (ticks_after had.0 calls)) none (told.ensures.ticks made start (ticks_after had.0 calls) had.1.is)),
           ),
+      omega (arith, kept.4, told.ensures.ticked, c.loop.self.soonest),
     )
+
+pub returns-then-time_us-self-clause-later : goal.returns-then-time_us-self-clause-later
+returns-then-time_us-self-clause-later g c = c.loop.invariant.4
+
+pub returns-then-is_some-clause-later : goal.returns-then-is_some-clause-later
+returns-then-is_some-clause-later g c =
+    told_later c.args.self.now c.tick-told.new.self c.tick-told.result (omega (arith, c.loop.invariant.4, c.tick-told.ensures.ticked, c.loop.self.soonest))
+
+pub returns-clause-later : goal.returns-clause-later
+returns-clause-later g c = c.loop.invariant.4

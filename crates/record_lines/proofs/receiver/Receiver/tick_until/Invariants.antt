@@ -12,3 +12,4 @@ invariant-loop g l =
     × (l.self.now_us ≤ l.fn.time_us)
     × (l.self.clock ≡ l.fn.self.clock)
     × ((made : MadeOf) (start : ℕ) (calls : List Call) → IsReceiverOf l.fn.self made start calls → (times : List ℕ) × HasTicked l.fn.self l.self made start calls times)
+    × (l.fn.self.ticked_us ≤ l.self.ticked_us)

@@ -1,6 +1,8 @@
 use Rattle.std.proofs.Common.{◌∙◌, sym, subst}
 use Rattle.record_lines.specs.Recordings.{HasPlayed}
 use Rattle.record_lines.proofs.ChannelLaws.{steady_on, steady_same}
+use Rattle.record_lines.specs.Passing.{IsTickedLater}
+use Rattle.record_lines.proofs.PassLaws.{later_on, not_sooner}
 use Rattle.record_lines.proofs.PlayLaws.{and_passes, none_of, nothing_played, same_played}
 use Rattle.record_lines.proofs.recording.Recording.next_told.Goals as goal
 
@@ -33,3 +35,13 @@ returns-clause-steady g c =
     let played = steady_on c.args.self.now.channels c.is_begun.new.self.channels c.play_held-told.new.self.channels begun c.play_held-told.ensures.steady in
     steady_on c.args.self.now.channels c.play_held-told.new.self.channels c.pass_to_end.new.self.channels played
     (steady_same c.play_held-told.new.self.channels c.pass_to_end.new.self.channels c.pass_to_end.ensures.channels)
+
+pub returns-then-is_some-clause-later : goal.returns-then-is_some-clause-later
+returns-then-is_some-clause-later g c =
+    subst (λ r. IsTickedLater r c.play_held-told.new.self.receiver c.play_held-told.result) c.is_begun.ensures.receiver c.play_held-told.ensures.later
+
+pub returns-clause-later : goal.returns-clause-later
+returns-clause-later g c =
+    let played = not_sooner c.is_begun.new.self.receiver c.play_held-told.new.self.receiver c.play_held-told.result c.play_held-told.ensures.later in
+    subst (λ r. IsTickedLater r c.pass_to_end.new.self.receiver c.pass_to_end.result) c.is_begun.ensures.receiver
+    (later_on c.is_begun.new.self.receiver c.play_held-told.new.self.receiver c.pass_to_end.new.self.receiver c.pass_to_end.result played c.pass_to_end.ensures.later)

@@ -1,4 +1,4 @@
-use Rattle.std.proofs.Common.{◌≡◌, ℕ, List}
+use Rattle.std.proofs.Common.{◌≡◌, ℕ, List, ◌≤◌}
 use Rattle.arrayvec.specs.ArrayVec.{array_vec_len}
 use Rattle.irig_timekeeper.specs.Life.{Call}
 use Rattle.irig_timekeeper.specs.Lived.{MadeOf}
@@ -16,3 +16,4 @@ invariant-loop-at g l =
     × AreAsSteady l.fn.self.channels l.self.channels × (l.self.now_ns ≡ l.fn.self.now_ns)
     × (l.self.end_us ≡ l.fn.self.end_us)
     × (l.self.lines ≡ l.fn.self.lines)
+    × (l.fn.self.receiver.ticked_us ≤ l.self.receiver.ticked_us)
