@@ -206,7 +206,7 @@ class Schema(unittest.TestCase):
         judged = 0
         for case in all_cases():
             path = case.scenario or case.input
-            if path != NOTHING:
+            if path != NOTHING and case.words[:1] != [b"judge"]:
                 judged += self.judge(ROOT / path, refusal_in(case.stdout.decode()))
         self.assertGreater(judged, 500)
 
