@@ -11,6 +11,8 @@ use record_verdict::Verdict;
 use report_verdict::{LineSeen, push_json, push_verdict};
 use std::test::Fail;
 
+ghost use Rattle.std.specs.Prelude.{◌<◌};
+
 /// 2026-11-24.
 const DAY: u32 = 9_824;
 
