@@ -1,5 +1,7 @@
 //! Verdicts on recordings of three lines, of which G0 and G2 are true.
 
+ghost use Rattle.std.specs.Prelude.{◌<◌};
+
 use irig_port::{PortFault, Told};
 use irig_reader::{Cause, Lock, Report};
 use irig_time::{Claim, Mark, UtcSecond};
@@ -10,8 +12,6 @@ use record_pulses::{Counts, Seen, Spread, Widths};
 use record_verdict::Verdict;
 use report_verdict::{LineSeen, push_json, push_verdict};
 use std::test::Fail;
-
-ghost use Rattle.std.specs.Prelude.{◌<◌};
 
 /// 2026-11-24.
 const DAY: u32 = 9_824;
