@@ -19,6 +19,8 @@ use std::rt::Files;
 ///
 /// `Recording` if it is refused, and then nothing is written; `Undecided` if the verdict decides nothing;
 /// `Read` if the input can't be read to its end, `Write` if the output fails; `Memory` if there was none.
+// What else is asked for needs none of the stack that a judge takes.
+#[inline(never)]
 pub(crate) fn judge_input<I: BufRead, O: Write>(
     alloc: Global,
     judging: Judging<'_>,
