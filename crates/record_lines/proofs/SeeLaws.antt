@@ -1,9 +1,8 @@
 -- More of a recording is told, and seen.
-use Rattle.std.specs.Prelude.{◌==◌, if◌then◌else◌, drop, reverse, option_to_list, nat_lt, IsTrue, ◌-◌, ◌*◌}
+use Rattle.std.specs.Prelude.{◌==◌, if◌then◌else◌, drop, reverse, length, option_to_list, nat_lt, IsTrue, ◌-◌, ◌*◌}
 use Rattle.std.proofs.Common.{◌≡◌, ◌≢◌, ◌∙◌, ℕ, ◌+◌, ◌<◌, ◌≤◌, arith, Bool, true, false, List, [], ◌∷◌, ◌++◌, Option, None, Some, sym, ap, subst, refl, inl, inr}
 use Rattle.std.proofs.lemmas.Bool.{cases_Bool, eqb-true, eqb-false, lt-ltb, le-ltb, ltb-true, ltb-false, leb-true, le-leb}
 use Rattle.std.proofs.lemmas.List.{append_assoc, append-nil, drop-append-le, reverse-append}
-use Rattle.arrayvec.specs.ArrayVec.{array_vec_len}
 use Rattle.irig_port.specs.declared.port.Port.{Ghosts}
 use Rattle.irig_vote.specs.Vote.{ports_in}
 use Rattle.irig_timekeeper.specs.Life.{Call}
@@ -180,7 +179,7 @@ pub record HasTold {P : Type 0} {g : Ghosts P} (old now : Recording P g) (levels
   pub fits : IsTrue (has_room old.held) → 2 * (last - lines) ≤ room now.held
 
 has_ten : (h : Held) → IsTrue (has_room h) → 10 ≤ room h
-has_ten h has = let it = leb-true (array_vec_len h.changes + 10) 4096 has in omega (arith, it)
+has_ten h has = let it = leb-true (length h.changes.items + 10) 4096 has in omega (arith, it)
 
 pub told_none : {P : Type 0} {g : Ghosts P} (old now : Recording P g) (levels : Levels) (last : ℕ) → last ≡ old.lines → last ≤ 5 → now.lines ≡ old.lines → now.channels ≡ old.channels → now.receiver ≡ old.receiver → now.held ≡ old.held → now.now_ns ≡ levels.time_ns → now.end_us ≡ old.end_us → HasTold old now levels 0 last
 told_none old now levels last last_is few same channels receiver held time goes = record {
@@ -322,5 +321,5 @@ recording_new r made glitch receiver count channels nothing free now goes =
       };
       now = now;
       goes = goes;
-      room = le-leb (array_vec_len r.held.changes + 10) 4096 (omega (arith, free));
+      room = le-leb (length r.held.changes.items + 10) 4096 (omega (arith, free));
     }

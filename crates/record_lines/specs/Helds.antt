@@ -1,18 +1,17 @@
 -- Changes that wait to be played.
 -- Source: this project's profile.
-use Rattle.std.specs.Prelude.{◌≡◌, ℕ, ◌+◌, ◌-◌, ◌<◌, ◌≤◌, ◌==◌, Bool, nat_le, if◌then◌else◌, List, [], ◌++◌, drop, Option, option_to_list}
-use Rattle.arrayvec.specs.ArrayVec.{array_vec_len}
+use Rattle.std.specs.Prelude.{◌≡◌, ℕ, ◌+◌, ◌-◌, ◌<◌, ◌≤◌, ◌==◌, Bool, nat_le, if◌then◌else◌, List, [], ◌++◌, drop, length, Option, option_to_list}
 use Rattle.record_lines.specs.declared.change.Held.{Held}
 use Rattle.record_lines.specs.Changes.{changes_on}
 use Rattle.record_pulses.specs.declared.edge.Edge.{Edge}
 
 -- for so many there is room
 abbrev pub room : Held → ℕ
-room h = 4096 - array_vec_len h.changes
+room h = 4096 - length h.changes.items
 
 -- there is room for what a recording says at one time
 abbrev pub has_room : Held → Bool
-has_room h = nat_le (array_vec_len h.changes + 10) 4096
+has_room h = nat_le (length h.changes.items + 10) 4096
 
 -- the changes of a line that wait, the newest first
 abbrev pub waiting_on : (line : ℕ) → Held → List Edge

@@ -10,3 +10,4 @@ pub mod Changes
 pub mod Helds
 pub mod Channels
 pub mod Recordings
+pub mod Setups

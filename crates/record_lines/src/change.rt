@@ -1,10 +1,9 @@
 //! Changes that wait to be played.
 
-ghost use Rattle.std.specs.Prelude.{◌≡◌, ◌≤◌, ◌<◌, ◌+◌, [], ◌∷◌, ◌++◌, IsTrue};
-ghost use Rattle.arrayvec.specs.ArrayVec.{array_vec_len};
+ghost use Rattle.std.specs.Prelude.{◌≡◌, ◌≤◌, ◌<◌, ◌+◌, [], ◌∷◌, ◌++◌, IfOk, IsTrue, length, vec_capacity};
 
-use arrayvec::ArrayVec;
 use record_pulses::Edge;
+use std::alloc::{AllocError, Global};
 
 /// How many changes wait at most.
 const MOST: usize = 4_096;
@@ -58,25 +57,28 @@ impl Default for Change {
     }
 }
 
-/// Changes, in the order in which they came, of which the first were played.
+/// Changes, in the order in which they came, of which the first were played. They have their memory from
+/// the first on, so that none is lost for the lack of it.
 #[derive(Drop)]
 pub(crate) struct Held {
-    pub(crate) changes: ArrayVec<Change, 4096>,
+    pub(crate) changes: Vec<Change>,
     pub(crate) played: usize,
-    ghost few: { played ≤ array_vec_len changes },
+    ghost few: { played ≤ length changes.items },
+    ghost most: { length changes.items ≤ 4096 },
+    ghost memory: { 4096 ≤ vec_capacity changes },
 }
 
 impl Held {
     ghost use Rattle.record_lines.specs.Helds.{has_room, room};
 
-    pub(crate) fn new() -> Held
-        ensures nothing { result.changes.items ≡ [] }
-        ensures room { room result ≡ 4096 }
+    pub(crate) fn new(alloc: Global) -> Result<Held, AllocError>
+        ensures nothing { IfOk result (λ held. held.changes.items ≡ []) }
+        ensures room { IfOk result (λ held. room held ≡ 4096) }
     {
-        Held {
-            changes: ArrayVec::new(),
+        Ok(Held {
+            changes: Vec::with_capacity(alloc, MOST)?,
             played: 0,
-        }
+        })
     }
 
     /// Whether there is room for what a recording says at one time.
@@ -93,7 +95,9 @@ impl Held {
         ensures played { self.new.played ≡ self.old.played }
         ensures room { room self.old ≤ room self.new + 1 }
     {
-        let _ = self.changes.try_push(change);
+        if self.changes.len() < MOST {
+            let _ = self.changes.push(change);
+        }
     }
 
     /// All were played.

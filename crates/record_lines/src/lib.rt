@@ -17,6 +17,7 @@ mod receiver;
 mod recording;
 mod rises;
 mod second;
+mod setup;
 mod told;
 
 pub use laws::{named_seconds_are_carried, what_is_carried_stays_so, what_is_in_order_is_told};
@@ -25,4 +26,5 @@ pub use receiver::Receiver;
 pub use recording::Recording;
 pub use rises::Rises;
 pub use second::RecordedSecond;
+pub use setup::SetupFault;
 pub use told::ToldSecond;

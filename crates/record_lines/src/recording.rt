@@ -1,21 +1,23 @@
 //! A recording of lines, heard while its time passes.
 
 ghost use Rattle.std.specs.Prelude.{◌≡◌, ◌≤◌, ◌<◌, ◌+◌, ◌/◌, IsTrue, MatchResult, Some, None, true, false, ℕ, max};
-ghost use Rattle.irig_lines.specs.Refusals.{clock_fault};
 ghost use Rattle.irig_reader.specs.Rules.{IsReaderRules};
 ghost use Rattle.record_lines.specs.Channels.{AreAsSteady, level_in};
+ghost use Rattle.record_lines.specs.Setups.{IsSetupFault};
 
 use crate::change::{Change, Held};
 use crate::channels::Channels;
 use crate::pace::LinesTime;
 use crate::receiver::Receiver;
 use crate::second::RecordedSecond;
+use crate::setup::SetupFault;
 use crate::told::ToldSecond;
-use irig_lines::{ClockFault, ClockRules};
+use irig_lines::ClockRules;
 use irig_port::Port;
 use irig_time::{LeapTable, Rules};
 use record_levels::Levels;
 use record_pulses::{Edge, Looks, Pulse};
+use std::alloc::Global;
 
 /// Nanoseconds after which changes wait no longer: by then a good line has sent a whole frame.
 const WAIT_NS: u64 = 2_200_000_000;
@@ -53,13 +55,14 @@ impl<P: Port> Recording<P> {
 
     /// A recording of which nothing was told, where a level lasts for so many nanoseconds or is a glitch;
     /// with reader's rules that are [`in_range`](irig_reader::in_range). Or the first fault of its setup,
-    /// by [`clock_fault`](irig_lines::clock_fault).
+    /// by [`clock_fault`](irig_lines::clock_fault); or there was no memory for the changes that wait.
     pub fn new(
+        alloc: Global,
         rules: Rules,
         clock: ClockRules,
         table: LeapTable,
         glitch_ns: u64,
-    ) -> Result<Self, ClockFault>
+    ) -> Result<Self, SetupFault>
         requires { IsReaderRules clock.reader_rules }
         ensures { MatchResult result
             (λ recording. IsNewRecording recording (record {
@@ -67,22 +70,20 @@ impl<P: Port> Recording<P> {
               clock = clock;
               table = table;
             }) glitch_ns)
-            (λ fault. clock_fault clock.reader_rules clock.drift_us clock.wander_ppb ≡ Some fault) }
+            (λ fault. IsSetupFault clock fault) }
     {
-        match Receiver::new(rules, clock, table, 0) {
-            Ok(receiver) => Ok(Recording {
-                receiver,
-                lines: clock.redundancy.ports(),
-                channels: Channels::new(glitch_ns),
-                held: Held::new(),
-                time: LinesTime::new(),
-                first_ns: None,
-                now_ns: 0,
-                end_us: None,
-                is_played: false,
-            }),
-            Err(fault) => Err(fault),
-        }
+        let receiver = Receiver::new(rules, clock, table, 0)?;
+        Ok(Recording {
+            receiver,
+            lines: clock.redundancy.ports(),
+            channels: Channels::new(glitch_ns),
+            held: Held::new(alloc)?,
+            time: LinesTime::new(),
+            first_ns: None,
+            now_ns: 0,
+            end_us: None,
+            is_played: false,
+        })
     }
 
     /// What the recording says from a time on. What lies before the levels told last is left out, and so

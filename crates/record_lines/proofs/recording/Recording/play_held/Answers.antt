@@ -16,8 +16,8 @@ loop-at-preserved g c = (
   c.loop-at.invariant.1,
   λ made start seen played calls is.
       let on = c.loop-at.invariant.2 made start seen played calls is in
-      let found : slice_get c.loop-at.self.held.changes.items c.loop-at.at ≡ Some c.index-deref-at.result = slice_get_read c.loop-at.self.held.changes.items (length c.loop-at.self.held.changes.items) c.loop-at.at c.index-deref-at.result refl (search rules) (search rules) in
-      steps c.loop-at.self _ c.play.new.self c.index-deref-at.result c.loop-at.at made start seen on.0 on.1 on.2 (c.play.ensures.played c.loop-at.at) refl refl c.pass_to-told.result c.pass_to-told.ensures.ticks (sym c.is_some.ensures ∙ c.if-is_some.false) found,
+      let found : slice_get c.loop-at.self.held.changes.items c.loop-at.at ≡ Some c.index-change.result.now = slice_get_read c.loop-at.self.held.changes.items (length c.loop-at.self.held.changes.items) c.loop-at.at c.index-change.result.now refl (search rules) (search rules) in
+      steps c.loop-at.self _ c.play.new.self c.index-change.result.now c.loop-at.at made start seen on.0 on.1 on.2 (c.play.ensures.played c.loop-at.at) refl refl c.pass_to-told.result c.pass_to-told.ensures.ticks (sym c.is_some.ensures ∙ c.if-is_some.false) found,
   steady_on c.args.self.now.channels c.loop-at.self.channels c.play.new.self.channels c.loop-at.invariant.3 c.play.ensures.steady,
   c.play.ensures.time ∙ c.loop-at.invariant.4,
   c.play.ensures.end ∙ c.loop-at.invariant.5,
