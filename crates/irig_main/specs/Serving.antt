@@ -117,11 +117,11 @@ asked_of asked = record {
 }
 
 -- the recording on an input was judged to its end, or refused for what it says
-abbrev pub JudgedRecording : (names : Option (List ℕ)) → Result Judged JudgeFault → Bytes → Bytes → Type 0
-JudgedRecording names (Ok judged) input left =
-    IfSome input (JudgedWhole names) × IfSome input (λ text. IsAtEnd left)
-JudgedRecording names (Err f) input left =
-    f ≢ judging.Read → IfSome input (λ text. RefusedBy names text f)
+abbrev pub JudgedRecording : Asked → Result Judged JudgeFault → Bytes → Bytes → Type 0
+JudgedRecording asked (Ok judged) input left =
+    IfSome input (λ text. JudgedWhole asked text judged) × IfSome input (λ text. IsAtEnd left)
+JudgedRecording asked (Err f) input left =
+    f ≢ judging.Read → IfSome input (λ text. RefusedBy (channel_bytes asked.channels) text f)
 
 -- a recording was judged, or why it was not is the answer, and then nothing is written
 abbrev pub ShowsJudging : Result Judged JudgeFault → Answer → Bytes → Bytes → Type 0
@@ -131,7 +131,7 @@ ShowsJudging (Err f) answer old new = Refuses (fault_of_judging f) answer old ne
 -- the recording on an input was judged so, of which `left` is left
 pub record JudgesRecording (asked : Judging) (answer : Answer) (input left old new : Bytes) : Type 0 where
   pub result : Result Judged JudgeFault
-  pub judged : JudgedRecording (channel_bytes asked.channels) result input left
+  pub judged : JudgedRecording (asked_of asked) result input left
   pub shown : ShowsJudging result answer old new
 
 -- so of what a file gives; or it can't be opened, or there is no memory for it

@@ -1,17 +1,23 @@
 -- What is heard of a recording, level by level.
-use Rattle.std.proofs.Common.{◌≡◌, ◌∙◌, ℕ, ◌≤◌, List, [], ◌∷◌, Option, Some, None, IsTrue, sym, ap, subst, arith, max}
+use Rattle.std.proofs.Common.{◌≡◌, ◌∙◌, ℕ, ◌≤◌, Bool, List, [], ◌∷◌, Option, Some, None, IsTrue, is_some, sym, ap, subst, arith, max}
+use Rattle.std.specs.Prelude.{string_bytes}
+use Rattle.irig_vote.specs.declared.redundancy.Redundancy.{Redundancy}
 use Rattle.irig_vote.specs.Vote.{ports_in}
 use Rattle.irig_timekeeper.specs.Lived.{MadeOf}
 use Rattle.record_levels.specs.declared.levels.Levels.{Levels}
 use Rattle.record_pulses.specs.declared.edge.Edge.{Edge}
 use Rattle.record_lines.specs.declared.second.RecordedSecond.{RecordedSecond}
-use Rattle.record_lines.specs.Channels.{told_of_lines}
+use Rattle.record_lines.specs.Channels.{no_edges, told_of_lines}
 use Rattle.record_lines.specs.Helds.{has_room}
-use Rattle.record_lines.specs.Recordings.{IsEndedOn, IsPlayedOn, IsToldOn, until_of}
-use Rattle.record_verdict.specs.Verdicts.{IsVerdictOf}
+use Rattle.record_lines.specs.Recordings.{IsEndedOn, IsNewRecording, IsPlayedOn, IsRecordingOf, IsToldOn, until_of}
+use Rattle.record_verdict.specs.Verdicts.{IsVerdictOf, first_agreed}
+use Rattle.report_verdict.specs.declared.line_seen.LineSeen.{LineSeen}
 use Rattle.record_lines.proofs.OnLaws.{stays_end, stays_levels}
+use Rattle.report_judge.specs.declared.asked.Asked.{Asked}
 use Rattle.report_judge.specs.declared.hearing.Hearing.{Hearing}
-use Rattle.report_judge.specs.Hearings.{AreCarried, EndsOn, HearsOn, IsTaking, TakesOn, last_time, told_by}
+use Rattle.report_judge.specs.declared.hearing.Judged.{Judged}
+use Rattle.report_judge.specs.Channels.{redundancy_of}
+use Rattle.report_judge.specs.Hearings.{AreCarried, EndsOn, HasHeard, HearsOn, IsTaking, IsVerdictOn, IsVerdictText, TakesOn, glitch_of, last_time, told_by}
 
 -- seconds that were carried stay so behind levels more
 pub carried_on : (made : MadeOf) (glitch now lines : ℕ) (levels : Levels) (told : ℕ → List Edge) (seconds : List RecordedSecond) → now ≤ levels.time_ns → AreCarried made glitch (Some now) told seconds
@@ -95,3 +101,54 @@ hears_end old mid new time ended end verdict takes made glitch levels is =
       verdict = subst (λ v. IsVerdictOf v lines is.taking.seconds) (sym verdict) is.taking.verdict;
       carried = subst (λ u. AreCarried made glitch u told is.taking.seconds) until_mid (carried_to_end made glitch (until_of old.recording.end_us old.recording.now_ns) told is.taking.seconds is.taking.carried);
     })
+
+-- ---- by what is asked
+
+-- nothing was heard
+pub heard_nothing : (asked : Asked) (lines : ℕ) (redundancy : Redundancy) (made : MadeOf) (ports glitch : ℕ) (h : Hearing) → IsNewRecording h.recording made glitch → glitch ≡ glitch_of asked → made.rules ≡ asked.rules → made.clock.redundancy ≡ redundancy
+    → redundancy_of lines ≡ Some redundancy → ports ≡ ports_in redundancy → IsVerdictOf h.verdict ports [] → h.as_json ≡ asked.as_json → HasHeard asked lines [] h
+heard_nothing asked lines redundancy made ports glitch h new lasts rules same is count verdict form = record {
+  made = made;
+  for = record { rules = rules; redundancy = is ∙ ap Some (sym same) };
+  heard = record {
+    taking = record {
+      recording = subst (λ n. IsRecordingOf h.recording made n no_edges) lasts new.is;
+      seconds = [];
+      verdict = subst (λ n. IsVerdictOf h.verdict n []) (count ∙ ap ports_in (sym same)) verdict;
+      carried = tt;
+    };
+    goes = new.goes;
+    time = new.now;
+    room = new.room;
+  };
+  form = form;
+}
+
+-- levels more were heard
+pub hears_more : (asked : Asked) (lines : ℕ) (before : List Levels) (levels : Levels) (old new : Hearing) → HasHeard asked lines before old → HearsOn old new levels → last_time before ≤ levels.time_ns → new.as_json ≡ old.as_json
+    → HasHeard asked lines (levels ∷ before) new
+hears_more asked lines before levels old new has hears later form = record {
+  made = has.made;
+  for = has.for;
+  heard = hears has.made (glitch_of asked) before has.heard later;
+  form = form ∙ has.form;
+}
+
+-- the recording has ended, and the verdict is shown
+pub shows_verdict : (asked : Asked) (lines : ℕ) (levels : List Levels) (old new : Hearing) (judged : Judged) → HasHeard asked lines levels old → EndsOn old new → new.as_json ≡ old.as_json
+    → (seen : List LineSeen) × IsVerdictText new.as_json new.verdict seen (string_bytes judged.text)
+    → ((n : ℕ) (seconds : List RecordedSecond) → IsVerdictOf new.verdict n seconds → judged.is_decided ≡ is_some (first_agreed seconds))
+    → IsVerdictOn asked lines levels judged
+shows_verdict asked lines levels old new judged has ends form shown decided =
+    let count = ports_in has.made.clock.redundancy in
+    let taking = ends has.made (glitch_of asked) levels has.heard in
+    record {
+      made = has.made;
+      for = has.for;
+      seconds = taking.seconds;
+      carried = carried_to_end has.made (glitch_of asked) (until_of new.recording.end_us new.recording.now_ns) (told_by count levels) taking.seconds taking.carried;
+      verdict = new.verdict;
+      of = taking.verdict;
+      text = (shown.0, subst (λ (b : Bool). IsVerdictText b new.verdict shown.0 (string_bytes judged.text)) (form ∙ has.form) shown.1);
+      decided = decided count taking.seconds taking.verdict;
+    }

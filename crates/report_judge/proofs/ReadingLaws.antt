@@ -1,10 +1,12 @@
 -- What is read of a recording, piece by piece.
-use Rattle.std.proofs.Common.{◌≡◌, ◌≢◌, ◌≤◌, ℕ, Bool, List, [], ◌∷◌, ◌++◌, map, take, drop, length, Option, Some, None, Result, Ok, Err, IsTrue, IsFalse, IsSome, IfSome, true, false, refl, append_assoc, sym, ap, ◌∙◌, subst, arith, codes}
-use Rattle.std.specs.Prelude.{if◌then◌else◌, nat_lt, slice_index_or}
+use Rattle.std.proofs.Common.{◌≡◌, ◌≢◌, ◌≤◌, ℕ, Bool, List, [], ◌∷◌, ◌++◌, map, take, drop, length, Option, Some, None, Result, Ok, Err, IsTrue, IsFalse, IsSome, IfSome, is_some, true, false, refl, append_assoc, sym, ap, ◌∙◌, subst, arith, codes}
+use Rattle.std.specs.Prelude.{if◌then◌else◌, nat_lt, slice_index_or, string_bytes}
 use Rattle.std.specs.Str.{bytes_eq}
 use Rattle.std.proofs.lemmas.Slice.Eq.{bytes_eq-Decides}
 use Rattle.std.specs.Io.KnownBytes.{Consumes, IsAtEnd}
 use Rattle.std.proofs.lemmas.List.{length-append, take-append-drop}
+use Rattle.std.proofs.lemmas.Option.{same_Some}
+use Rattle.record_levels.specs.Limits.{Follows}
 use Rattle.record_levels.specs.declared.levels.Levels.{Levels}
 use Rattle.record_text.specs.Words.{kept, word_on, words_on}
 use Rattle.record_vcd.specs.declared.unit.Unit.{Unit}
@@ -18,17 +20,27 @@ use Rattle.record_vcd.specs.declared.section.Section.TheVariants.{Between, Times
 use Rattle.record_vcd.specs.Sections.{is_over, wires_of}
 use Rattle.record_vcd.specs.Heads.{HeadEnd, HeadValue, closed, head_from, step, taken_by, value_of}
 use Rattle.record_vcd.specs.Changes.{Said, changes_of, said}
-use Rattle.record_vcd.specs.Changes.Said.{Refused, Ends}
-use Rattle.record_vcd.specs.Dumps.{HeadFaultFits, IsAtTop, IsBelow, IsReady, Leads, LeadsOn, below, below_by, to_come}
+use Rattle.record_vcd.specs.Changes.Said.{Change, Refused, Ends}
+use Rattle.record_vcd.specs.Order.{AreInOrder}
+use Rattle.record_vcd.specs.Dumps.{HeadFaultFits, IsAtTop, IsBelow, IsReady, Leads, LeadsOn, below, below_by, codes_by, to_come}
 use Rattle.record_vcd.proofs.FileLaws.{codes-same, over-stays, top-is}
+use Rattle.record_vcd.proofs.OrderLaws.{in-order}
+use Rattle.record_lines.specs.declared.second.RecordedSecond.{RecordedSecond}
+use Rattle.record_verdict.specs.Verdicts.{IsVerdictOf, first_agreed}
+use Rattle.report_verdict.specs.declared.line_seen.LineSeen.{LineSeen}
+use Rattle.report_judge.specs.declared.asked.Asked.{Asked}
 use Rattle.report_judge.specs.declared.channels.ChannelFault.{ChannelFault}
 use Rattle.report_judge.specs.declared.fault.JudgeFault.{JudgeFault}
 use Rattle.report_judge.specs.declared.fault.JudgeFault.TheVariants.{Empty, Form, Head as HeadRefused, Channels, Dump, Endless, Read, Memory}
+use Rattle.report_judge.specs.declared.hearing.Hearing.{Hearing}
+use Rattle.report_judge.specs.declared.hearing.Judged.{Judged}
 use Rattle.report_judge.specs.declared.reading.Below.{Below}
 use Rattle.report_judge.specs.declared.reading.Stage.{Stage}
-use Rattle.report_judge.specs.Channels.{places_of}
+use Rattle.report_judge.specs.Channels.{channel_bytes, places_of}
 use Rattle.report_judge.specs.Faults.{of_head}
-use Rattle.report_judge.specs.Readings.{HasReadBelow, HasReadHead, HasReadTo, IsChannelFault, JudgedWhole, RefusedBy, RefusedFrom, begins_dump, head_of, judged_places, said_at, said_of_lines}
+use Rattle.report_judge.specs.Hearings.{EndsOn, HasHeard, HearsOn, IsVerdictOn, IsVerdictText, last_time}
+use Rattle.report_judge.specs.Readings.{AreChanges, HasReadBelow, HasReadHead, HasReadTo, IsChannelFault, JudgedWhole, RefusedBy, RefusedFrom, begins_dump, head_of, judged_places, levels_after, said_at, said_of_lines}
+use Rattle.report_judge.proofs.HearingLaws.{hears_more, shows_verdict}
 
 -- ---- the head
 
@@ -70,16 +82,22 @@ below-says names text reader places unit changes more h over has_unit chosen is_
     ∙ ap (λ c. Some (changes_of (map (λ place. slice_index_or c place []) places) unit (words_on reader.words more))) (codes-same reader.wires.items)
     ∙ ap Some (sym (is_below more))
 
-pub begins-below : (names : Option (List ℕ)) (text : List ℕ) (reader : Head) (places : List ℕ) (below : Below)
+pub begins-below : (asked : Asked) (text : List ℕ) (reader : Head) (places : List ℕ) (below : Below)
     → HasReadHead text reader → IsReady reader
-    → places_of (wires_of reader.wires.items) names ≡ Ok places
+    → places_of (wires_of reader.wires.items) (channel_bytes asked.channels) ≡ Ok places
     → ((unit : Unit) → reader.unit ≡ Some unit → IsBelow reader places unit below.changes)
-    → HasReadBelow names text below
-begins-below names text reader places below h ready chosen is_below =
+    → HasHeard asked (length places) [] below.hearing
+    → HasReadBelow asked text below
+begins-below asked text reader places below h ready chosen is_below heard =
+    let names = channel_bytes asked.channels in
     let unit = of-unit reader.unit ready.1 in
     record {
       said = [];
       says = λ more. below-says names text reader places unit.0 below.changes more h ready.0 unit.1 chosen (is_below unit.0 unit.1);
+      changes = tt;
+      places = places;
+      chosen = λ more. places-are names text reader more (Ok places) h ready.0 chosen;
+      heard = heard;
     }
 
 -- wires that are not judged
@@ -107,79 +125,178 @@ refused-head names text reader head.NoTimescale h over fits more =
     let is = over-is text reader more h over in
     (ap (λ (e : HeadEnd). is_over e.head.section) is ∙ over, ap (λ (e : HeadEnd). e.head.unit) is ∙ fits.1)
 
--- a part of the bytes is read, and the rest is left
-pub read-on : (old new : Changes) (rest : List ℕ) (count : ℕ) (levels : Option Levels) → Leads old (take count rest) levels new
-    → (more : List ℕ) → to_come old (rest ++ more) ≡ said levels ++ to_come new (drop count rest ++ more)
-read-on old new rest count levels led more =
-    ap (λ l. to_come old (l ++ more)) (sym (take-append-drop count rest))
-    ∙ ap (to_come old) (append_assoc (take count rest) (drop count rest) more)
-    ∙ led (drop count rest ++ more)
+-- ---- the levels of what is said
 
--- what a reader says of these bytes, before it is the next one
-pub record Says (old new : Changes) (bytes rest : List ℕ) : Type 0 where
-  pub said : List Said
-  pub says : (more : List ℕ) → to_come old (bytes ++ more) ≡ said ++ to_come new (rest ++ more)
+append-nothing : {A : Type 0} (xs : List A) → xs ++ [] ≡ xs
+append-nothing [] = refl
+append-nothing (x ∷ xs) = ap (λ l. x ∷ l) (append-nothing xs)
 
-pub says-nothing : (changes : Changes) (bytes : List ℕ) → Says changes changes bytes bytes
-says-nothing changes bytes = record { said = []; says = λ more. refl }
+-- one more of them is the newest
+newest-level : (before : List Levels) (others : List Said) (levels : Levels)
+    → levels_after before (others ++ Change levels ∷ []) ≡ levels ∷ levels_after before others
+newest-level before [] levels = refl
+newest-level before (Change other ∷ others) levels = newest-level (other ∷ before) others levels
+newest-level before (Refused fault ∷ others) levels = newest-level before others levels
+newest-level before (Ends time ∷ others) levels = newest-level before others levels
 
-pub says-on : (old here new : Changes) (bytes rest : List ℕ) (count : ℕ) (levels : Option Levels)
-    → Says old here bytes rest → Leads here (take count rest) levels new → Says old new bytes (drop count rest)
-says-on old here new bytes rest count levels h led = record {
-  said = h.said ++ said levels;
-  says = λ more. h.says more
-      ∙ ap (λ l. h.said ++ l) (read-on here new rest count levels led more)
-      ∙ sym (append_assoc h.said (said levels) (to_come new (drop count rest ++ more)));
+-- what is said says one more
+changes-more : (others : List Said) (levels : Levels) → AreChanges others → AreChanges (others ++ Change levels ∷ [])
+changes-more [] levels are = tt
+changes-more (Change other ∷ others) levels are = changes-more others levels are
+changes-more (Refused fault ∷ others) levels are = absurd are
+changes-more (Ends time ∷ others) levels are = absurd are
+
+-- when the newest of some levels came
+abbrev newest-time : List Levels → Option ℕ
+newest-time [] = None
+newest-time (levels ∷ before) = Some levels.time_ns
+
+follows-last : (before : List Levels) (time : ℕ) → Follows (newest-time before) time → last_time before ≤ time
+follows-last [] time follows = omega arith
+follows-last (levels ∷ before) time follows = let later = follows.0 in omega (arith, later)
+
+-- levels that a dump says next do not come before those that it said last
+no-sooner : (before : List Levels) (others : List Said) (levels : Levels) (rest : List Said)
+    → AreChanges others → AreInOrder (newest-time before) (others ++ Change levels ∷ rest)
+    → last_time (levels_after before others) ≤ levels.time_ns
+no-sooner before [] levels rest are order = follows-last before levels.time_ns order.0
+no-sooner before (Change other ∷ others) levels rest are order = no-sooner (other ∷ before) others levels rest are order.1
+no-sooner before (Refused fault ∷ others) levels rest are order = absurd are
+no-sooner before (Ends time ∷ others) levels rest are order = absurd are
+
+-- all that a dump says is in order
+said-in-order-by : (over : Bool) (unit : Option Unit) (places : List ℕ) (end : HeadEnd) (all : List Said)
+    → (if over then below_by unit places end else None) ≡ Some all → AreInOrder None all
+said-in-order-by true (Some unit) places end all is =
+    subst (AreInOrder None) (same_Some _ all is) (in-order (codes_by end.head.wires places) unit end.words)
+said-in-order-by true None places end all is = absurd cc
+said-in-order-by false unit places end all is = absurd cc
+
+said-in-order-at : (places : Result (List ℕ) ChannelFault) (text : List ℕ) (all : List Said)
+    → said_at places text ≡ Some all → AreInOrder None all
+said-in-order-at (Ok places) text all is =
+    said-in-order-by (is_over (head_of text).head.section) (head_of text).head.unit places (head_of text) all is
+said-in-order-at (Err fault) text all is = absurd cc
+
+said-in-order : (names : Option (List ℕ)) (text : List ℕ) (all : List Said)
+    → said_of_lines names text ≡ Some all → AreInOrder None all
+said-in-order names text all is = said-in-order-at (judged_places names text) text all is
+
+-- ---- bytes more
+
+-- what levels, if there are some, add to what was said
+module _ (asked : Asked) (lines : ℕ) (others rest : List Said) (are : AreChanges others) where
+  pub changes-by : (levels : Option Levels) → AreChanges (others ++ said levels)
+  changes-by None = subst AreChanges (sym (append-nothing others)) are
+  changes-by (Some levels) = changes-more others levels are
+
+  pub hears-by : (levels : Option Levels) (old new : Hearing) → HasHeard asked lines (levels_after [] others) old
+      → AreInOrder None (others ++ (said levels ++ rest))
+      → ((heard : Levels) → levels ≡ Some heard → HearsOn old new heard) → (levels ≡ None → new ≡ old) → new.as_json ≡ old.as_json
+      → HasHeard asked lines (levels_after [] (others ++ said levels)) new
+  hears-by None old new has order some none form =
+      subst (λ o. HasHeard asked lines (levels_after [] o) new) (sym (append-nothing others)) (subst (HasHeard asked lines (levels_after [] others)) (sym (none refl)) has)
+  hears-by (Some levels) old new has order some none form =
+      subst (λ l. HasHeard asked lines l new) (sym (newest-level [] others levels))
+      (hears_more asked lines (levels_after [] others) levels old new has (some levels refl) (no-sooner [] others levels rest are order) form)
+
+-- bytes were read, and the levels that they say were heard
+module _ (asked : Asked) (text taken : List ℕ) (old new : Below) (levels : Option Levels) (h : HasReadBelow asked text old) (led : Leads old.changes taken levels new.changes) where
+  says-more : (more : List ℕ) → said_of_lines (channel_bytes asked.channels) ((text ++ taken) ++ more) ≡ Some (h.said ++ (said levels ++ to_come new.changes more))
+  says-more more = ap (said_of_lines (channel_bytes asked.channels)) (append_assoc text taken more)
+      ∙ h.says (taken ++ more)
+      ∙ ap (λ l. Some (h.said ++ l)) (led more)
+
+  pub reads-below : ((heard : Levels) → levels ≡ Some heard → HearsOn old.hearing new.hearing heard) → (levels ≡ None → new.hearing ≡ old.hearing) → new.hearing.as_json ≡ old.hearing.as_json
+      → HasReadBelow asked (text ++ taken) new
+  reads-below some none form = record {
+    said = h.said ++ said levels;
+    says = λ more. says-more more ∙ ap Some (sym (append_assoc h.said (said levels) (to_come new.changes more)));
+    changes = changes-by asked (length h.places) h.said (to_come new.changes []) h.changes levels;
+    places = h.places;
+    chosen = λ more. ap (judged_places (channel_bytes asked.channels)) (append_assoc text taken more) ∙ h.chosen (taken ++ more);
+    heard = hears-by asked (length h.places) h.said (to_come new.changes []) h.changes levels old.hearing new.hearing h.heard
+        (said-in-order (channel_bytes asked.channels) ((text ++ taken) ++ []) (h.said ++ (said levels ++ to_come new.changes [])) (says-more []))
+        some none form;
+  }
+
+-- of these bytes all but the rest was read
+pub record ReadsPart (old new : Below) (bytes rest : List ℕ) : Type 0 where
+  pub front : List ℕ
+  pub whole : front ++ rest ≡ bytes
+  pub reads : (asked : Asked) (text : List ℕ) → HasReadBelow asked text old → HasReadBelow asked (text ++ front) new
+
+pub reads-nothing : (below : Below) (bytes : List ℕ) → ReadsPart below below bytes bytes
+reads-nothing below bytes = record {
+  front = [];
+  whole = refl;
+  reads = λ asked text h. subst (λ t. HasReadBelow asked t below) (sym (append-nothing text)) h;
 }
 
-pub goes-below : (names : Option (List ℕ)) (text : List ℕ) (old new : Below) (bytes : List ℕ)
-    → HasReadBelow names text old → Says old.changes new.changes bytes [] → HasReadBelow names (text ++ bytes) new
-goes-below names text old new bytes h s = record {
-  said = h.said ++ s.said;
-  says = λ more. ap (said_of_lines names) (append_assoc text bytes more)
-      ∙ h.says (bytes ++ more)
-      ∙ ap (λ l. Some (h.said ++ l)) (s.says more)
-      ∙ ap Some (sym (append_assoc h.said s.said (to_come new.changes more)));
+pub reads-on : (old here new : Below) (bytes rest : List ℕ) (count : ℕ) (levels : Option Levels) → ReadsPart old here bytes rest
+    → Leads here.changes (take count rest) levels new.changes
+    → ((heard : Levels) → levels ≡ Some heard → HearsOn here.hearing new.hearing heard) → (levels ≡ None → new.hearing ≡ here.hearing) → new.hearing.as_json ≡ here.hearing.as_json
+    → ReadsPart old new bytes (drop count rest)
+reads-on old here new bytes rest count levels part led some none form = record {
+  front = part.front ++ take count rest;
+  whole = append_assoc part.front (take count rest) (drop count rest) ∙ ap (λ l. part.front ++ l) (take-append-drop count rest) ∙ part.whole;
+  reads = λ asked text h.
+      subst (λ t. HasReadBelow asked t new) (append_assoc text part.front (take count rest))
+      (reads-below asked (text ++ part.front) (take count rest) here new levels (part.reads asked text h) led some none form);
 }
 
-pub refuses-below : (names : Option (List ℕ)) (text : List ℕ) (old : Below) (here : Changes) (bytes rest : List ℕ) (fault : Fault)
-    → HasReadBelow names text old → Says old.changes here bytes rest
-    → ((more : List ℕ) → to_come here (rest ++ more) ≡ Refused fault ∷ [])
-    → RefusedFrom names (text ++ bytes) (Dump fault)
-refuses-below names text old here bytes rest fault h s refuses more = (
-  h.said ++ s.said,
-  ap (said_of_lines names) (append_assoc text bytes more)
-      ∙ h.says (bytes ++ more)
-      ∙ ap (λ l. Some (h.said ++ l)) (s.says more ∙ ap (λ l. s.said ++ l) (refuses more))
-      ∙ ap Some (sym (append_assoc h.said s.said (Refused fault ∷ []))),
-)
+pub reads-whole : (asked : Asked) (text : List ℕ) (old new : Below) (bytes : List ℕ) → HasReadBelow asked text old → ReadsPart old new bytes [] → HasReadBelow asked (text ++ bytes) new
+reads-whole asked text old new bytes h part =
+    subst (λ b. HasReadBelow asked (text ++ b) new) (sym (append-nothing part.front) ∙ part.whole) (part.reads asked text h)
+
+pub refuses-below : (asked : Asked) (text : List ℕ) (old here : Below) (bytes rest : List ℕ) (fault : Fault)
+    → HasReadBelow asked text old → ReadsPart old here bytes rest
+    → ((more : List ℕ) → to_come here.changes (rest ++ more) ≡ Refused fault ∷ [])
+    → RefusedFrom (channel_bytes asked.channels) (text ++ bytes) (Dump fault)
+refuses-below asked text old here bytes rest fault h part refuses more =
+    let names = channel_bytes asked.channels in
+    let on = part.reads asked text h in (
+      on.said,
+      ap (said_of_lines names)
+          (ap (λ b. (text ++ b) ++ more) (sym part.whole)
+          ∙ ap (λ t. t ++ more) (sym (append_assoc text part.front rest))
+          ∙ append_assoc (text ++ part.front) rest more)
+          ∙ on.says (rest ++ more)
+          ∙ ap (λ l. Some (on.said ++ l)) (refuses more),
+    )
 
 -- ---- at the end
 
-append-nothing : (text : List ℕ) → text ++ [] ≡ text
-append-nothing [] = refl
-append-nothing (b ∷ bs) = ap (λ l. b ∷ l) (append-nothing bs)
-
-pub ends-below : (names : Option (List ℕ)) (text : List ℕ) (below : Below) (levels : Option Levels) (time : ℕ)
-    → IsTrue (begins_dump text) → HasReadBelow names text below
+-- what the last bytes say was heard, the recording has ended, and the verdict is shown
+pub ends-below : (asked : Asked) (text : List ℕ) (below : Below) (levels : Option Levels) (time : ℕ) (heard ended : Hearing) (judged : Judged)
+    → IsTrue (begins_dump text) → HasReadBelow asked text below
     → to_come below.changes [] ≡ said levels ++ Ends time ∷ []
-    → JudgedWhole names text
-ends-below names text below levels time begins h ends = record {
-  begins = begins;
-  said = h.said ++ said levels;
-  end = time;
-  says = ap (said_of_lines names) (sym (append-nothing text))
-      ∙ h.says []
-      ∙ ap (λ l. Some (h.said ++ l)) ends
-      ∙ ap Some (sym (append_assoc h.said (said levels) (Ends time ∷ [])));
-}
+    → ((l : Levels) → levels ≡ Some l → HearsOn below.hearing heard l) → (levels ≡ None → heard ≡ below.hearing) → heard.as_json ≡ below.hearing.as_json
+    → EndsOn heard ended → ended.as_json ≡ heard.as_json
+    → (seen : List LineSeen) × IsVerdictText ended.as_json ended.verdict seen (string_bytes judged.text)
+    → ((n : ℕ) (seconds : List RecordedSecond) → IsVerdictOf ended.verdict n seconds → judged.is_decided ≡ is_some (first_agreed seconds))
+    → JudgedWhole asked text judged
+ends-below asked text below levels time heard ended judged begins h ends some none form end form_at_end shown decided =
+    let names = channel_bytes asked.channels in
+    let whole = sym (append-nothing text) in
+    let says : said_of_lines names text ≡ Some (h.said ++ (said levels ++ Ends time ∷ [])) = ap (said_of_lines names) whole ∙ h.says [] ∙ ap (λ l. Some (h.said ++ l)) ends in
+    let has = hears-by asked (length h.places) h.said (Ends time ∷ []) h.changes levels below.hearing heard h.heard (said-in-order names text (h.said ++ (said levels ++ Ends time ∷ [])) says) some none form in
+    record {
+      begins = begins;
+      said = h.said ++ said levels;
+      end = time;
+      says = says ∙ ap Some (sym (append_assoc h.said (said levels) (Ends time ∷ [])));
+      places = h.places;
+      chosen = ap (judged_places names) whole ∙ h.chosen [];
+      verdict = shows_verdict asked (length h.places) (levels_after [] (h.said ++ said levels)) heard ended judged has end form_at_end shown decided;
+    }
 
-pub refused-at-end : (names : Option (List ℕ)) (text : List ℕ) (below : Below) (fault : Fault)
-    → HasReadBelow names text below → to_come below.changes [] ≡ Refused fault ∷ []
-    → RefusedBy names text (Dump fault)
-refused-at-end names text below fault h refuses = (
+pub refused-at-end : (asked : Asked) (text : List ℕ) (below : Below) (fault : Fault)
+    → HasReadBelow asked text below → to_come below.changes [] ≡ Refused fault ∷ []
+    → RefusedBy (channel_bytes asked.channels) text (Dump fault)
+refused-at-end asked text below fault h refuses = (
   h.said,
-  ap (said_of_lines names) (sym (append-nothing text)) ∙ h.says [] ∙ ap (λ l. Some (h.said ++ l)) refuses,
+  ap (said_of_lines (channel_bytes asked.channels)) (sym (append-nothing text)) ∙ h.says [] ∙ ap (λ l. Some (h.said ++ l)) refuses,
 )
 
 -- one byte more makes no end of a section of a word
@@ -286,10 +403,10 @@ whole-known P (Some all) None text took end h = absurd took
 whole-known P (Some all) (Some left) text took end h = subst P (sym (took ∙ ap (λ l. text ++ l) end ∙ append-nothing text)) h
 
 -- of a device that had `old` left, and has `new` left, so many pieces were read
-pub record HasReadFrom (names : Option (List ℕ)) (old new : Option (List ℕ)) (stage : Stage) (pieces : ℕ) : Type 0 where
+pub record HasReadFrom (asked : Asked) (old new : Option (List ℕ)) (stage : Stage) (pieces : ℕ) : Type 0 where
   pub text : List ℕ
   pub took : Consumes old new text
-  pub read : HasReadTo names text stage
+  pub read : HasReadTo asked text stage
   pub many : pieces ≤ length text
 
 pub takes-on : (a b c : Option (List ℕ)) (text piece : List ℕ) → Consumes a b text → Consumes b c piece → Consumes a c (text ++ piece)

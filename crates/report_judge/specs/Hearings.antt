@@ -1,6 +1,6 @@
 -- The lines of a recording as they are heard, by the levels that were told of them, the newest first.
 -- Source: this project's profile.
-use Rattle.std.specs.Prelude.{◌≡◌, ℕ, ◌≤◌, List, [], ◌∷◌, Option, None, IsTrue, ⊤}
+use Rattle.std.specs.Prelude.{◌≡◌, ℕ, ◌*◌, ◌≤◌, Bool, if◌then◌else◌, is_some, List, [], ◌∷◌, Option, Some, None, IsTrue, ⊤, string_bytes}
 use Rattle.irig_vote.specs.Vote.{ports_in}
 use Rattle.irig_timekeeper.specs.Lived.{MadeOf}
 use Rattle.record_levels.specs.declared.levels.Levels.{Levels}
@@ -9,8 +9,15 @@ use Rattle.record_lines.specs.declared.second.RecordedSecond.{RecordedSecond}
 use Rattle.record_lines.specs.Channels.{no_edges, told_of_lines}
 use Rattle.record_lines.specs.Helds.{has_room}
 use Rattle.record_lines.specs.Recordings.{IsCarriedBy, IsRecordingOf, until_of}
-use Rattle.record_verdict.specs.Verdicts.{IsVerdictOf}
+use Rattle.record_verdict.specs.declared.verdict.Verdict.{Verdict}
+use Rattle.record_verdict.specs.Verdicts.{IsVerdictOf, first_agreed}
+use Rattle.report_verdict.specs.declared.line_seen.LineSeen.{LineSeen}
+use Rattle.report_verdict.specs.JsonText.{json_text}
+use Rattle.report_verdict.specs.VerdictText.{verdict_text}
+use Rattle.report_judge.specs.declared.asked.Asked.{Asked}
 use Rattle.report_judge.specs.declared.hearing.Hearing.{Hearing}
+use Rattle.report_judge.specs.declared.hearing.Judged.{Judged}
+use Rattle.report_judge.specs.Channels.{redundancy_of}
 
 -- what each of so many lines was told by these levels
 abbrev pub told_by : (lines : ℕ) → List Levels → ℕ → List Edge
@@ -60,3 +67,38 @@ abbrev pub EndsOn : (old new : Hearing) → Type 0
 EndsOn old new =
     (made : MadeOf) (glitch : ℕ) (levels : List Levels) → IsHearingOf old made glitch levels
     → IsTaking new made glitch (told_by (ports_in made.clock.redundancy) levels)
+
+-- ---- by what is asked
+
+-- a timekeeper is made of the rules that are asked for, and of so many lines
+pub record IsMadeFor (asked : Asked) (lines : ℕ) (made : MadeOf) : Type 0 where
+  pub rules : made.rules ≡ asked.rules
+  pub redundancy : redundancy_of lines ≡ Some made.clock.redundancy
+
+-- a level that lasts for less is a glitch, in nanoseconds
+abbrev pub glitch_of : Asked → ℕ
+glitch_of asked = asked.glitch_us * 1000
+
+-- so many lines have heard these levels
+pub record HasHeard (asked : Asked) (lines : ℕ) (levels : List Levels) (h : Hearing) : Type 0 where
+  pub made : MadeOf
+  pub for : IsMadeFor asked lines made
+  pub heard : IsHearingOf h made (glitch_of asked) levels
+  pub form : h.as_json ≡ asked.as_json
+
+-- the text of a verdict with what was seen of lines, as it is asked for
+abbrev pub IsVerdictText : (as_json : Bool) → Verdict → List LineSeen → (text : List ℕ) → Type 0
+IsVerdictText as_json verdict lines text =
+    text ≡ (if as_json then json_text verdict lines else verdict_text verdict lines)
+
+-- the verdict on so many lines that were told these levels: that of seconds which the levels carry
+pub record IsVerdictOn (asked : Asked) (lines : ℕ) (levels : List Levels) (judged : Judged) : Type 0 where
+  pub made : MadeOf
+  pub for : IsMadeFor asked lines made
+  pub seconds : List RecordedSecond
+  pub carried : AreCarried made (glitch_of asked) None (told_by (ports_in made.clock.redundancy) levels)
+      seconds
+  pub verdict : Verdict
+  pub of : IsVerdictOf verdict (ports_in made.clock.redundancy) seconds
+  pub text : (seen : List LineSeen) × IsVerdictText asked.as_json verdict seen (string_bytes judged.text)
+  pub decided : judged.is_decided ≡ is_some (first_agreed seconds)

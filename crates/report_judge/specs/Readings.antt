@@ -7,16 +7,20 @@ use Rattle.record_vcd.specs.declared.head.Head.{Head as HeadReader}
 use Rattle.record_vcd.specs.declared.changes.HeadFault.TheVariants as head
 use Rattle.record_vcd.specs.Sections.{is_over}
 use Rattle.record_vcd.specs.Heads.{HeadEnd, head_end, head_from, top}
+use Rattle.record_levels.specs.declared.levels.Levels.{Levels}
 use Rattle.record_vcd.specs.Changes.{Said}
-use Rattle.record_vcd.specs.Changes.Said.{Refused, Ends}
+use Rattle.record_vcd.specs.Changes.Said.{Change, Refused, Ends}
 use Rattle.record_vcd.specs.Dumps.{dump_of, to_come}
+use Rattle.report_judge.specs.declared.asked.Asked.{Asked}
 use Rattle.report_judge.specs.declared.channels.ChannelFault.{ChannelFault}
 use Rattle.report_judge.specs.declared.fault.JudgeFault.{JudgeFault}
 use Rattle.report_judge.specs.declared.fault.JudgeFault.TheVariants.{Empty, Form, Head, Channels, Dump, Endless, Read, Memory}
+use Rattle.report_judge.specs.declared.hearing.Judged.{Judged}
 use Rattle.report_judge.specs.declared.reading.Below.{Below}
 use Rattle.report_judge.specs.declared.reading.Stage.{Stage}
 use Rattle.report_judge.specs.declared.reading.Stage.TheVariants as stage
-use Rattle.report_judge.specs.Channels.{places_of}
+use Rattle.report_judge.specs.Channels.{channel_bytes, places_of}
+use Rattle.report_judge.specs.Hearings.{HasHeard, IsVerdictOn}
 
 -- a value change dump may begin with this byte: a $ or a blank
 abbrev pub is_of_dump : (byte : ℕ) → Bool
@@ -80,28 +84,50 @@ RefusedFrom names text fault = (more : List ℕ) → RefusedBy names (text ++ mo
 
 -- ---- as far as it was read
 
+-- the levels in what a dump says, after those before, the newest first
+abbrev pub levels_after : (before : List Levels) → List Said → List Levels
+levels_after before [] = before
+levels_after before (Change levels ∷ others) = levels_after (levels ∷ before) others
+levels_after before (Refused fault ∷ others) = levels_after before others
+levels_after before (Ends time ∷ others) = levels_after before others
+
+-- it says levels alone
+abbrev pub AreChanges : List Said → Type 0
+AreChanges [] = ⊤
+AreChanges (Change levels ∷ others) = AreChanges others
+AreChanges (Refused fault ∷ others) = ⊥
+AreChanges (Ends time ∷ others) = ⊥
+
 -- this reader of a head has read this text
 abbrev pub HasReadHead : (text : List ℕ) → HeadReader → Type 0
 HasReadHead text reader = (more : List ℕ) → head_of (text ++ more) ≡ head_end reader more
 
 -- this text was read, up to below its head, and the lines that are judged have heard what it says
-pub record HasReadBelow (names : Option (List ℕ)) (text : List ℕ) (below : Below) : Type 0 where
+pub record HasReadBelow (asked : Asked) (text : List ℕ) (below : Below) : Type 0 where
   pub said : List Said
-  pub says : (more : List ℕ)
-      → said_of_lines names (text ++ more) ≡ Some (said ++ to_come below.changes more)
+  pub says : (more : List ℕ) → said_of_lines (channel_bytes asked.channels) (text ++ more)
+      ≡ Some (said ++ to_come below.changes more)
+  pub changes : AreChanges said
+  pub places : List ℕ
+  pub chosen : (more : List ℕ) → judged_places (channel_bytes asked.channels) (text ++ more) ≡ Ok places
+  pub heard : HasHeard asked (length places) (levels_after [] said) below.hearing
 
 -- this text was read
-abbrev pub HasReadTo : (names : Option (List ℕ)) → (text : List ℕ) → Stage → Type 0
-HasReadTo names text stage.Start = text ≡ []
-HasReadTo names text (stage.Head reader) =
+abbrev pub HasReadTo : Asked → (text : List ℕ) → Stage → Type 0
+HasReadTo asked text stage.Start = text ≡ []
+HasReadTo asked text (stage.Head reader) =
     IsTrue (begins_dump text) × HasReadHead text reader × IsFalse (is_over reader.section)
-HasReadTo names text (stage.Below below) = IsTrue (begins_dump text) × HasReadBelow names text below
+HasReadTo asked text (stage.Below below) = IsTrue (begins_dump text) × HasReadBelow asked text below
 
 -- ---- at its end
 
--- this text was judged to its end
-pub record JudgedWhole (names : Option (List ℕ)) (text : List ℕ) : Type 0 where
+-- this text was judged to its end: what is shown is the verdict on the lines that are judged, by all the
+-- levels that it says of them
+pub record JudgedWhole (asked : Asked) (text : List ℕ) (judged : Judged) : Type 0 where
   pub begins : IsTrue (begins_dump text)
   pub said : List Said
   pub end : ℕ
-  pub says : said_of_lines names text ≡ Some (said ++ Ends end ∷ [])
+  pub says : said_of_lines (channel_bytes asked.channels) text ≡ Some (said ++ Ends end ∷ [])
+  pub places : List ℕ
+  pub chosen : judged_places (channel_bytes asked.channels) text ≡ Ok places
+  pub verdict : IsVerdictOn asked (length places) (levels_after [] said) judged

@@ -15,6 +15,7 @@ mod why;
 pub use asked::Asked;
 pub use channels::ChannelFault;
 pub use fault::JudgeFault;
-pub use reading::{Judged, Reading};
+pub use hearing::Judged;
+pub use reading::Reading;
 pub use run::judge;
 pub use why::why_refused;

@@ -1,27 +1,19 @@
 //! A recording that comes in pieces.
 
-ghost use Rattle.std.specs.Prelude.{◌≡◌, ◌<◌, ◌++◌, [], All, IsTrue, IfErr, IfOk, List, Option, ℕ, length};
+ghost use Rattle.std.specs.Prelude.{◌≡◌, ◌<◌, ◌++◌, [], All, IsTrue, IfErr, IfOk, List, ℕ, length};
 ghost use Rattle.record_vcd.specs.Sections.{is_over};
+ghost use Rattle.report_judge.specs.declared.asked.Asked.{Asked as AskedOf};
 ghost use Rattle.report_judge.specs.declared.fault.JudgeFault.TheVariants.{Dump};
 ghost use Rattle.report_judge.specs.Channels.{channel_bytes};
 ghost use Rattle.report_judge.specs.Readings.{HasReadBelow, HasReadHead, HasReadTo, IsChannelFault, JudgedWhole, RefusedBy, RefusedFrom, begins_dump};
 
 use crate::asked::Asked;
-use crate::channels::{ChannelFault, places_of, redundancy_of};
+use crate::channels::{ChannelFault, places_of};
 use crate::fault::JudgeFault;
-use crate::hearing::Hearing;
+use crate::hearing::{Hearing, Judged};
 use crate::why::names_of;
 use record_vcd::{Changes, Fault, Head, HeadFault, Wire};
 use std::alloc::{AllocError, Global};
-
-/// What a recording comes to.
-#[derive(Drop)]
-pub struct Judged {
-    /// The verdict, in lines.
-    pub text: String,
-    /// Whether most lines agree on any second.
-    pub is_decided: bool,
-}
 
 /// A recording as far as it was read.
 #[derive(Drop)]
@@ -51,7 +43,7 @@ struct Below {
 impl Reading {
     /// One of which nothing was read.
     pub fn new() -> Reading
-        ensures { (names : Option (List ℕ)) → HasReadTo names [] result.stage }
+        ensures { (asked : AskedOf) → HasReadTo asked [] result.stage }
     {
         Reading {
             stage: Stage::Start,
@@ -61,10 +53,10 @@ impl Reading {
     /// Reads the next piece.
     pub fn read(self, alloc: Global, asked: &Asked<'_>, bytes: &[u8]) -> Result<Reading, JudgeFault>
         ensures reads { IfOk result (λ reading. (text : List ℕ)
-            → HasReadTo (channel_bytes asked.now.channels) text self.stage
-            → HasReadTo (channel_bytes asked.now.channels) (text ++ bytes.now) reading.stage) }
+            → HasReadTo asked.now text self.stage
+            → HasReadTo asked.now (text ++ bytes.now) reading.stage) }
         ensures refuses { IfErr result (λ fault. (text : List ℕ)
-            → HasReadTo (channel_bytes asked.now.channels) text self.stage
+            → HasReadTo asked.now text self.stage
             → RefusedFrom (channel_bytes asked.now.channels) (text ++ bytes.now) fault) }
     {
         let stage = match self.stage {
@@ -80,10 +72,11 @@ impl Reading {
 
     /// The recording has ended: its verdict.
     pub fn end(self, alloc: Global) -> Result<Judged, JudgeFault>
-        ensures judged { IfOk result (λ _. (names : Option (List ℕ)) (text : List ℕ)
-            → HasReadTo names text self.stage → JudgedWhole names text) }
-        ensures refuses { IfErr result (λ fault. (names : Option (List ℕ)) (text : List ℕ)
-            → HasReadTo names text self.stage → RefusedBy names text fault) }
+        ensures judged { IfOk result (λ judged. (asked : AskedOf) (text : List ℕ)
+            → HasReadTo asked text self.stage → JudgedWhole asked text judged) }
+        ensures refuses { IfErr result (λ fault. (asked : AskedOf) (text : List ℕ)
+            → HasReadTo asked text self.stage
+            → RefusedBy (channel_bytes asked.channels) text fault) }
     {
         match self.stage {
             Stage::Start => Err(JudgeFault::Empty),
@@ -95,7 +88,7 @@ impl Reading {
 
 // The first piece shows the form.
 fn start(alloc: Global, asked: &Asked<'_>, bytes: &[u8]) -> Result<Stage, JudgeFault>
-    ensures reads { IfOk result (HasReadTo (channel_bytes asked.now.channels) bytes.now) }
+    ensures reads { IfOk result (HasReadTo asked.now bytes.now) }
     ensures refuses { IfErr result (RefusedFrom (channel_bytes asked.now.channels) bytes.now) }
 {
     if bytes.is_empty() {
@@ -126,7 +119,7 @@ fn read_head(
 ) -> Result<Stage, JudgeFault>
     ensures reads { IfOk result (λ stage. (text : List ℕ) → HasReadHead text head
         → IsTrue (begins_dump (text ++ bytes.now))
-        → HasReadTo (channel_bytes asked.now.channels) (text ++ bytes.now) stage) }
+        → HasReadTo asked.now (text ++ bytes.now) stage) }
     ensures refuses { IfErr result (λ fault. (text : List ℕ) → HasReadHead text head
         → RefusedFrom (channel_bytes asked.now.channels) (text ++ bytes.now) fault) }
 {
@@ -144,7 +137,7 @@ impl Below {
     fn new(alloc: Global, asked: &Asked<'_>, head: Head) -> Result<Below, JudgeFault>
         requires { IsTrue (is_over head.section) }
         ensures reads { IfOk result (λ below. (text : List ℕ) → HasReadHead text head
-            → HasReadBelow (channel_bytes asked.now.channels) text below) }
+            → HasReadBelow asked.now text below) }
         ensures refuses { IfErr result (λ fault. (text : List ℕ) → HasReadHead text head
             → RefusedFrom (channel_bytes asked.now.channels) text fault) }
     {
@@ -154,7 +147,7 @@ impl Below {
         };
         let names = names_at(alloc, head.wires(), places.as_slice())?;
         let changes = Changes::new(alloc, head, places.as_slice())?;
-        let hearing = hearing_of(places.len(), asked)?;
+        let hearing = Hearing::new(alloc, places.len(), asked)?;
         Ok(Below {
             names,
             changes,
@@ -163,10 +156,11 @@ impl Below {
     }
 
     fn read(&mut self, bytes: &[u8]) -> Result<(), Fault>
-        ensures reads { IfOk result (λ _. (names : Option (List ℕ)) (text : List ℕ)
-            → HasReadBelow names text self.old → HasReadBelow names (text ++ bytes.now) self.new) }
-        ensures refuses { IfErr result (λ fault. (names : Option (List ℕ)) (text : List ℕ)
-            → HasReadBelow names text self.old → RefusedFrom names (text ++ bytes.now) (Dump fault)) }
+        ensures reads { IfOk result (λ _. (asked : AskedOf) (text : List ℕ)
+            → HasReadBelow asked text self.old → HasReadBelow asked (text ++ bytes.now) self.new) }
+        ensures refuses { IfErr result (λ fault. (asked : AskedOf) (text : List ℕ)
+            → HasReadBelow asked text self.old
+            → RefusedFrom (channel_bytes asked.channels) (text ++ bytes.now) (Dump fault)) }
     {
         let mut rest = bytes;
         while !rest.is_empty() {
@@ -178,10 +172,11 @@ impl Below {
     }
 
     fn end(self, alloc: Global) -> Result<Judged, JudgeFault>
-        ensures judged { IfOk result (λ _. (names : Option (List ℕ)) (text : List ℕ)
-            → IsTrue (begins_dump text) → HasReadBelow names text self → JudgedWhole names text) }
-        ensures refuses { IfErr result (λ fault. (names : Option (List ℕ)) (text : List ℕ)
-            → HasReadBelow names text self → RefusedBy names text fault) }
+        ensures judged { IfOk result (λ judged. (asked : AskedOf) (text : List ℕ)
+            → IsTrue (begins_dump text) → HasReadBelow asked text self
+            → JudgedWhole asked text judged) }
+        ensures refuses { IfErr result (λ fault. (asked : AskedOf) (text : List ℕ)
+            → HasReadBelow asked text self → RefusedBy (channel_bytes asked.channels) text fault) }
     {
         let Below {
             names,
@@ -191,21 +186,8 @@ impl Below {
         let end = changes.end()?;
         hearing.hear(end.levels);
         hearing.end(end.time_ns);
-        Ok(Judged {
-            text: hearing.text(alloc, names.as_slice())?,
-            is_decided: hearing.is_decided(),
-        })
-    }
-}
-
-// So many lines that are heard; by their setup there are such, which no contract says.
-fn hearing_of(lines: usize, asked: &Asked<'_>) -> Result<Hearing, AllocError> {
-    let Some(redundancy) = redundancy_of(lines) else {
-        return Err(AllocError);
-    };
-    match Hearing::new(redundancy, asked) {
-        Ok(hearing) => Ok(hearing),
-        Err(_) => Err(AllocError),
+        let judged = hearing.judged(alloc, names.as_slice())?;
+        Ok(judged)
     }
 }
 

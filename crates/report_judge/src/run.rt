@@ -8,12 +8,13 @@ ghost use Rattle.report_judge.specs.Readings.{JudgedWhole, RefusedBy};
 
 use crate::asked::Asked;
 use crate::fault::JudgeFault;
-use crate::reading::{Judged, Reading};
+use crate::hearing::Judged;
+use crate::reading::Reading;
 use irig_device::Watched;
 use std::alloc::Global;
 use std::io::Read;
 
-// How many bytes are read at once at most. Each piece moves the lines as they are heard, some 140 kB.
+// How many bytes are read at once at most. Each piece moves the lines as they are heard, some 40 kB.
 const PIECE: usize = 65_536;
 
 /// Reads a recording to its end, and answers the verdict on the lines that are asked for.
@@ -25,8 +26,8 @@ pub fn judge<I: Read>(
     asked: &Asked<'_>,
 ) -> Result<Judged, JudgeFault>
     requires whole { has_failed input.old ≡ false }
-    ensures judged { IfOk result (λ _. IfSome (I.remaining (device_of input.old))
-        (JudgedWhole (channel_bytes asked.now.channels))) }
+    ensures judged { IfOk result (λ judged. IfSome (I.remaining (device_of input.old))
+        (λ text. JudgedWhole asked.now text judged)) }
     ensures end { IfOk result (λ _. IfSome (I.remaining (device_of input.old))
         (λ _. IsAtEnd (I.remaining (device_of input.new)))) }
     ensures refused { IfErr result (λ fault. fault ≢ JudgeFault.Read

@@ -8,7 +8,7 @@ pub returns-in-Ok-clause-judged : goal.returns-in-Ok-clause-judged
 returns-in-Ok-clause-judged g c = record {
   result = Ok c.in-Ok.judged;
   judged = (
-    subst (λ a. IfSome (g.I.Read.remaining (device_of c.args.input.now)) (JudgedWhole (channel_bytes a.channels))) c.asked_of.ensures c.in-Ok.ensures.judged,
+    subst (λ a. IfSome (g.I.Read.remaining (device_of c.args.input.now)) (λ text. JudgedWhole a text c.in-Ok.judged)) c.asked_of.ensures c.in-Ok.ensures.judged,
     c.in-Ok.ensures.end,
   );
   shown = c.show.ensures.shown;

@@ -23,15 +23,14 @@ returns-in_err-read-clause-refuses c =
     let below = c.in_ok-below.ensures.reads part (head-leads c.args.head c.read.new.self text (take c.in_ok-taken.taken.count c.args.bytes.now) h c.in_ok-taken.ensures.says) in
     subst (λ t. RefusedFrom names t (Dump c.in_err-read.field-0.0))
     (ap (λ l. part ++ l) c.split_at.ensures.back ∙ cut-whole text c.args.bytes.now c.in_ok-taken.taken.count)
-    (c.in_err-read.ensures.refuses names part below))
+    (c.in_err-read.ensures.refuses c.args.asked.now part below))
 
 pub returns-clause-reads : goal.returns-clause-reads
 returns-clause-reads c = λ text h begins.
-    let names = channel_bytes c.args.asked.now.channels in
     let part = text ++ take c.in_ok-taken.taken.count c.args.bytes.now in
     let below = c.in_ok-below.ensures.reads part (head-leads c.args.head c.read.new.self text (take c.in_ok-taken.taken.count c.args.bytes.now) h c.in_ok-taken.ensures.says) in (
       begins,
-      subst (λ t. HasReadBelow names t c.read-2.new.self)
+      subst (λ t. HasReadBelow c.args.asked.now t c.read-2.new.self)
           (ap (λ l. part ++ l) c.split_at.ensures.back ∙ cut-whole text c.args.bytes.now c.in_ok-taken.taken.count)
-          (c.in_ok-read.ensures.reads names part below),
+          (c.in_ok-read.ensures.reads c.args.asked.now part below),
     )

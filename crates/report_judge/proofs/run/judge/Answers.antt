@@ -15,7 +15,7 @@ loop-piece-init g c = (
   record {
     text = [];
     took = takes-nothing (g.I.Read.remaining (device_of c.args.input.now));
-    read = c.new-reading.ensures (channel_bytes c.args.asked.now.channels);
+    read = c.new-reading.ensures c.args.asked.now;
     many = zero-le;
   },
 )
@@ -26,7 +26,7 @@ returns-in_err-judged-clause-refused g c =
     let so_far = c.loop-piece.invariant.1 in
     let p = err_from_is_err_and c.from_residual-in_err-judged.result c.from_residual-in_err-judged.ensures.1 in
     rw (p.1, p.2) (λ no. whole-known (λ t. RefusedBy names t c.in_err-judged.field-0.0) _ _ so_far.text so_far.took
-    (c.in_ok-count.ensures.end (search rules)) (c.in_err-judged.ensures.refuses names so_far.text so_far.read))
+    (c.in_ok-count.ensures.end (search rules)) (c.in_err-judged.ensures.refuses c.args.asked.now so_far.text so_far.read))
 
 pub returns-in_err-judged-clause-read : goal.returns-in_err-judged-clause-read
 returns-in_err-judged-clause-read g c =
@@ -36,7 +36,7 @@ returns-in_err-judged-clause-read g c =
     let p = err_from_is_err_and c.from_residual-in_err-judged.result c.from_residual-in_err-judged.ensures.1 in
     let is = p.1 in
     let of_end = p.2 in
-    let never = never-read names so_far.text c.in_err-judged.field-0.0 (c.in_err-judged.ensures.refuses names so_far.text so_far.read) in (
+    let never = never-read names so_far.text c.in_err-judged.field-0.0 (c.in_err-judged.ensures.refuses c.args.asked.now so_far.text so_far.read) in (
       λ e. let wrong : c.in_err-judged.field-0.0 ≡ Read = cc in absurd (never wrong),
       λ failed. absurd cc,
     )

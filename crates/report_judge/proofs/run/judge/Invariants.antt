@@ -1,6 +1,5 @@
 use Rattle.std.proofs.Common.{◌≡◌, false}
 use Rattle.irig_device.specs.Watched.{device_of, has_failed}
-use Rattle.report_judge.specs.Channels.{channel_bytes}
 use Rattle.report_judge.proofs.ReadingLaws.{HasReadFrom}
 use Rattle.report_judge.proofs.run.judge.Given as goal
 
@@ -8,4 +7,4 @@ use Rattle.report_judge.proofs.run.judge.Given as goal
 abbrev pub invariant-loop-piece : goal.invariant-loop-piece
 invariant-loop-piece g l =
     (has_failed l.input ≡ false)
-    × HasReadFrom (channel_bytes l.asked.channels) (g.I.Read.remaining (device_of l.initial.input)) (g.I.Read.remaining (device_of l.input)) l.reading.stage l._piece
+    × HasReadFrom l.asked (g.I.Read.remaining (device_of l.initial.input)) (g.I.Read.remaining (device_of l.input)) l.reading.stage l._piece

@@ -6,6 +6,7 @@ use Rattle.report_judge.proofs.hearing.Hearing.take_seconds.Given as goal
 abbrev pub invariant-loop-second : goal.invariant-loop-second
 invariant-loop-second l =
     TakesOn l.fn.self l.self × (l.self.recording.now_ns ≡ l.fn.self.recording.now_ns) × (l.self.recording.end_us ≡ l.fn.self.recording.end_us)
+    × (l.self.as_json ≡ l.fn.self.as_json)
 
 -- each second takes a tick, and time ends
 abbrev pub decreases-loop-second : goal.decreases-loop-second

@@ -1,7 +1,8 @@
-use Rattle.std.proofs.Common.{◌∙◌, Ok, ap, sym}
+use Rattle.std.proofs.Common.{◌∙◌, Ok, [], ap, sym, subst, length, rules}
 use Rattle.std.proofs.lemmas.Result.{err_from_is_err_and}
 use Rattle.record_vcd.specs.Sections.{wires_of}
 use Rattle.report_judge.specs.Channels.{channel_bytes, places_of}
+use Rattle.report_judge.specs.Hearings.{HasHeard}
 use Rattle.report_judge.proofs.ReadingLaws.{begins-below, refused-channels, refused-head}
 use Rattle.report_judge.proofs.reading.Below.new.Goals as goal
 
@@ -17,6 +18,6 @@ returns-in_err-changes-clause-refuses c =
 
 pub returns-clause-reads : goal.returns-clause-reads
 returns-clause-reads c = λ text h.
-    begins-below (channel_bytes c.args.asked.now.channels) text c.args.head c.as_slice-2.result.now _ h c.in_ok-changes.ensures.ready
+    begins-below c.args.asked.now text c.args.head c.as_slice-2.result.now _ h c.in_ok-changes.ensures.ready
     (ap (λ w. places_of (wires_of w) (channel_bytes c.args.asked.now.channels)) (sym c.wires.ensures) ∙ c.in-Ok.ensures.places ∙ ap Ok (sym c.as_slice-2.ensures.value))
-    c.in_ok-changes.ensures.says
+    c.in_ok-changes.ensures.says (subst (λ n. HasHeard c.args.asked.now n [] c.in_ok-hearing.hearing) {x = c.len.result} {y = length c.as_slice-2.result.now} (search rules) c.in_ok-hearing.ensures)
