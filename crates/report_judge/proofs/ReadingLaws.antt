@@ -1,5 +1,5 @@
 -- What is read of a recording, piece by piece.
-use Rattle.std.proofs.Common.{◌≡◌, ◌≢◌, ◌≤◌, ℕ, Bool, List, [], ◌∷◌, ◌++◌, map, take, drop, length, Option, Some, None, Result, Ok, Err, IsTrue, IsFalse, IsSome, IfSome, is_some, true, false, refl, append_assoc, sym, ap, ◌∙◌, subst, arith, codes}
+use Rattle.std.proofs.Common.{◌≡◌, ◌≢◌, ◌≤◌, ℕ, Bool, List, [], ◌∷◌, ◌++◌, map, take, drop, length, Option, Some, None, Result, Ok, Err, IsTrue, IsFalse, IsSome, IfOk, IfSome, is_some, true, false, refl, append_assoc, sym, ap, ◌∙◌, subst, arith, codes}
 use Rattle.std.specs.Prelude.{if◌then◌else◌, nat_lt, slice_index_or, string_bytes}
 use Rattle.std.specs.Str.{bytes_eq}
 use Rattle.std.proofs.lemmas.Slice.Eq.{bytes_eq-Decides}
@@ -370,6 +370,11 @@ refused-on names text bytes count fault h more =
 pub form-stays : (bytes more : List ℕ) → length bytes ≢ 0 → IsFalse (begins_dump bytes) → IsFalse (begins_dump (bytes ++ more))
 form-stays [] more some h = absurd (some refl)
 form-stays (b ∷ bs) more some h = h
+
+-- of what was answered more is known
+pub if-ok-on : {A B : Type 0} (P Q : A → Type 0) (r : Result A B) → ((x : A) → P x → Q x) → IfOk r P → IfOk r Q
+if-ok-on P Q (Ok x) on h = on x h
+if-ok-on P Q (Err e) on h = tt
 
 -- ---- of a device
 

@@ -1,6 +1,6 @@
 -- What is read of a recording, and why it is refused.
 -- Source: docs/irig.1, judge; the definitions of value change dumps are those of record_vcd.
-use Rattle.std.specs.Prelude.{◌≡◌, ℕ, ◌-◌, ◌^◌, ◌≤◌, ◌==◌, Bool, false, ◌||◌, IsTrue, IsFalse, List, [], ◌∷◌, ◌++◌, length, Option, Some, None, Result, Ok, Err, ⊤}
+use Rattle.std.specs.Prelude.{◌≡◌, ℕ, ◌-◌, ◌^◌, ◌≤◌, ◌==◌, Bool, false, ◌||◌, IsTrue, IsFalse, List, [], ◌∷◌, ◌++◌, length, box_value, Option, Some, None, Result, Ok, Err, ⊤}
 use Rattle.std.specs.Char.{is_ascii_whitespace}
 use Rattle.record_text.specs.Words.{words_of}
 use Rattle.record_vcd.specs.declared.head.Head.{Head as HeadReader}
@@ -117,7 +117,8 @@ abbrev pub HasReadTo : Asked → (text : List ℕ) → Stage → Type 0
 HasReadTo asked text stage.Start = text ≡ []
 HasReadTo asked text (stage.Head reader) =
     IsTrue (begins_dump text) × HasReadHead text reader × IsFalse (is_over reader.section)
-HasReadTo asked text (stage.Below below) = IsTrue (begins_dump text) × HasReadBelow asked text below
+HasReadTo asked text (stage.Below below) =
+    IsTrue (begins_dump text) × HasReadBelow asked text (box_value below)
 
 -- ---- at its end
 

@@ -44,6 +44,7 @@ impl Hearing {
 
     /// So many lines, of which nothing was heard. It fails only if there is no memory: one, three or five
     /// lines have such a timekeeper.
+    #[inline(never)]
     pub(crate) fn new(alloc: Global, lines: usize, asked: &Asked<'_>) -> Result<Hearing, AllocError>
         ensures { IfOk result (HasHeard asked.now lines []) }
     {

@@ -28,8 +28,8 @@ enum Stage {
     Start,
     // In the head of a value change dump.
     Head(Head),
-    // Below it.
-    Below(Below),
+    // Below it. What the lines have heard is large, and moves with a Reading.
+    Below(Box<Below>),
 }
 
 // A value change dump below its head.
@@ -81,7 +81,7 @@ impl Reading {
         match self.stage {
             Stage::Start => Err(JudgeFault::Empty),
             Stage::Head(_) => Err(JudgeFault::Head(HeadFault::Unended)),
-            Stage::Below(below) => below.end(alloc),
+            Stage::Below(below) => Box::into_inner(below).end(alloc),
         }
     }
 }
@@ -129,11 +129,15 @@ fn read_head(
     }
     let mut below = Below::new(alloc, asked, head)?;
     below.read(bytes.split_at(taken.count).1)?;
-    Ok(Stage::Below(below))
+    match Box::new(alloc, below) {
+        Ok(below) => Ok(Stage::Below(below)),
+        Err(_) => Err(JudgeFault::Memory),
+    }
 }
 
 impl Below {
     // What follows a head that is over.
+    #[inline(never)]
     fn new(alloc: Global, asked: &Asked<'_>, head: Head) -> Result<Below, JudgeFault>
         requires { IsTrue (is_over head.section) }
         ensures reads { IfOk result (λ below. (text : List ℕ) → HasReadHead text head

@@ -14,8 +14,8 @@ use irig_device::Watched;
 use std::alloc::Global;
 use std::io::Read;
 
-// How many bytes are read at once at most. Each piece moves the lines as they are heard, some 40 kB.
-const PIECE: usize = 65_536;
+// How many bytes are read at once at most.
+const PIECE: usize = 16_384;
 
 /// Reads a recording to its end, and answers the verdict on the lines that are asked for.
 ///

@@ -1,4 +1,4 @@
-use Rattle.std.proofs.Common.{◌++◌, ◌∙◌, take, ap, subst}
+use Rattle.std.proofs.Common.{◌++◌, ◌∙◌, take, ap, subst, sym}
 use Rattle.std.proofs.lemmas.Result.{err_from_is_err_and}
 use Rattle.report_judge.specs.declared.fault.JudgeFault.TheVariants.{Dump}
 use Rattle.report_judge.specs.Channels.{channel_bytes}
@@ -25,12 +25,13 @@ returns-in_err-read-clause-refuses c =
     (ap (λ l. part ++ l) c.split_at.ensures.back ∙ cut-whole text c.args.bytes.now c.in_ok-taken.taken.count)
     (c.in_err-read.ensures.refuses c.args.asked.now part below))
 
-pub returns-clause-reads : goal.returns-clause-reads
-returns-clause-reads c = λ text h begins.
+pub returns-in-Ok-clause-reads : goal.returns-in-Ok-clause-reads
+returns-in-Ok-clause-reads c = λ text h begins.
     let part = text ++ take c.in_ok-taken.taken.count c.args.bytes.now in
     let below = c.in_ok-below.ensures.reads part (head-leads c.args.head c.read.new.self text (take c.in_ok-taken.taken.count c.args.bytes.now) h c.in_ok-taken.ensures.says) in (
       begins,
-      subst (λ t. HasReadBelow c.args.asked.now t c.read-2.new.self)
+      subst (HasReadBelow c.args.asked.now (text ++ c.args.bytes.now)) (sym c.in-Ok.ensures.ok)
+          (subst (λ t. HasReadBelow c.args.asked.now t c.read-2.new.self)
           (ap (λ l. part ++ l) c.split_at.ensures.back ∙ cut-whole text c.args.bytes.now c.in_ok-taken.taken.count)
-          (c.in_ok-read.ensures.reads c.args.asked.now part below),
+          (c.in_ok-read.ensures.reads c.args.asked.now part below)),
     )

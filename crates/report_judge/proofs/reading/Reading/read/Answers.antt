@@ -1,3 +1,4 @@
+use Rattle.std.specs.Prelude.{box_value}
 use Rattle.std.proofs.Common.{◌++◌, ap, subst, sym}
 use Rattle.std.proofs.lemmas.Result.{err_from_is_err_and}
 use Rattle.report_judge.specs.Channels.{channel_bytes}
@@ -25,7 +26,7 @@ returns-in_err-read-in-Below-clause-refuses c =
     let p = err_from_is_err_and c.from_residual-in_err-read-in-Below.result c.from_residual-in_err-read-in-Below.ensures.1 in
     rw (p.1, p.2) (λ text h.
     let read = subst (HasReadTo c.args.asked.now text) c.in-Below.is h in
-    c.in_err-read-in-Below.ensures.refuses c.args.asked.now text (subst (HasReadBelow c.args.asked.now text) (sym c.in-Below.below-is) read.1))
+    c.in_err-read-in-Below.ensures.refuses c.args.asked.now text (subst (HasReadBelow c.args.asked.now text) (sym c.deref_mut.ensures.value) (subst (λ b. HasReadBelow c.args.asked.now text (box_value b)) (sym c.in-Below.below-is) read.1)))
 
 pub returns-clause-reads : goal.returns-clause-reads
 returns-clause-reads c = λ text h. elim c.match-self.branch [
@@ -39,5 +40,5 @@ returns-clause-reads c = λ text h. elim c.match-self.branch [
   | in-Below+in_ok-read-in-Below w ↦
       let read = subst (HasReadTo c.args.asked.now text) w.in-Below.is h in
       subst (HasReadTo c.args.asked.now (text ++ c.args.bytes.now)) (sym w.stage-is)
-      (goes-on text c.args.bytes.now read.0, w.in_ok-read-in-Below.ensures.reads c.args.asked.now text (subst (HasReadBelow c.args.asked.now text) (sym w.in-Below.below-is) read.1))
+      (goes-on text c.args.bytes.now read.0, w.in_ok-read-in-Below.ensures.reads c.args.asked.now text (subst (HasReadBelow c.args.asked.now text) (sym w.deref_mut.ensures.value) (subst (λ b. HasReadBelow c.args.asked.now text (box_value b)) (sym w.in-Below.below-is) read.1)))
 ]
