@@ -289,7 +289,7 @@ class Release(OnceForAll):
 
     @classmethod
     def setUpClass(cls) -> None:
-        commands = ("dpkg-shlibdeps", "wasm-opt", "aarch64-linux-gnu-gcc", "cmake")
+        commands = ("dpkg-shlibdeps", "wasm-opt", "aarch64-linux-gnu-gcc", "x86_64-w64-mingw32-gcc", "cmake")
         if missing := [command for command in commands if not shutil.which(command)]:
             print(f"skipped: a release: {missing[0]} is missing")
             raise unittest.SkipTest(missing[0])
@@ -316,6 +316,22 @@ class Release(OnceForAll):
         wrapped.write_text(f'#!/bin/sh\nexec qemu-aarch64 -L /usr/aarch64-linux-gnu {program} "$@"\n')
         wrapped.chmod(0o755)
         self.said(ROOT / "tests/cases", "--on", wrapped)
+
+    def test_program_for_windows(self) -> None:
+        """Its system opens no folder, and has no words that are no text."""
+        wine = "/usr/lib/wine/wine64"
+        if not os.path.exists(wine):
+            print("skipped: the program for Windows; Debian's package wine64 is missing")
+            self.skipTest("wine64")
+        wrapped = self.folder / "irig_for_windows"
+        program = self.top / "x86_64-windows/bin/irig.exe"
+        wrapped.write_text(
+            f"#!/bin/sh\nexport WINEDEBUG=-all WINEPREFIX={self.folder / 'wine'}\nexec {wine} {program} \"$@\"\n"
+        )
+        wrapped.chmod(0o755)
+        self.said(wrapped, "--version")  # the first start tells of its own
+        others = ("cases/judge_a_folder", "cases/run_of_a_directory", "cases/words_no_utf_8")
+        self.said(ROOT / "tests/cases", "--on", wrapped, *(f"--but={name}" for name in others))
 
     def test_cmake_here(self) -> None:
         built, examples = self.built("here"), self.top / "doc/c/examples"

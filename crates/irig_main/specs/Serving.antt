@@ -17,7 +17,7 @@ use Rattle.report_flat.specs.Flattening.{RanEither, WroteTheLog}
 use Rattle.report_blame.specs.Blaming.{RanBlame}
 use Rattle.report_judge.specs.declared.fault.JudgeFault.{JudgeFault}
 use Rattle.report_judge.specs.declared.fault.JudgeFault.TheVariants as judging
-use Rattle.report_judge.specs.declared.reading.Judged.{Judged}
+use Rattle.report_judge.specs.declared.hearing.Judged.{Judged}
 use Rattle.report_judge.specs.declared.asked.Asked.{Asked}
 use Rattle.report_judge.specs.Channels.{channel_bytes}
 use Rattle.report_judge.specs.Readings.{JudgedWhole, RefusedBy}
