@@ -61,8 +61,8 @@ reproduce: release
 	there=$$(mktemp -d) && trap 'rm -rf "$$there"' EXIT && git clone -q . "$$there/irig" && \
 		$(MAKE) -C "$$there/irig" release && diff -r out/release "$$there/irig/out/release"
 
-out/windows/irig.exe: $(sources) toolchain/windows toolchain/windows.c toolchain/llvm_module c/irig_heap.c
-	toolchain/windows $@
+out/windows/irig.exe: $(sources) toolchain/for_windows toolchain/windows.c toolchain/llvm_module c/irig_heap.c
+	toolchain/for_windows $@
 
 web/out/irig.html: web/out/c_scenario.wasm $(of_page)
 	web/page.py web/out

@@ -60,6 +60,10 @@ touch web/out/c_scenario.wasm
 PAGE = """#!/bin/bash
 echo a page > web/out/irig.html
 """
+WINDOWS = """#!/bin/bash
+mkdir -p out/windows
+echo a program > out/windows/irig.exe
+"""
 PROGRAM = '#include <stdio.h>\nint main(void) { return puts("irig 2.0.0") < 0; }\n'
 
 
@@ -166,12 +170,13 @@ class Packages(InAFolder):
             else:
                 shutil.copy(ROOT / name, to)
         for name, text in (("build", BUILD), ("c/Makefile", OF_C), ("python/backend.py", BACKEND), ("web/build", WEB),
-                           ("web/page.py", PAGE), ("docs/irig.bash", ""),
+                           ("web/page.py", PAGE), ("toolchain/for_windows", WINDOWS), ("docs/irig.bash", ""),
                            ("docs/irig.1", '.TH IRIG 1 2026-01-01 "irig 2.0.0"\n')):
             write(root / name, text)
         for name in ("docs/C.md", "docs/PAGE.md", "examples/one.jsonl", "c/examples/one.c", "c/boards/board.c",
                      "c/firmware/Makefile", "python/examples/one.py", "sigrok/README.md", "sigrok/irigb/pd.py",
-                     "crates/irig_main/src/main.rt", "toolchain/system.c", "c/irig_heap.c"):
+                     "crates/irig_main/src/main.rt", "toolchain/system.c", "toolchain/windows.c",
+                     "toolchain/llvm_module", "c/irig_heap.c"):
             write_page(root / name)
         write(root / "c/examples/run", "#!/bin/sh\n")
 
