@@ -490,7 +490,7 @@ class Release(Packages):
         ran = self.run_here("packaging/release")
         self.assertEqual((ran.returncode, ran.stderr), (1, f"release: {WHEEL} is not proved\n"))
         self.assertEqual({name: (self.release / name).read_bytes() for name in files_below(self.release)}, before)
-        self.assertEqual({path.name for path in (self.root / "out").iterdir()}, {"THIRD_PARTY", "release"})
+        self.assertEqual({path.name for path in (self.root / "out").iterdir()}, {"THIRD_PARTY", "release", "windows"})
 
 
 def load_tests(_loader: object, tests: unittest.TestSuite, _pattern: object) -> unittest.TestSuite:
