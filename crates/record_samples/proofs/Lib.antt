@@ -1,0 +1,5 @@
+pub mod RowLaws
+pub mod FieldLaws
+pub mod ReadLaws
+pub mod RecordLaws
+pub mod StandardFacts
