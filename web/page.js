@@ -1,6 +1,6 @@
 // ---- the page: its tabs, and how it begins
 
-const TABS = ["run", "frame", "read", "about"];
+const TABS = ["run", "judge", "frame", "read", "about"];
 
 function show_tab(name) {
   for (const each of TABS) {
@@ -26,8 +26,8 @@ for (const name of TABS) {
 }
 show_tab("run");
 
-const modules = { runner: compiled("c_scenario"), codec: compiled("c_reader") };
-const tab = new ScenarioTab(modules.runner);
+const modules = { runner: compiled("c_scenario"), codec: compiled("c_reader"), program: compiled("irig_main") };
+const tab = new ScenarioTab(modules.runner), recording_tab = new RecordingTab(modules.program);
 const ready = Promise.all([
   tab.take_link().then((is_taken) => is_taken || tab.run_example("leap_inserted")),
   Promise.all([modules.codec, modules.runner]).then(([module, runner]) => {

@@ -1,6 +1,6 @@
 #!/usr/bin/env python3
 """Makes the page that runs irig of its parts here, the modules beside it and the pages of docs/:
-`page.py FOLDER`, where FOLDER has c_scenario.wasm and c_reader.wasm, and gets irig.html."""
+`page.py FOLDER`, where FOLDER has the modules as NAME.wasm, and gets irig.html."""
 from __future__ import annotations
 
 import base64
@@ -22,9 +22,11 @@ from irig.faults import FIELDS, MEANINGS  # noqa: E402
 from irig.words import CAUSES, LOCKS  # noqa: E402
 
 SCRIPTS = (PARTS / "list.js", PARTS / "utc.js", WEB / "log.js", PARTS / "timeline.js",
-           WEB / "c.js", WEB / "codec.js", WEB / "frame.js", WEB / "editor.js", WEB / "scenario.js", WEB / "page.js")
+           WEB / "c.js", WEB / "codec.js", WEB / "frame.js", WEB / "editor.js", WEB / "scenario.js", WEB / "recording.js",
+           WEB / "page.js")
 WORKER = PARTS / "utc.js", WEB / "c.js", WEB / "worker.js"
-MODULES = ("c_scenario", "c_reader")
+RECORDER = WEB / "system.js", WEB / "recorder.js"
+MODULES = ("c_scenario", "c_reader", "irig_main")
 READS = {"uint8_t": "getUint8", "int8_t": "getInt8", "uint16_t": "getUint16", "uint32_t": "getUint32",
          "int32_t": "getInt32", "uint64_t": "getBigUint64", "size_t": "getBigUint64"}
 LETTERS = {**dict(zip("smhdy", FIELDS)), "o": "offset", "q": "time quality", "b": "straight binary seconds"}
@@ -166,6 +168,7 @@ def page_of(data: dict[str, object]) -> str:
         "notices": escape(subprocess.check_output([ROOT / "packaging/notices", "texts"], text=True)),
         "data": embedded(data),
         "worker": script_of(WORKER, of_c()),
+        "recorder": script_of(RECORDER, ""),
         "script": script,
     })
 

@@ -16,7 +16,7 @@ sys.path.insert(0, str(WEB.parent / "tools/tests"))
 
 import browser  # noqa: E402
 from loading import ROOT  # noqa: E402
-from case_files import examples  # noqa: E402
+from case_files import Case, cases, examples  # noqa: E402
 from parts.log_lanes import STATES  # noqa: E402
 
 PAGE = WEB / "out/irig.html"
@@ -33,6 +33,13 @@ SIXTEEN = [{"name": f"r{number}", "lock_after": 2, "holdover": 9} for number in 
 
 def plant(*lines: dict, **changed: object) -> str:
     return "".join(f"{json.dumps(line, separators=(',', ':'))}\n" for line in ({**PLANT, **changed}, *lines))
+
+
+def files_of(case: Case) -> dict[str, str]:
+    """What the case of a recording reads, by its name: of a record its samples too."""
+    named = [ROOT / word for word in case.texts() if (ROOT / word).is_file()]
+    found = [path for name in named for path in name.parent.glob(f"{name.stem}.*")]
+    return {str(path.relative_to(ROOT)): base64.b64encode(path.read_bytes()).decode() for path in found}
 
 
 # Its heap gives a place, and its run does nothing but trap.
@@ -171,6 +178,42 @@ class InBrowser(browser.Driven):
         self.assertEqual(self.page.ask(f"{chosen}(part('text'))"), '{"do":"tick","r":"rely"}')
         self.paste("text", plant({"do": "seconds", "n": 5}))
         self.assertEqual((self.text("explanation"), self.page.ask("part('band').hidden")), ("", True))
+
+    # ---- recordings
+
+    def open_recordings(self, *paths: Path) -> str:
+        self.page.ask("show_tab('judge')")
+        root = self.page.call("DOM.getDocument")["root"]["nodeId"]
+        node = self.page.call("DOM.querySelector", nodeId=root, selector="#recording")["nodeId"]
+        self.page.ask("(() => { part('recording-state').textContent = ''; })()")
+        self.page.call("DOM.setFileInputFiles", nodeId=node, files=[str(path) for path in paths])
+        self.wait("part('recording-state').textContent && part('recording-stop').disabled")
+        return self.text("recording-state")
+
+    def test_a_recording(self) -> None:
+        state = self.open_recordings(ROOT / "examples/one_clock_ahead.vcd")
+        self.assertRegex(state, r"^judged, in \d+\.\d\d s$")
+        self.assertEqual(self.text("judged"), (ROOT / "cases/judge_one_clock_ahead/stdout").read_text())
+        self.paste("channels", "G0,G9,G2")
+        self.push("recording-judge")
+        self.wait("part('recording-state').textContent.startsWith('refused')")
+        self.assertIn("it has no wire G9; it has G0, G1, G2", self.text("judged"))
+
+    def test_samples_alone(self) -> None:
+        self.assertIn("open the .cfg", self.open_recordings(ROOT / "examples/late_stamp.dat"))
+
+    def test_each_case_of_a_recording(self) -> None:
+        """As the program says it."""
+        judged = [(case, files) for case in cases() if case.words[:1] == [b"judge"] and (files := files_of(case))]
+        self.assertGreater(len(judged), 20)
+        for case, files in judged:
+            with self.subTest(case.name):
+                coded = f"Object.entries({json.dumps(files)}).map(([name, it]) => [name, new Blob([bytes_in(it)])])"
+                words = json.dumps(["irig", *case.texts()])
+                said = self.page.ask(f"recording_tab.ended({words}, new Map({coded}))")
+                assert isinstance(said, dict)
+                self.assertEqual((said["status"], said["output"]), (case.status, case.stdout.decode()))
+                self.assertTrue(case.tells(said["told"].encode()), said["told"])
 
     def test_the_first_example_is_run_on_opening(self) -> None:
         self.open()
