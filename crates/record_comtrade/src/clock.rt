@@ -52,10 +52,10 @@ pub struct RowFault {
 pub enum RowField {
     /// The line is too long: it has more than 67,108,864 bytes.
     Line,
-    /// The first field, the number of the sample, is neither empty nor digits of a number below 2^32; or it
-    /// is empty, and there are 2^32 samples or more.
+    /// The first field, the number of the sample, is neither empty nor digits of a number below
+    /// 2^32; or it is empty, and there are 2^32 samples or more.
     Number,
-    /// The second field, the time of the sample, is neither empty nor digits of a number below 2^32 - 1.
+    /// The second field, the sample's time, is neither empty nor digits of a number below 2^32 - 1.
     Time,
     /// There are fewer fields than the two and one for each channel.
     Few,
@@ -63,7 +63,7 @@ pub enum RowField {
     Level(usize),
 }
 
-/// When a sample was, in nanoseconds after the first; or that it has no time, or one before the first.
+/// When a sample was, in nanoseconds after the first; or that it has no time, or an earlier one.
 pub fn time_of(rates: &[Rate], clock: Clock, first: Mark, here: Mark) -> Result<u128, Reason>
     requires few { length rates.now ≤ 999 }
     ensures { result ≡ time_of rates.now clock first here }

@@ -80,8 +80,8 @@ impl Now {
         }
     }
 
-    /// What these levels are at that time in nanoseconds, which may have a fault: a change, or the refusal
-    /// of the last sample. The first line has the bit of 1.
+    /// What these levels are at that time in nanoseconds, which may have a fault: a change, or the
+    /// refusal of the last sample. The first line has the bit of 1.
     pub fn said(self, high: u8, time_ns: Result<u128, Reason>) -> Step
         ensures { result ≡ said_by_time self high time_ns }
     {
@@ -99,7 +99,7 @@ impl Now {
         }
     }
 
-    /// When the recording ends, in nanoseconds, if it goes on to that time; or the refusal of the last sample.
+    /// When the recording ends, in nanoseconds, if it goes on to that time; or why it does not.
     pub fn ended(self, time_ns: Result<u128, Reason>) -> Result<u64, SampleFault>
         ensures { MatchResult result
             (λ time. ended_by self time_ns ≡ Ends time)

@@ -102,7 +102,7 @@ levels_of chosen digital =
 abbrev pub levels_if : (count fields : ℕ) → (chosen : List ℕ) → (digital : List ℕ) → Result ℕ RowField
 levels_if count fields chosen digital = if nat_lt count fields then Err Few else levels_of chosen digital
 
--- a sample as so many samples up to it make it
+-- the sample on a line, where there are so many samples up to it
 abbrev pub row_of : Plan → (fields : ℕ) → (count : ℕ) → (line : List ℕ) → Result Row RowField
 row_of plan fields count line =
     with_ok (needed (number_by count (field 0 line)) Number) (λ number.
@@ -137,13 +137,12 @@ step_of plan now high row = step_by (stays now.count high row.high) plan (counte
 -- what is said of a line, and then from there on, after the samples so far and their last levels
 abbrev pub said_of : Plan → Now → (high : ℕ) → (number : ℕ) → Result (Option Row) RowField
     → (others : Now → (high : ℕ) → List Said) → List Said
-said_of plan now high number (Err field) others =
-    Refused (row_fault now number field) ∷ []
+said_of plan now high number (Err field) others = Refused (row_fault now number field) ∷ []
 said_of plan now high number (Ok None) others = others now high
 said_of plan now high number (Ok (Some row)) others =
     said_by (step_of plan now high row) (λ next. others next row.high)
 
--- what lines say, each sample of so many fields or more
+-- what lines say, of which each sample has so many fields or more
 abbrev pub rows_say : Plan → (fields : ℕ) → Now → (high : ℕ) → (lines : List Line) → List Said
 rows_say plan fields now high [] = ended plan now ∷ []
 rows_say plan fields now high (line ∷ lines) =

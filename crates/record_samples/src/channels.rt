@@ -8,8 +8,8 @@ use crate::row::levels_of;
 use record_comtrade::RowField;
 use std::alloc::{AllocError, Global};
 
-/// The channels that are chosen, by their places among the digital ones, and what was read of the last
-/// sample: a further one of the same text has the same levels.
+/// The channels that are chosen, by their places among the digital ones, and what was read of the
+/// last sample: a further one of the same text has the same levels.
 #[derive(Drop)]
 pub(crate) struct Channels {
     pub(crate) chosen: Vec<usize>,
@@ -38,8 +38,8 @@ impl Channels {
         })
     }
 
-    /// The levels in the digital fields of a line, before which there are so many others, unless it has fewer
-    /// fields than it needs.
+    /// The levels in the digital fields of a line, before which there are so many others, unless it
+    /// has fewer fields than it needs.
     pub(crate) fn levels_in(&self, before: usize, text: &[u8], needs: usize) -> Result<u8, RowField>
         requires { before ≤ 2000000 }
         ensures { result ≡ levels_if (before + fields_in text.now) needs self.now.chosen.items text.now }

@@ -4,8 +4,8 @@ ghost use Rattle.std.specs.Prelude.{◌≡◌, ◌+◌, ◌≤◌, [], IfNone, I
 ghost use Rattle.record_text.specs.Fields.{after_comma, comma_in};
 ghost use Rattle.record_samples.specs.Rows.{end_in, fields_in, from_field};
 
-/// How many fields of a line stand before the one at a place, and the line from there on; all but one, if
-/// there are no more, and nothing.
+/// How many fields of a line stand before the one at a place, and the line from there on; all but
+/// one, if there are no more, and nothing.
 pub(crate) fn cut(line: &[u8], place: usize) -> (usize, &[u8])
     requires { place ≤ 2000000 }
     ensures text { result.1.now ≡ from_field place line.now }

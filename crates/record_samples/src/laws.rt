@@ -12,18 +12,19 @@ ghost use Rattle.record_samples.specs.Records.{AreCalls, Call, IsSamplesOf, reco
 
 use crate::samples::Samples;
 
-/// However the bytes of samples are cut into calls, what these say and what is still to come is what was to
-/// come before them. So what was said is a front of what any samples say that go on after them: nothing is
-/// read ahead.
+/// However the bytes of samples are cut into calls, what these say and what is still to come is
+/// what was to come before them. So what was said is a front of what any samples say that go on
+/// after them: nothing is read ahead.
 pub fn pieces_do_not_matter()
     ensures { (reader : Samples) (calls : List Call) (more : List ℕ) → AreCalls reader calls
         → to_come reader (taken_by calls ++ more)
         ≡ said_in calls ++ to_come (samples_after reader calls) more }
 {}
 
-/// What is said of the digital channels that were chosen is what the record says of them by its definition:
-/// `record_of` of all bytes of the configuration, of all the bytes of samples that the calls took, and of
-/// whatever follows. At the end of the samples that is what [`Samples::end`] says.
+/// What is said of the digital channels that were chosen is what the record says of them by its
+/// definition: `record_of` of all bytes of the configuration, of all the bytes of samples that the
+/// calls took, and of whatever follows. At the end of the samples that is what [`Samples::end`]
+/// says.
 pub fn changes_are_those_of_the_file()
     ensures { (first : ConfigText) (pieces : List Piece) (config : Config) (chosen : List ℕ)
         (reader : Samples) (calls : List Call) (more : List ℕ)

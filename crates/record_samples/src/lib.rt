@@ -1,5 +1,5 @@
-//! The samples of a disturbance record, COMTRADE of 1991, 1999 and 2013, in pieces: whether they are numbers
-//! or rows of a text, [`Samples`] reads them.
+//! The samples of a disturbance record, COMTRADE of 1991, 1999 and 2013, in pieces: whether they are
+//! numbers or rows of a text, [`Samples`] reads them.
 #![tactic(auto)]
 
 mod channels;

@@ -43,7 +43,8 @@ fn at_most(most: u32, number: Option<u64>) -> Option<u32>
     }
 }
 
-/// The levels of the channels at these places in the digital fields of a row. The first has the bit of 1.
+/// The levels of the channels at these places in the digital fields of a row. The first has the bit
+/// of 1.
 pub(crate) fn levels_of(chosen: &[usize], digital: &[u8]) -> Result<u8, RowField>
     ensures levels { result ≡ levels_of chosen.now digital.now }
 {

@@ -12,7 +12,8 @@ use record_comtrade::{Config, DataFault, RowField, SampleFault, Taken};
 use record_levels::Levels;
 use std::alloc::{AllocError, Global};
 
-/// A text as far as it was read: the line that is open, with its number from 1, and the samples before it.
+/// A text as far as it was read: the line that is open, with its number from 1, and the samples
+/// before it.
 #[derive(Drop)]
 pub(crate) struct Rows {
     pub(crate) begun: Vec<u8>,

@@ -13,8 +13,8 @@ use std::alloc::{AllocError, Global};
 /// What is said at the end of a recording.
 #[derive(Clone, Copy)]
 pub struct End {
-    /// The levels at the last sample, if it stands on a line of a text without an end, and if it is the first
-    /// one or they are others than before.
+    /// The levels at the last sample, if it stands on a line of a text without an end, and if it is
+    /// the first one or they are others than before.
     pub levels: Option<Levels>,
     /// The time of the last sample, at which the recording ends, in nanoseconds after the first.
     pub time_ns: u64,
@@ -34,8 +34,8 @@ enum Kind {
 }
 
 impl Samples {
-    /// The samples of a configuration, of which up to five digital channels are chosen by their places
-    /// among them, from 0. The levels of the first chosen are the bit of 1.
+    /// The samples of a configuration, of which up to five digital channels are chosen by their
+    /// places among them, from 0. The levels of the first chosen are the bit of 1.
     pub fn new(alloc: Global, config: &Config, chosen: &[usize]) -> Result<Samples, AllocError>
         requires few { length chosen.now ≤ 5 }
         requires places { All (λ place. place < config.now.counts.digitals) chosen.now }
@@ -49,8 +49,8 @@ impl Samples {
         Ok(Samples { kind })
     }
 
-    /// Reads on to a sample with other levels, or to the end of these bytes. What was refused is refused
-    /// again at each call. After a failure of memory nothing is to be read.
+    /// Reads on to a sample with other levels, or to the end of these bytes. What was refused is
+    /// refused again at each call. After a failure of memory nothing is to be read.
     pub fn read(&mut self, bytes: &[u8]) -> Result<Taken, DataFault>
         ensures within { IfOk result (λ taken. taken.count ≤ length bytes.now) }
         ensures some { IfOk result (λ taken. IfSome taken.levels (λ levels. 0 < taken.count)) }
@@ -66,8 +66,8 @@ impl Samples {
         }
     }
 
-    /// The samples have ended: the levels at the last one, if they were not said before, and its time. A
-    /// text may end without an end of its last line.
+    /// The samples have ended: the levels at the last one, if they were not said yet, and its time.
+    /// So it is where the last line of a text has no end.
     pub fn end(self) -> Result<End, DataFault>
         ensures { IsEnd result (to_come self []) }
     {
