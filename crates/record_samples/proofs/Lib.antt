@@ -3,3 +3,4 @@ pub mod FieldLaws
 pub mod ReadLaws
 pub mod RecordLaws
 pub mod StandardFacts
+pub mod OrderLaws

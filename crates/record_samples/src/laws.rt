@@ -4,11 +4,12 @@ ghost use Rattle.std.specs.Prelude.{◌≡◌, ℕ, List, [], ◌++◌, Ok};
 ghost use Rattle.record_comtrade.specs.declared.reading.ConfigText.{ConfigText};
 ghost use Rattle.record_comtrade.specs.declared.parts.Config.{Config};
 ghost use Rattle.record_comtrade.specs.Texts.{config_lines, lines_to_come};
-ghost use Rattle.record_comtrade.specs.Configs.{config_of};
+ghost use Rattle.record_comtrade.specs.Configs.{ConfigValue, config_of};
 ghost use Rattle.record_comtrade.specs.Reads.{value_of};
 ghost use Rattle.record_comtrade.specs.Records.{ArePieces, Piece, bytes_of, text_after};
 ghost use Rattle.record_samples.specs.Readers.{to_come};
-ghost use Rattle.record_samples.specs.Records.{AreCalls, Call, IsSamplesOf, record_of, said_in, samples_after, taken_by};
+ghost use Rattle.record_samples.specs.Order.{AreLater};
+ghost use Rattle.record_samples.specs.Records.{AreCalls, Call, IsSamplesOf, record_of, said_in, samples_after, samples_say, taken_by};
 
 use crate::samples::Samples;
 
@@ -34,4 +35,10 @@ pub fn changes_are_those_of_the_file()
         → IsSamplesOf config chosen reader → AreCalls reader calls
         → record_of chosen (bytes_of pieces) (taken_by calls ++ more)
         ≡ Ok (said_in calls ++ to_come (samples_after reader calls) more) }
+{}
+
+/// Levels are said in the order of their times, whatever the samples are.
+pub fn levels_are_in_order()
+    ensures { (config : ConfigValue) (chosen samples : List ℕ)
+        → AreLater 0 (samples_say chosen samples config) }
 {}

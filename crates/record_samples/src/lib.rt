@@ -10,5 +10,5 @@ mod row;
 mod rows;
 mod samples;
 
-pub use laws::{changes_are_those_of_the_file, pieces_do_not_matter};
+pub use laws::{changes_are_those_of_the_file, levels_are_in_order, pieces_do_not_matter};
 pub use samples::{End, Samples};
