@@ -3,18 +3,20 @@
 ghost use Rattle.std.specs.Prelude.{◌≡◌, ◌≢◌, ◌↔◌, ◌≤◌, IfOk, IfSome, Ok, Some, length, unsigned_abs};
 ghost use Rattle.text_frame.specs.Frame.{IsFrameOptions};
 ghost use Rattle.cli_words.specs.Requests.{IsJudging, IsRequest};
+ghost use Rattle.record_stamp.specs.Codes.{IsZoneOf};
 
 use crate::help::{
     ABOUT, AFTER, BLAME_AFTER, EXPLAIN_AFTER, FLATTEN_AFTER, FRAME_AFTER, JUDGE_AFTER, READ_AFTER,
     RUN_AFTER, USAGE,
 };
 use crate::request::{Judging, NoRequest, Request, Source, Wanted};
-use crate::tip::fault_with_tip;
+use crate::tip::{fault_with_tip, zone_fault};
 use clap::builder::ValueParser;
 use clap::error::ErrorKind;
 use clap::{Arg, ArgAction, ArgMatches, Command, Error};
 use irig_control::Parity;
 use irig_time::{Leap, Rules, SbsUse, Sense};
+use record_stamp::zone_of;
 use scenario_json::{
     LEAP_WORDS, PARITY_WORDS, SBS_USE_WORDS, SENSE_WORDS, leap_named, parity_of, sbs_use_of,
     sense_of,
@@ -46,14 +48,21 @@ fn request_of<'a>(alloc: Global, matches: &ArgMatches<'a>) -> Result<Request<'a>
     ensures not_plain { result ≢ Ok Request.Plain }
     ensures in_range { IfOk result IsRequest }
 {
-    let request = match matches.subcommand() {
-        Some((name, asked)) => request_by(name, asked),
-        None => None,
+    let Some((name, asked)) = matches.subcommand() else {
+        // `clap` lets nothing through that has no command.
+        return Err(NoRequest::Fault(String::new(alloc)));
     };
-    match request {
+    match request_by(name, asked) {
         Some(request) => Ok(request),
-        // `clap` lets no other command through.
-        None => Err(NoRequest::Fault(String::new(alloc))),
+        None => Err(no_zone(alloc, asked)),
+    }
+}
+
+// What is said of a zone that is none; `clap` reads all else.
+fn no_zone(alloc: Global, matches: &ArgMatches<'_>) -> NoRequest {
+    match zone_fault(alloc, value(matches, "zone")) {
+        Ok(text) => NoRequest::Fault(text),
+        Err(_) => NoRequest::Memory,
     }
 }
 
@@ -121,8 +130,22 @@ fn judging_of<'a>(matches: &ArgMatches<'a>) -> Option<Judging<'a>>
         channels: matches.get_str("channels"),
         glitch_us: glitch(matches),
         rules: rules_of(matches)?,
+        zone: zone_in(matches)?,
         as_json: matches.get_flag("json"),
     })
+}
+
+// The zone that is said, if one is; nothing where what is said is no zone.
+fn zone_in(matches: &ArgMatches<'_>) -> Option<Option<i16>>
+    ensures { IfSome result IsZoneOf }
+{
+    match matches.get_str("zone") {
+        Some(text) => match zone_of(text.as_bytes()) {
+            Some(minutes) => Some(Some(minutes)),
+            None => None,
+        },
+        None => Some(None),
+    }
 }
 
 fn frame_of<'a>(matches: &ArgMatches<'a>) -> Option<Request<'a>>
@@ -318,7 +341,14 @@ fn judge_command<'a>(alloc: Global) -> Result<Command<'a>, AllocError> {
         .arg(parity_option(alloc))?
         .arg(sense_option(alloc))?
         .arg(sbs_option(alloc))?
+        .arg(zone_option(alloc))?
         .arg(json_option(alloc))
+}
+
+fn zone_option<'a>(alloc: Global) -> Arg<'a> {
+    Arg::new(alloc, "zone").long("zone").value_name("ZONE").help(
+        "By how much the stamp of a record is ahead of UTC, as --zone=1 or --zone=-5h30, where it names no zone",
+    )
 }
 
 fn json_option<'a>(alloc: Global) -> Arg<'a> {
@@ -330,7 +360,9 @@ fn json_option<'a>(alloc: Global) -> Arg<'a> {
 
 fn recording_argument<'a>(alloc: Global) -> Arg<'a> {
     Arg::new(alloc, "FILE")
-        .help("The recording: a value change dump (.vcd); - for standard input")
+        .help(
+            "The recording: a value change dump (.vcd), - for one on standard input, or the .cfg of a record",
+        )
         .required(true)
 }
 

@@ -105,6 +105,10 @@ how far they are apart, when 0.000 s of the recording was in UTC, and what is on
 That a line differs is no proof that it is wrong: nobody knows more of a recording than what most lines told. If most
 lines never agree, the first line says undecided. A frame that has a time quality of 8 or more has no vote.
 
+If FILE ends with .cfg, it is the configuration of a disturbance record (COMTRADE), whose samples are in the .dat of
+the same name beside it. Its lines are digital channels. The verdict then begins with how far the record's stamp is
+off, the time of its first sample, and with what would explain it: a zone, or an exchanged day and month.
+
 Example:
   $ irig judge examples/one_clock_ahead.vcd | head -n 1
   G1 differs: 18 s ahead in 3 seconds, 2026-11-24T09:30:04Z at 5.050 s to 2026-11-24T09:30:06Z at 7.050 s";

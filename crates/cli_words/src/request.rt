@@ -40,6 +40,9 @@ pub struct Judging<'a> {
     pub glitch_us: u16,
     /// How frames are read.
     pub rules: Rules,
+    /// By how many minutes the stamp of a record is ahead of UTC, below a day; nothing for what it
+    /// says.
+    pub zone: Option<i16>,
     /// Whether the verdict is an object of JSON, and else lines for a person.
     pub as_json: bool,
 }
@@ -56,7 +59,7 @@ pub enum Request<'a> {
     },
     /// A recording of lines is judged.
     Judge {
-        /// How; its glitches are in their range.
+        /// How; its glitches and its zone are in their range.
         judging: Judging<'a>,
         source: Source<'a>,
     },

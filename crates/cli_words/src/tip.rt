@@ -28,9 +28,9 @@ fn bad_value(alloc: Global, error: &Error) -> Result<String, AllocError> {
 
 // Of what `clap` says the first line alone, since its own tip is of no use if all is given.
 fn unknown_argument(alloc: Global, error: &Error, words: &[&str]) -> Result<String, AllocError> {
-    if let Some(number) = negative_local(words) {
+    if let Some((option, number)) = negative(words) {
         return format!(in alloc;
-            "error: a number below 0 stands behind '=': --local={number}\n\nFor more information, try '--help'."
+            "error: a number below 0 stands behind '=': {option}={number}\n\nFor more information, try '--help'."
         );
     }
     let text = format!(in alloc; "{error}")?;
@@ -68,7 +68,7 @@ fn tip_for_option(words: &[&str]) -> &'static str {
         Some(&"read") => "\n\n  tip: the options of read are --parity, --sense and --sbs",
         Some(&"blame") => "\n\n  tip: the option of blame is --recorded",
         Some(&"judge") => {
-            "\n\n  tip: the options of judge are --channels, --glitch, --parity, --sense and --sbs"
+            "\n\n  tip: the options of judge are --channels, --glitch, --parity, --sense, --sbs, --zone and --json"
         }
         Some(&"flatten" | &"explain") => "\n\n  tip: this command has no options",
         _ => {
@@ -96,15 +96,22 @@ fn is_path(word: &str) -> bool {
     false
 }
 
-// The number below 0 that stands behind `--local` as a word of its own.
-fn negative_local<'a>(words: &[&'a str]) -> Option<&'a str> {
+// An option, and the number below 0 that stands behind it as a word of its own.
+fn negative<'a>(words: &[&'a str]) -> Option<(&'a str, &'a str)> {
     for pair in words.windows(2) {
         if let [option, number] = pair
-            && *option == "--local"
+            && (*option == "--local" || *option == "--zone")
             && number.starts_with('-')
         {
-            return Some(number);
+            return Some((option, number));
         }
     }
     None
+}
+
+/// The text of a fault: a zone that is none.
+pub(crate) fn zone_fault(alloc: Global, zone: &str) -> Result<String, AllocError> {
+    format!(in alloc;
+        "error: invalid value '{zone}' for '--zone <ZONE>'\n\n  tip: a zone is hours ahead of UTC, and maybe minutes: --zone=1, --zone=-5h30\n\nFor more information, try '--help'."
+    )
 }

@@ -1,2 +1,3 @@
 pub mod Status
+pub mod Paths
 pub mod Serving

@@ -21,6 +21,7 @@ use Rattle.report_judge.specs.declared.hearing.Judged.{Judged}
 use Rattle.report_judge.specs.declared.asked.Asked.{Asked}
 use Rattle.report_judge.specs.Channels.{channel_bytes}
 use Rattle.report_judge.specs.Readings.{JudgedWhole, RefusedBy}
+use Rattle.report_judge.specs.Records.{JudgedRecord, RecordRefused}
 use Rattle.cli_words.specs.declared.request.Judging.{Judging}
 use Rattle.cli_words.specs.declared.request.Request.{Request}
 use Rattle.cli_words.specs.declared.request.Request.TheVariants.{Plain, Play, Judge, Frame, Read, Explain}
@@ -32,6 +33,9 @@ use Rattle.cli_words.specs.declared.request.NoRequest.{NoRequest}
 use Rattle.cli_words.specs.declared.request.NoRequest.TheVariants as none
 use Rattle.irig_main.specs.declared.fault.Fault.{Fault}
 use Rattle.irig_main.specs.declared.fault.Fault.TheVariants as fault
+use Rattle.irig_main.specs.declared.path.Ending.{Ending}
+use Rattle.irig_main.specs.declared.path.Ending.TheVariants.{Configuration, Samples, Other}
+use Rattle.irig_main.specs.Paths.{ending_of}
 use Rattle.irig_main.specs.Status.{ended, fault_of_judging, result_of, status_of_answer}
 
 -- what the program answers
@@ -113,6 +117,7 @@ asked_of asked = record {
   channels = asked.channels;
   glitch_us = asked.glitch_us;
   rules = asked.rules;
+  zone = asked.zone;
   as_json = asked.as_json;
 }
 
@@ -142,13 +147,52 @@ JudgesFile remaining asked answer old new =
     ⊎ (((error : Error) × Refuses (fault.Open error) answer old new)
     ⊎ Refuses fault.Memory answer old new)
 
+-- the record of this configuration and these samples was judged to the end of both, or refused for
+-- what it says
+abbrev pub JudgedPair : Asked → Result Judged JudgeFault → (text left samples rest : Bytes) → Type 0
+JudgedPair asked (Ok judged) text left samples rest =
+    IfSome text (λ t. IfSome samples (λ s. JudgedRecord asked t s judged)) × IfSome text (λ t. IsAtEnd left)
+    × IfSome samples (λ s. IsAtEnd rest)
+JudgedPair asked (Err f) text left samples rest =
+    f ≢ judging.Read → f ≢ judging.ReadSamples
+    → RecordRefused (channel_bytes asked.channels) text samples f
+
+-- a record was judged so
+pub record JudgesPair (asked : Judging) (answer : Answer) (text samples old new : Bytes) : Type 0 where
+  pub left : Bytes
+  pub rest : Bytes
+  pub result : Result Judged JudgeFault
+  pub judged : JudgedPair (asked_of asked) result text left samples rest
+  pub shown : ShowsJudging result answer old new
+
+-- so of the samples that a file gives; or it can't be opened, or there is no memory for it
+abbrev pub JudgesBeside : {F : Type 0} → (F → Bytes) → Judging → Answer → (text : Bytes) → Bytes → Bytes → Type 0
+JudgesBeside remaining asked answer text old new =
+    ((samples : Bytes) × AreOfFile remaining samples × JudgesPair asked answer text samples old new)
+    ⊎ (((error : Error) × Refuses (fault.OpenSamples error) answer old new)
+    ⊎ Refuses fault.Memory answer old new)
+
+-- so of the configuration that a file gives, too
+abbrev pub JudgesFiles : {F : Type 0} → (F → Bytes) → Judging → Answer → Bytes → Bytes → Type 0
+JudgesFiles remaining asked answer old new =
+    ((text : Bytes) × AreOfFile remaining text × JudgesBeside remaining asked answer text old new)
+    ⊎ (((error : Error) × Refuses (fault.Open error) answer old new)
+    ⊎ Refuses fault.Memory answer old new)
+
+-- a configuration is judged with the samples beside it, samples are not without it, and all else is
+-- a recording
+abbrev pub JudgesPath : {F : Type 0} → (F → Bytes) → Ending → Judging → Answer → Bytes → Bytes → Type 0
+JudgesPath remaining Configuration asked answer old new = JudgesFiles remaining asked answer old new
+JudgesPath remaining Samples asked answer old new = Refuses fault.Samples answer old new
+JudgesPath remaining Other asked answer old new = JudgesFile remaining asked answer old new
+
 -- so of the recording on the input or in a file
 abbrev pub Judges : {F : Type 0} → (F → Bytes) → Judging → Source → Answer → Bytes → Bytes → Bytes
     → Bytes → Type 0
 Judges remaining asked Input answer input left old new =
     JudgesRecording asked answer input left old new
 Judges remaining asked (File path) answer input left old new =
-    JudgesFile remaining asked answer old new
+    JudgesPath remaining (ending_of path.now) asked answer old new
 
 -- the frame of the second that the time names, with the options, if it names one
 abbrev pub ShowsFrame : List ℕ → FrameOptions → Answer → Bytes → Bytes → Type 0

@@ -8,7 +8,7 @@ use Rattle.report_judge.specs.declared.fault.JudgeFault.TheVariants as judging
 use Rattle.text_frame.specs.declared.reading.ReadingFault.{ReadingFault}
 use Rattle.text_frame.specs.declared.reading.ReadingFault.TheVariants as reading
 use Rattle.irig_main.specs.declared.fault.Fault.{Fault}
-use Rattle.irig_main.specs.declared.fault.Fault.TheVariants.{CommandLine, NotText, BadTime, BadFrameText, Refused, Recording, Undecided, Open, Read, Write, Memory}
+use Rattle.irig_main.specs.declared.fault.Fault.TheVariants.{CommandLine, NotText, BadTime, BadFrameText, Refused, Recording, Samples, Undecided, Open, OpenSamples, Read, ReadSamples, Write, Memory}
 
 -- a fault of the words is 2, a refused scenario or recording 3, a fault of the input 4, of the output 5,
 -- of the memory 6; that a recording is undecided is 7
@@ -19,9 +19,12 @@ status_of BadTime = 2
 status_of BadFrameText = 2
 status_of Refused = 3
 status_of (Recording fault) = 3
+status_of Samples = 2
 status_of Undecided = 7
 status_of (Open error) = 4
+status_of (OpenSamples error) = 4
 status_of Read = 4
+status_of ReadSamples = 4
 status_of Write = 5
 status_of Memory = 6
 
@@ -44,8 +47,12 @@ fault_of_judging judging.Form = Recording judging.Form
 fault_of_judging (judging.Head fault) = Recording (judging.Head fault)
 fault_of_judging (judging.Channels fault names) = Recording (judging.Channels fault names)
 fault_of_judging (judging.Dump fault) = Recording (judging.Dump fault)
+fault_of_judging (judging.Config fault) = Recording (judging.Config fault)
+fault_of_judging (judging.Digitals fault names) = Recording (judging.Digitals fault names)
+fault_of_judging (judging.Sample fault) = Recording (judging.Sample fault)
 fault_of_judging judging.Endless = Recording judging.Endless
 fault_of_judging judging.Read = Read
+fault_of_judging judging.ReadSamples = ReadSamples
 fault_of_judging judging.Memory = Memory
 
 -- how the run of a scenario ended, without its outcome

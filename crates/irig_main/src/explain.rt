@@ -1,6 +1,7 @@
 //! What the program says on the standard error beside the line of a fault.
 
 use crate::fault::Fault;
+use crate::path::path_beside;
 use cli_words::{Judging, Request, Source};
 use irig_scenario::WhyRefused;
 use irig_scene::{Refusal, RefusedLine, SceneFault};
@@ -89,8 +90,14 @@ fn help_text(
         (Fault::Recording(why), Some(Request::Judge { judging, source })) => {
             recording_text(alloc, why, judging, source)
         }
+        (Fault::Samples, Some(request)) => samples_text(alloc, request),
         (Fault::Open(error), Some(request)) => open_text(alloc, error, request),
-        (Fault::Read, request) => read_text(alloc, request),
+        (Fault::OpenSamples(error), Some(request)) => no_samples_text(alloc, error, request),
+        (Fault::Read, request) => read_text(alloc, source_of_any(request)),
+        (Fault::ReadSamples, Some(request)) => {
+            let path = path_beside(alloc, name_of(source_of(request)), "dat")?;
+            read_text(alloc, Source::File(path.as_str()))
+        }
         (Fault::Write, _) => format!(in alloc;
             "standard output took no more: is the disk full, or has its reader ended?"
         ),
@@ -115,11 +122,24 @@ fn open_text(alloc: Global, error: &Error, request: Request<'_>) -> Result<Strin
     format!(in alloc; "{name}: {error}")
 }
 
-fn read_text(alloc: Global, request: Option<Request<'_>>) -> Result<String, AllocError> {
-    let source = match request {
-        Some(request) => source_of(request),
-        None => Source::Input,
-    };
+fn samples_text(alloc: Global, request: Request<'_>) -> Result<String, AllocError> {
+    let name = name_of(source_of(request));
+    let path = path_beside(alloc, name, "cfg")?;
+    format!(in alloc;
+        "{name}: these are the samples of a record, which its configuration names: irig judge {path}"
+    )
+}
+
+fn no_samples_text(
+    alloc: Global,
+    error: &Error,
+    request: Request<'_>,
+) -> Result<String, AllocError> {
+    let path = path_beside(alloc, name_of(source_of(request)), "dat")?;
+    format!(in alloc; "{path}: {error}; a record has its samples beside its configuration")
+}
+
+fn read_text(alloc: Global, source: Source<'_>) -> Result<String, AllocError> {
     match source {
         Source::File(file) => format!(in alloc;
             "{file}: it was opened, and could not be read to its end; is it a folder?"
@@ -127,6 +147,13 @@ fn read_text(alloc: Global, request: Option<Request<'_>>) -> Result<String, Allo
         Source::Input => format!(in alloc;
             "standard input could not be read to its end; is it a folder?"
         ),
+    }
+}
+
+fn source_of_any<'a>(request: Option<Request<'a>>) -> Source<'a> {
+    match request {
+        Some(request) => source_of(request),
+        None => Source::Input,
     }
 }
 

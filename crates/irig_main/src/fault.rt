@@ -32,12 +32,18 @@ pub enum Fault {
     Refused,
     /// A recording that can't be judged, and why.
     Recording(JudgeFault),
+    /// FILE has the samples of a disturbance record, which is named by its configuration.
+    Samples,
     /// A recording of which no second is decided; the verdict says so.
     Undecided,
     /// FILE can't be opened.
     Open(Error),
+    /// The samples beside FILE can't be opened.
+    OpenSamples(Error),
     /// FILE or the input can't be read.
     Read,
+    /// The samples beside FILE can't be read.
+    ReadSamples,
     /// The output took no more.
     Write,
     /// The system gave no memory.
@@ -50,12 +56,16 @@ impl Fault {
         ensures { result ≡ status_of self.now }
     {
         match self {
-            Fault::CommandLine(_) | Fault::NotText | Fault::BadTime | Fault::BadFrameText => {
-                BAD_WORDS
-            }
+            Fault::CommandLine(_)
+            | Fault::NotText
+            | Fault::BadTime
+            | Fault::BadFrameText
+            | Fault::Samples => BAD_WORDS,
             Fault::Refused | Fault::Recording(_) => REFUSED,
             Fault::Undecided => UNDECIDED,
-            Fault::Open(_) | Fault::Read => READ_FAILED,
+            Fault::Open(_) | Fault::OpenSamples(_) | Fault::Read | Fault::ReadSamples => {
+                READ_FAILED
+            }
             Fault::Write => WRITE_FAILED,
             Fault::Memory => OUT_OF_MEMORY,
         }
@@ -71,8 +81,11 @@ impl fmt::Display for Fault {
             Fault::BadFrameText => "bad frame text",
             Fault::Refused => "scenario refused",
             Fault::Recording(_) => "recording refused",
+            Fault::Samples => "no configuration",
             Fault::Undecided => "undecided",
-            Fault::Open(_) | Fault::Read => "read failed",
+            Fault::Open(_) | Fault::OpenSamples(_) | Fault::Read | Fault::ReadSamples => {
+                "read failed"
+            }
             Fault::Write => "write failed",
             Fault::Memory => "out of memory",
         })
@@ -125,6 +138,7 @@ impl From<JudgeFault> for Fault {
     fn from(fault: JudgeFault) -> Fault {
         match fault {
             JudgeFault::Read => Fault::Read,
+            JudgeFault::ReadSamples => Fault::ReadSamples,
             JudgeFault::Memory => Fault::Memory,
             _ => Fault::Recording(fault),
         }

@@ -43,18 +43,21 @@ pub(crate) fn judge_input<I: BufRead, O: Write>(
     }
 }
 
-fn asked_of<'a>(judging: Judging<'a>) -> Asked<'a>
+/// How a recording is judged that is asked for so.
+pub(crate) fn asked_of<'a>(judging: Judging<'a>) -> Asked<'a>
     ensures { result ≡ asked_of judging.entry }
 {
     Asked {
         channels: judging.channels,
         glitch_us: judging.glitch_us,
         rules: judging.rules,
+        zone: judging.zone,
         as_json: judging.as_json,
     }
 }
 
-fn show<O: Write>(judged: &Judged, output: &mut Watched<O>) -> Result<(), Fault>
+/// Writes the verdict, which is the answer if it decides nothing.
+pub(crate) fn show<O: Write>(judged: &Judged, output: &mut Watched<O>) -> Result<(), Fault>
     requires { has_failed output.old ≡ false }
     ensures shown { ShowsJudged judged.now result
         (O.contents (device_of output.old)) (O.contents (device_of output.new)) }

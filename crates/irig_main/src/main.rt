@@ -4,8 +4,10 @@
 mod explain;
 mod fault;
 mod judge;
+mod path;
 mod play;
 mod program;
+mod record;
 mod request;
 
 use fault::{Fault, report};

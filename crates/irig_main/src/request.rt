@@ -2,13 +2,15 @@
 
 ghost use Rattle.std.specs.Prelude.{◌≡◌, ◌≢◌, ◌↔◌, ◌⊎◌, Err, IfOk, false, true};
 ghost use Rattle.std.specs.Io.Buffered.{reader_remaining};
-ghost use Rattle.cli_words.specs.Requests.{IsRequest};
+ghost use Rattle.cli_words.specs.Requests.{IsJudging, IsRequest};
 ghost use Rattle.irig_device.specs.Watched.{device_of, has_failed};
 ghost use Rattle.text_frame.specs.Frame.{IsFrameOptions};
+ghost use Rattle.irig_main.specs.Paths.{ending_of};
 ghost use Rattle.irig_main.specs.Serving.{
   AreOfFile,
   IsUnknownWord,
   Judges,
+  JudgesPath,
   Plays,
   Serves,
   ShowsFrame,
@@ -21,7 +23,9 @@ ghost use Rattle.irig_main.specs.Serving.{
 
 use crate::fault::Fault;
 use crate::judge::{judge_file, judge_input};
+use crate::path::{Ending, ending_of};
 use crate::play::{play_file, play_input};
+use crate::record::judge_files;
 use cli_words::{Judging, Request, Source, Wanted};
 use irig_device::Watched;
 use irig_time::Rules;
@@ -42,12 +46,14 @@ const PLAIN_LOG: Wanted<'static> = Wanted::Log {
 /// lied in it; judges a recording; writes a frame or what one says; or explains a word. Neither device may
 /// have failed before.
 ///
-/// `BadTime` if TIME is the text of no second, `BadFrameText` if FRAME has a letter of no
+/// `Samples` if FILE has the samples of a record and not its configuration, and then nothing is
+/// written; `BadTime` if TIME is the text of no second, `BadFrameText` if FRAME has a letter of no
 /// symbol, `CommandLine` if WORD is none that is explained, and then nothing is written; `Refused`
-/// if a line of the scenario is refused, which the
-/// standard error then explains; `Recording` if a recording is refused, and nothing is written;
-/// `Undecided` if its verdict, which is written, decides nothing; `Open` if FILE can't be opened, `Read` if
-/// it can't be read to its end, `Write` if the output fails; `Memory` if there was none.
+/// if a line of the scenario is refused, which the standard error then explains; `Recording` if a
+/// recording is refused, and nothing is written; `Undecided` if its verdict, which is written,
+/// decides nothing; `Open` if FILE can't be opened, `Read` if it can't be read to its end,
+/// `OpenSamples` and `ReadSamples` of the samples beside it, `Write` if the output fails; `Memory`
+/// if there was none.
 pub fn serve<'a, R: Files + Eprint + AllocGlobal, I: BufRead, O: Write>(
     rt: &R,
     request: Request<'a>,
@@ -109,6 +115,7 @@ fn judge<R: Files + AllocGlobal, I: BufRead, O: Write>(
     input: &mut Watched<I>,
     output: &mut Watched<O>,
 ) -> Result<(), Fault>
+    requires in_range { IsJudging judging }
     requires input_whole { has_failed input.old ≡ false }
     requires output_whole { has_failed output.old ≡ false }
     ensures judged { Judges R.File.remaining judging.entry source.entry result
@@ -123,7 +130,28 @@ fn judge<R: Files + AllocGlobal, I: BufRead, O: Write>(
 {
     match source {
         Source::Input => judge_input(rt.alloc(), judging, input, output),
-        Source::File(path) => judge_file(rt, judging, path, output),
+        Source::File(path) => judge_path(rt, judging, path, output),
+    }
+}
+
+fn judge_path<R: Files + AllocGlobal, O: Write>(
+    rt: &R,
+    judging: Judging<'_>,
+    path: &str,
+    output: &mut Watched<O>,
+) -> Result<(), Fault>
+    requires in_range { IsJudging judging }
+    requires output_whole { has_failed output.old ≡ false }
+    ensures judged { JudgesPath R.File.remaining (ending_of path.now) judging.entry result
+        (O.contents (device_of output.old)) (O.contents (device_of output.new)) }
+    ensures write { (result ≡ Err Fault.Write) ↔ (has_failed output.new ≡ true) }
+    ensures time { result ≢ Err Fault.BadTime }
+    ensures frame { result ≢ Err Fault.BadFrameText }
+{
+    match ending_of(path) {
+        Ending::Configuration => judge_files(rt, judging, path, output),
+        Ending::Samples => Err(Fault::Samples),
+        Ending::Other => judge_file(rt, judging, path, output),
     }
 }
 

@@ -25,7 +25,7 @@ abbrev pub fault_at : (place : ℕ) → Field → Fault
 fault_at place field = record { line = place + 1; field = field }
 
 -- what is said, and what is read after it, or the first fault
-abbrev pub with_ok : {A B : Type 0} → Result A Fault → (A → Result B Fault) → Result B Fault
+abbrev pub with_ok : {A B F : Type 0} → Result A F → (A → Result B F) → Result B F
 with_ok (Ok a) next = next a
 with_ok (Err fault) next = Err fault
 

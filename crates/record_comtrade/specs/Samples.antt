@@ -3,7 +3,7 @@
 -- analog channels, and a word of two bytes for each 16 digital channels, the first channel by its lowest bit; of all
 -- numbers the lowest byte stands first. That there are levels where a channel that was chosen changes is this
 -- project's profile.
-use Rattle.std.specs.Prelude.{ℕ, ◌+◌, ◌-◌, ◌*◌, ◌/◌, ◌%◌, ◌^◌, Bool, true, false, ◌&&◌, not, if◌then◌else◌, List, [], ◌∷◌, ◌++◌, length, drop, slice_get, slice_index_or, Option, Some, None, Result, Ok, Err, nat_eq, nat_lt}
+use Rattle.std.specs.Prelude.{ℕ, ◌+◌, ◌-◌, ◌*◌, ◌/◌, ◌%◌, ◌^◌, Bool, true, false, ◌&&◌, not, if◌then◌else◌, List, [], ◌∷◌, ◌++◌, length, drop, slice_get, slice_index_or, Option, Some, None, Result, Ok, Err, max, nat_eq, nat_lt}
 use Rattle.std.specs.Int.{from_le_bytes, w32}
 use Rattle.record_levels.specs.declared.levels.Levels.{Levels}
 use Rattle.record_levels.specs.declared.limits.TimeFault.{TimeFault}
@@ -17,7 +17,7 @@ use Rattle.record_comtrade.specs.declared.now.SampleFault.{SampleFault}
 use Rattle.record_comtrade.specs.declared.now.Now.{Now}
 use Rattle.record_comtrade.specs.declared.now.Step.{Step}
 use Rattle.record_comtrade.specs.declared.now.Step.TheVariants.{Goes, Says, Refuses}
-use Rattle.record_comtrade.specs.Times.{max, time_of}
+use Rattle.record_comtrade.specs.Times.{time_of}
 
 -- what is read of samples: by which rates and which unit they have their times, where their digital channels begin,
 -- and which channels are chosen, by their places among the digital ones
@@ -65,10 +65,14 @@ high_of chosen digital =
 
 -- ---- one after another
 
--- the sample is counted, up to 2^64 - 1; the first one is kept
+-- how many samples there are with one more, up to 2^64 - 1
+abbrev pub next_count : Now → ℕ
+next_count now = if nat_lt now.count (2 ^ 64 - 1) then now.count + 1 else now.count
+
+-- the sample is counted; the first one is kept
 abbrev pub counted : Now → Mark → Now
 counted now here = record now {
-  count = if nat_lt now.count (2 ^ 64 - 1) then now.count + 1 else now.count;
+  count = next_count now;
   first = if nat_eq now.count 0 then here else now.first;
   here = here;
 }

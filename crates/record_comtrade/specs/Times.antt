@@ -1,21 +1,13 @@
 -- When a sample was, in nanoseconds after the first one.
 -- Source: IEEE C37.111-2013, 5.3.9 (rates), 5.3.12 (the multiple) and 6.4 (a sample's own time). That the first
 -- sample is at 0, and how times are rounded, is this project's profile.
-use Rattle.std.specs.Prelude.{ℕ, zero, suc, ◌+◌, ◌-◌, ◌*◌, ◌/◌, Bool, true, false, ◌&&◌, if◌then◌else◌, List, [], ◌∷◌, length, Result, Ok, Err, nat_eq, nat_lt, nat_le}
+use Rattle.std.specs.Prelude.{ℕ, zero, suc, ◌+◌, ◌-◌, ◌*◌, ◌/◌, Bool, true, false, ◌&&◌, if◌then◌else◌, List, [], ◌∷◌, length, Result, Ok, Err, max, min, nat_eq, nat_lt}
 use Rattle.record_levels.specs.declared.limits.TimeFault.TheVariants.{Back}
 use Rattle.record_comtrade.specs.declared.parts.Rate.{Rate}
 use Rattle.record_comtrade.specs.declared.clock.Clock.{Clock}
 use Rattle.record_comtrade.specs.declared.clock.Mark.{Mark}
 use Rattle.record_comtrade.specs.declared.clock.Reason.{Reason}
 use Rattle.record_comtrade.specs.declared.clock.Reason.TheVariants.{NoTime, Time}
-
--- the lesser of two numbers
-abbrev pub min : ℕ → ℕ → ℕ
-min m n = if nat_le m n then m else n
-
--- the greater of two numbers
-abbrev pub max : ℕ → ℕ → ℕ
-max m n = if nat_le m n then n else m
 
 -- so many steps at a rate in femtoseconds, rounded down
 abbrev pub part_fs : (steps : ℕ) → (millionths : ℕ) → ℕ

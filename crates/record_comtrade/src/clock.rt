@@ -2,7 +2,7 @@
 
 ghost use Rattle.std.specs.Prelude.{◌≡◌, ◌<◌, ◌≤◌, length};
 ghost use Rattle.record_comtrade.specs.Samples.{last_of};
-ghost use Rattle.record_comtrade.specs.Times.{all_steps, end_of, have_steps, max, min, part_fs, time_by_own, time_by_rates, time_fs, time_of};
+ghost use Rattle.record_comtrade.specs.Times.{all_steps, end_of, have_steps, part_fs, time_by_own, time_by_rates, time_fs, time_of};
 
 use crate::parts::Rate;
 use record_levels::TimeFault;
@@ -18,7 +18,7 @@ pub struct Mark {
 
 /// The unit of samples' own times.
 #[derive(Clone, Copy, PartialEq, Eq)]
-pub(crate) struct Clock {
+pub struct Clock {
     /// What a unit is multiplied by, in millionths.
     pub(crate) multiple: u64,
     /// Whether a unit is a nanosecond; else it is a microsecond.
@@ -34,10 +34,37 @@ pub enum Reason {
     Time(TimeFault),
     /// It is the last, and the configuration says that there are more.
     Last,
+    /// It stands in a row of a text that can't be read.
+    Row(RowFault),
 }
 
-/// When a sample was, in nanoseconds after the first.
-pub(crate) fn time_of(rates: &[Rate], clock: Clock, first: Mark, here: Mark) -> Result<u128, Reason>
+/// A row that can't be read.
+#[derive(Clone, Copy, PartialEq, Eq)]
+pub struct RowFault {
+    /// Its line in the text of the samples, from 1.
+    pub line: u64,
+    /// What of it.
+    pub field: RowField,
+}
+
+/// What of a row can't be read.
+#[derive(Clone, Copy, PartialEq, Eq)]
+pub enum RowField {
+    /// The line is too long: it has more than 67,108,864 bytes.
+    Line,
+    /// The first field, the number of the sample, is neither empty nor digits of a number below
+    /// 2^32; or it is empty, and there are 2^32 samples or more.
+    Number,
+    /// The second field, the sample's time, is neither empty nor digits of a number below 2^32 - 1.
+    Time,
+    /// There are fewer fields than the two and one for each channel.
+    Few,
+    /// The field of the digital channel at this place among them, from 0, is neither 0 nor 1.
+    Level(usize),
+}
+
+/// When a sample was, in nanoseconds after the first; or that it has no time, or an earlier one.
+pub fn time_of(rates: &[Rate], clock: Clock, first: Mark, here: Mark) -> Result<u128, Reason>
     requires few { length rates.now ≤ 999 }
     ensures { result ≡ time_of rates.now clock first here }
 {
@@ -103,7 +130,7 @@ fn time_fs(rates: &[Rate], from: u32, to: u32) -> u128
     for (at, rate) in rates.iter().enumerate() {
         let end = end_of(rate, rates.len() - (at + 1), u64::from(to));
         time += part_fs(end.saturating_sub(here), rate.millionths);
-        here = max(here, rate.last);
+        here = here.max(rate.last);
     }
     time
 }
@@ -112,7 +139,7 @@ fn end_of(rate: &Rate, left: usize, to: u64) -> u64
     ensures end { result ≡ end_of rate.now left to }
     ensures few { result ≤ to }
 {
-    if left == 0 { to } else { min(to, rate.last) }
+    if left == 0 { to } else { to.min(rate.last) }
 }
 
 fn part_fs(steps: u64, millionths: u64) -> u128
@@ -127,22 +154,8 @@ fn part_fs(steps: u64, millionths: u64) -> u128
     }
 }
 
-fn min(a: u64, b: u64) -> u64
-    ensures least { result ≡ min a b }
-    ensures few { result ≤ a }
-{
-    if a <= b { a } else { b }
-}
-
-/// The larger one.
-pub(crate) fn max(a: u64, b: u64) -> u64
-    ensures { result ≡ max a b }
-{
-    if a <= b { b } else { a }
-}
-
-/// The last sample of the last rate.
-pub(crate) fn last_of(rates: &[Rate]) -> u64
+/// The number of the last sample of the last rate, or 0 where there are no rates.
+pub fn last_of(rates: &[Rate]) -> u64
     ensures { result ≡ last_of rates.now }
 {
     let mut last = 0;

@@ -55,8 +55,8 @@ pub(crate) fn size_of(config: &Config) -> usize
     offset_of(config) + 2 * ((config.counts.digitals as usize + 15) / 16)
 }
 
-/// The unit of samples' own times.
-pub(crate) fn clock_of(config: &Config) -> Clock
+/// The unit of samples' own times by a configuration.
+pub fn clock_of(config: &Config) -> Clock
     ensures { result ≡ clock_of (value_of config.now) }
 {
     Clock {

@@ -18,11 +18,12 @@ mod sample;
 mod tail;
 mod text;
 
-pub use clock::{Mark, Reason};
+pub use clock::{Clock, Mark, Reason, RowFault, RowField, last_of, time_of};
 pub use data::Data;
 pub use fault::{ConfigFault, Fault, Field};
 pub use laws::{changes_are_those_of_the_file, pieces_do_not_matter};
-pub use now::SampleFault;
+pub use layout::clock_of;
+pub use now::{Now, SampleFault, Step};
 pub use parts::{Config, Counts, Form, Rate, Tail};
 pub use reader::{DataFault, Taken};
 pub use reading::ConfigText;

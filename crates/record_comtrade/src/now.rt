@@ -1,10 +1,10 @@
 //! The levels as they stand, and what a sample makes of them.
 
 ghost use Rattle.std.specs.Prelude.{◌≡◌, ◌<◌, None, MatchResult};
-ghost use Rattle.record_comtrade.specs.Samples.{come_to, counted, ended_by, fault_of, is_before, refused, said_by_time, start};
+ghost use Rattle.record_comtrade.specs.Samples.{counted, ended_by, fault_of, is_before, next_count, refused, said_by_time, start};
 ghost use Rattle.record_comtrade.specs.Samples.Said.{Ends, Refused};
 
-use crate::clock::{Mark, Reason, max};
+use crate::clock::{Mark, Reason};
 use record_levels::{Levels, TimeFault, time_fault};
 
 /// Nanoseconds of 1,000 hours.
@@ -21,26 +21,31 @@ pub struct SampleFault {
 
 /// The samples so far.
 #[derive(Clone, Copy)]
-pub(crate) struct Now {
-    /// How many there were.
-    pub(crate) count: u64,
-    pub(crate) first: Mark,
-    pub(crate) here: Mark,
-    /// The time of the last levels that were said.
-    pub(crate) levels_ns: Option<u64>,
+pub struct Now {
+    /// How many there were. It stays at 2^64 - 1.
+    pub count: u64,
+    /// The first of them.
+    pub first: Mark,
+    /// The last of them.
+    pub here: Mark,
+    /// The time of the last levels that were said, in nanoseconds after the first sample.
+    pub levels_ns: Option<u64>,
 }
 
 /// What a sample makes of them.
 #[derive(Clone, Copy)]
-pub(crate) enum Step {
+pub enum Step {
+    /// The levels stay, and the samples are these now.
     Goes(Now),
+    /// These are the levels from here on.
     Says(Levels, Now),
+    /// The sample is refused.
     Refuses(SampleFault),
 }
 
 impl Now {
     /// Before the first sample.
-    pub(crate) fn start() -> Now
+    pub fn start() -> Now
         ensures { result ≡ start }
     {
         let none = Mark { number: 0, time: 0 };
@@ -52,24 +57,32 @@ impl Now {
         }
     }
 
+    /// How many samples there are with one more. It stays at 2^64 - 1.
+    pub fn next_count(self) -> u64
+        ensures { result ≡ next_count self }
+    {
+        if self.count < u64::MAX {
+            self.count + 1
+        } else {
+            self.count
+        }
+    }
+
     /// With a sample more.
-    pub(crate) fn counted(self, here: Mark) -> Now
+    pub fn counted(self, here: Mark) -> Now
         ensures { result ≡ counted self here }
     {
         Now {
-            count: if self.count < u64::MAX {
-                self.count + 1
-            } else {
-                self.count
-            },
+            count: self.next_count(),
             first: if self.count == 0 { here } else { self.first },
             here,
             levels_ns: self.levels_ns,
         }
     }
 
-    /// What levels at a time are.
-    pub(crate) fn said(self, high: u8, time_ns: Result<u128, Reason>) -> Step
+    /// What these levels are at that time in nanoseconds, which may have a fault: a change, or the
+    /// refusal of the last sample. The first line has the bit of 1.
+    pub fn said(self, high: u8, time_ns: Result<u128, Reason>) -> Step
         ensures { result ≡ said_by_time self high time_ns }
     {
         match time_ns {
@@ -86,8 +99,8 @@ impl Now {
         }
     }
 
-    /// When the recording ends, if it goes on to that time.
-    pub(crate) fn ended(self, time_ns: Result<u128, Reason>) -> Result<u64, SampleFault>
+    /// When the recording ends, in nanoseconds, if it goes on to that time; or why it does not.
+    pub fn ended(self, time_ns: Result<u128, Reason>) -> Result<u64, SampleFault>
         ensures { MatchResult result
             (λ time. ended_by self time_ns ≡ Ends time)
             (λ fault. ended_by self time_ns ≡ Refused fault) }
@@ -102,14 +115,14 @@ impl Now {
     }
 
     /// Whether there are fewer samples, and none with that number.
-    pub(crate) fn is_before(self, last: u64) -> bool
+    pub fn is_before(self, last: u64) -> bool
         ensures { result ≡ is_before self last }
     {
-        max(self.count, u64::from(self.here.number)) < max(last, 1)
+        self.count.max(u64::from(self.here.number)) < last.max(1)
     }
 
     /// A fault of the last sample.
-    pub(crate) fn refused(self, reason: Reason) -> SampleFault
+    pub fn refused(self, reason: Reason) -> SampleFault
         ensures { result ≡ refused self reason }
     {
         SampleFault {
@@ -126,16 +139,8 @@ impl Now {
         if time_ns >= u128::from(END_NS) {
             Some(TimeFault::Beyond)
         } else {
-            time_fault(come_to(self.levels_ns), self.levels_ns, time_ns as u64)
+            let come_to = self.levels_ns.unwrap_or(0);
+            time_fault(come_to, self.levels_ns, time_ns as u64)
         }
-    }
-}
-
-fn come_to(levels_ns: Option<u64>) -> u64
-    ensures { result ≡ come_to levels_ns }
-{
-    match levels_ns {
-        Some(time_ns) => time_ns,
-        None => 0,
     }
 }

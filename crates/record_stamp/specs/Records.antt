@@ -1,7 +1,7 @@
 -- The stamps of a record, by its configuration.
 -- Source: IEEE C37.111-2013: below the rates stand the lines of the first sample, of the trigger, of how samples are
 -- stored, of the multiple, of the time code, and of quality and leap second.
-use Rattle.std.specs.Prelude.{ℕ, ◌+◌, List, Option, Some, None, Result, Ok, Err, ℤ}
+use Rattle.std.specs.Prelude.{ℕ, ◌+◌, List, ◌++◌, codes, Option, Some, None, Result, Ok, Err, ℤ}
 use Rattle.record_text.specs.Fields.{field}
 use Rattle.record_comtrade.specs.Configs.{ConfigValue, text_at}
 use Rattle.irig_time.specs.declared.leap.Leap.{Leap}
@@ -12,7 +12,7 @@ use Rattle.record_stamp.specs.declared.word.Word.{Word}
 use Rattle.record_stamp.specs.Codes.{zone_of}
 use Rattle.record_stamp.specs.Stamps.{exchanged, meaning}
 use Rattle.record_stamp.specs.Word.{step_ns, word_on}
-use Rattle.record_stamp.specs.WordText.{stamp_fault_text, stamp_word_text}
+use Rattle.record_stamp.specs.WordText.{stamp_fault_text, stamp_text, stamp_word_text}
 
 -- a field of a line from the first stamp on, by their places from 0
 abbrev pub below : ConfigValue → (line at : ℕ) → List ℕ
@@ -52,3 +52,9 @@ word_text (Err fault) date clock truth = stamp_fault_text fault date clock
 abbrev pub record_word_text : ConfigValue → Option ℤ → List (ℕ × Leap) → (truth : Moment) → List ℕ
 record_word_text config zone leaps truth =
     word_text (word_of config zone leaps truth) (below config 0 0) (below config 0 1) truth
+
+-- the line that the stamp of a record is not judged
+unfoldable pub unjudged_text : ConfigValue → List ℕ
+unjudged_text config =
+    codes "the stamp " ++ (stamp_text (below config 0 0) (below config 0 1)
+    ++ codes " is not judged: the lines do not tell when sample 1 was\n")

@@ -6,13 +6,13 @@ ghost use Rattle.record_stamp.specs.Codes.{IsZoneOf, leap_said, quality_of};
 ghost use Rattle.record_stamp.specs.Instants.{IsStamp, IsStampOf};
 ghost use Rattle.record_stamp.specs.Late.{IsMoment, leaps_of};
 ghost use Rattle.record_stamp.specs.Word.{IsWord};
-ghost use Rattle.record_stamp.specs.Records.{below, exchanged_of, record_word_text, stamp_of, word_of, zone_in};
+ghost use Rattle.record_stamp.specs.Records.{below, exchanged_of, record_word_text, stamp_of, unjudged_text, word_of, zone_in};
 
 use crate::code::{LeapSaid, leap_said, quality_of, zone_of};
 use crate::instant::{Stamp, StampFault};
 use crate::late::Moment;
 use crate::stamp::{exchanged, meaning};
-use crate::text::{push_stamp_fault, push_stamp_word};
+use crate::text::{push_stamp_between, push_stamp_fault, push_stamp_word};
 use crate::word::{Word, step_ns, word_on};
 use irig_time::Leap;
 use record_comtrade::Config;
@@ -131,4 +131,20 @@ pub fn push_record_word(
         Ok(word) => push_stamp_word(text, &word, date, clock, truth),
         Err(fault) => push_stamp_fault(text, fault, date, clock),
     }
+}
+
+/// Adds the line that the stamp of a record is not judged, where the lines do not tell when its
+/// first sample was. It fails only if there is no memory.
+#[tactic(auto, unfolding(crate::specs::Records::unjudged_text))]
+pub fn push_unjudged(text: &mut String, config: &Config) -> Result<(), AllocError>
+    ensures { OnOk result (string_bytes text.new ≡ string_bytes text.old
+        ++ unjudged_text (value_of config.now)) }
+{
+    push_stamp_between(
+        text,
+        "the stamp ",
+        config.field_below(0, 0),
+        config.field_below(0, 1),
+        " is not judged: the lines do not tell when sample 1 was\n",
+    )
 }

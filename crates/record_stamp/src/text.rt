@@ -74,7 +74,8 @@ pub fn push_stamp_fault(
     text.push_str("\n")
 }
 
-fn push_stamp_between(
+/// Adds a stamp, whose date and time stand so in a record, escaped, with words around it.
+pub(crate) fn push_stamp_between(
     text: &mut String,
     front: &str,
     date: &[u8],
@@ -280,9 +281,10 @@ fn push_seconds(text: &mut String, ms: u64) -> Result<(), AllocError>
     text.push_str(" s ")
 }
 
-// Adds the text of a moment: that of its second, with three, six or nine decimals.
+/// Adds the text of a moment, as 2026-11-24T09:30:00.250Z: that of its second, with three, six or
+/// nine decimals, as many as count. It fails only if there is no memory.
 #[tactic(auto, unfolding(crate::specs::WordText::moment_text))]
-fn push_moment(text: &mut String, moment: Moment) -> Result<(), AllocError>
+pub fn push_moment(text: &mut String, moment: Moment) -> Result<(), AllocError>
     requires { IsMoment moment }
     ensures { OnOk result (string_bytes text.new
         ≡ string_bytes text.old ++ moment_text moment) }

@@ -10,6 +10,7 @@ use Rattle.record_lines.specs.declared.second.RecordedSecond.{RecordedSecond}
 use Rattle.record_lines.specs.Channels.{no_edges, told_of_lines}
 use Rattle.record_lines.specs.Helds.{has_room}
 use Rattle.record_lines.specs.Recordings.{IsEndedOn, IsNewRecording, IsPlayedOn, IsRecordingOf, IsToldOn, until_of}
+use Rattle.record_verdict.specs.declared.verdict.Verdict.{Verdict}
 use Rattle.record_verdict.specs.Verdicts.{IsVerdictOf, first_agreed}
 use Rattle.report_verdict.specs.declared.line_seen.LineSeen.{LineSeen}
 use Rattle.record_lines.proofs.OnLaws.{stays_end, stays_levels}
@@ -135,11 +136,11 @@ hears_more asked lines before levels old new has hears later form = record {
 }
 
 -- the recording has ended, and the verdict is shown
-pub shows_verdict : (asked : Asked) (lines : ℕ) (levels : List Levels) (old new : Hearing) (judged : Judged) → HasHeard asked lines levels old → EndsOn old new → new.as_json ≡ old.as_json
-    → (seen : List LineSeen) × IsVerdictText new.as_json new.verdict seen (string_bytes judged.text)
+pub shows_verdict : (said : Verdict → List ℕ) (asked : Asked) (lines : ℕ) (levels : List Levels) (old new : Hearing) (judged : Judged) → HasHeard asked lines levels old → EndsOn old new → new.as_json ≡ old.as_json
+    → (seen : List LineSeen) × IsVerdictText (said new.verdict) new.as_json new.verdict seen (string_bytes judged.text)
     → ((n : ℕ) (seconds : List RecordedSecond) → IsVerdictOf new.verdict n seconds → judged.is_decided ≡ is_some (first_agreed seconds))
-    → IsVerdictOn asked lines levels judged
-shows_verdict asked lines levels old new judged has ends form shown decided =
+    → IsVerdictOn said asked lines levels judged
+shows_verdict said asked lines levels old new judged has ends form shown decided =
     let count = ports_in has.made.clock.redundancy in
     let taking = ends has.made (glitch_of asked) levels has.heard in
     record {
@@ -149,6 +150,6 @@ shows_verdict asked lines levels old new judged has ends form shown decided =
       carried = carried_to_end has.made (glitch_of asked) (until_of new.recording.end_us new.recording.now_ns) (told_by count levels) taking.seconds taking.carried;
       verdict = new.verdict;
       of = taking.verdict;
-      text = (shown.0, subst (λ (b : Bool). IsVerdictText b new.verdict shown.0 (string_bytes judged.text)) (form ∙ has.form) shown.1);
+      text = (shown.0, subst (λ (b : Bool). IsVerdictText (said new.verdict) b new.verdict shown.0 (string_bytes judged.text)) (form ∙ has.form) shown.1);
       decided = decided count taking.seconds taking.verdict;
     }

@@ -3,6 +3,7 @@ use Rattle.std.proofs.Common.{◌≡◌, ◌≢◌, ◌≤◌, ℕ, Bool, List, 
 use Rattle.std.specs.Prelude.{if◌then◌else◌, nat_lt, slice_index_or, string_bytes}
 use Rattle.std.specs.Str.{bytes_eq}
 use Rattle.std.proofs.lemmas.Slice.Eq.{bytes_eq-Decides}
+use Rattle.std.specs.Global.{Vec}
 use Rattle.std.specs.Io.KnownBytes.{Consumes, IsAtEnd}
 use Rattle.std.proofs.lemmas.List.{length-append, take-append-drop}
 use Rattle.std.proofs.lemmas.Option.{same_Some}
@@ -15,6 +16,7 @@ use Rattle.record_vcd.specs.declared.changes.Changes.{Changes}
 use Rattle.record_vcd.specs.declared.changes.HeadFault.{HeadFault}
 use Rattle.record_vcd.specs.declared.changes.HeadFault.TheVariants as head
 use Rattle.record_vcd.specs.declared.now.Fault.{Fault}
+use Rattle.record_vcd.specs.declared.wire.Wire.{Wire}
 use Rattle.record_vcd.specs.declared.section.Section.{Section}
 use Rattle.record_vcd.specs.declared.section.Section.TheVariants.{Between, Timescale, Var, Definitions, Other, Over}
 use Rattle.record_vcd.specs.Sections.{is_over, wires_of}
@@ -31,15 +33,15 @@ use Rattle.report_verdict.specs.declared.line_seen.LineSeen.{LineSeen}
 use Rattle.report_judge.specs.declared.asked.Asked.{Asked}
 use Rattle.report_judge.specs.declared.channels.ChannelFault.{ChannelFault}
 use Rattle.report_judge.specs.declared.fault.JudgeFault.{JudgeFault}
-use Rattle.report_judge.specs.declared.fault.JudgeFault.TheVariants.{Empty, Form, Head as HeadRefused, Channels, Dump, Endless, Read, Memory}
+use Rattle.report_judge.specs.declared.fault.JudgeFault.TheVariants.{Head as HeadRefused, Dump, Read}
 use Rattle.report_judge.specs.declared.hearing.Hearing.{Hearing}
 use Rattle.report_judge.specs.declared.hearing.Judged.{Judged}
 use Rattle.report_judge.specs.declared.reading.Below.{Below}
 use Rattle.report_judge.specs.declared.reading.Stage.{Stage}
-use Rattle.report_judge.specs.Channels.{channel_bytes, places_of}
+use Rattle.report_judge.specs.Channels.{channel_bytes, names_of, places_named, places_of, texts_of}
 use Rattle.report_judge.specs.Faults.{of_head}
-use Rattle.report_judge.specs.Hearings.{EndsOn, HasHeard, HearsOn, IsVerdictOn, IsVerdictText, last_time}
-use Rattle.report_judge.specs.Readings.{AreChanges, HasReadBelow, HasReadHead, HasReadTo, IsChannelFault, JudgedWhole, RefusedBy, RefusedFrom, begins_dump, head_of, judged_places, levels_after, said_at, said_of_lines}
+use Rattle.report_judge.specs.Hearings.{EndsOn, HasHeard, HearsOn, IsVerdictOn, IsVerdictText, last_time, nothing_else}
+use Rattle.report_judge.specs.Readings.{AreChanges, HasReadBelow, HasReadHead, HasReadTo, JudgedWhole, RefusedBy, RefusedFrom, begins_dump, head_of, judged_places, levels_after, said_at, said_of_lines}
 use Rattle.report_judge.proofs.HearingLaws.{hears_more, shows_verdict}
 
 -- ---- the head
@@ -100,20 +102,10 @@ begins-below asked text reader places below h ready chosen is_below heard =
       heard = heard;
     }
 
--- wires that are not judged
-pub refused-channels : (names : Option (List ℕ)) (text : List ℕ) (reader : Head) (fault : ChannelFault) (why : JudgeFault)
-    → HasReadHead text reader → IsTrue (is_over reader.section)
-    → places_of (wires_of reader.wires.items) names ≡ Err fault → IsChannelFault fault why
-    → RefusedFrom names text why
-refused-channels names text reader fault (Channels found there) h over is same more =
-    places-are names text reader more (Err fault) h over is ∙ ap Err (sym same)
-refused-channels names text reader fault Memory h over is same more = tt
-refused-channels names text reader fault Empty h over is same more = absurd same
-refused-channels names text reader fault Form h over is same more = absurd same
-refused-channels names text reader fault (HeadRefused why) h over is same more = absurd same
-refused-channels names text reader fault (Dump why) h over is same more = absurd same
-refused-channels names text reader fault Endless h over is same more = absurd same
-refused-channels names text reader fault Read h over is same more = absurd same
+-- wires are chosen by their names
+pub chosen-by-name : (names : Option (List ℕ)) (wires : List Wire) (all : List (Vec ℕ)) (found : Result (List ℕ) ChannelFault)
+    → texts_of all ≡ names_of (wires_of wires) → places_named (texts_of all) names ≡ found → places_of (wires_of wires) names ≡ found
+chosen-by-name names wires all found same is = ap (λ l. places_named l names) (sym same) ∙ is
 
 -- a head that is over, and below which nothing is read
 pub refused-head : (names : Option (List ℕ)) (text : List ℕ) (reader : Head) (fault : HeadFault)
@@ -273,7 +265,7 @@ pub ends-below : (asked : Asked) (text : List ℕ) (below : Below) (levels : Opt
     → to_come below.changes [] ≡ said levels ++ Ends time ∷ []
     → ((l : Levels) → levels ≡ Some l → HearsOn below.hearing heard l) → (levels ≡ None → heard ≡ below.hearing) → heard.as_json ≡ below.hearing.as_json
     → EndsOn heard ended → ended.as_json ≡ heard.as_json
-    → (seen : List LineSeen) × IsVerdictText ended.as_json ended.verdict seen (string_bytes judged.text)
+    → (seen : List LineSeen) × IsVerdictText [] ended.as_json ended.verdict seen (string_bytes judged.text)
     → ((n : ℕ) (seconds : List RecordedSecond) → IsVerdictOf ended.verdict n seconds → judged.is_decided ≡ is_some (first_agreed seconds))
     → JudgedWhole asked text judged
 ends-below asked text below levels time heard ended judged begins h ends some none form end form_at_end shown decided =
@@ -288,7 +280,7 @@ ends-below asked text below levels time heard ended judged begins h ends some no
       says = says ∙ ap Some (sym (append_assoc h.said (said levels) (Ends time ∷ [])));
       places = h.places;
       chosen = ap (judged_places names) whole ∙ h.chosen [];
-      verdict = shows_verdict asked (length h.places) (levels_after [] (h.said ++ said levels)) heard ended judged has end form_at_end shown decided;
+      verdict = shows_verdict nothing_else asked (length h.places) (levels_after [] (h.said ++ said levels)) heard ended judged has end form_at_end shown decided;
     }
 
 pub refused-at-end : (asked : Asked) (text : List ℕ) (below : Below) (fault : Fault)

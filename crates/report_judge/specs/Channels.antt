@@ -1,7 +1,8 @@
--- Which wires of a recording are judged.
+-- Which channels of a recording are judged: the wires of a dump, or the digital channels of a record.
 -- Source: docs/irig.1, judge; this project's profile.
-use Rattle.std.specs.Prelude.{ℕ, zero, suc, ◌+◌, ◌==◌, Bool, false, ◌||◌, if◌then◌else◌, List, [], ◌∷◌, ◌++◌, length, Option, Some, None, Result, Ok, Err, option_map}
+use Rattle.std.specs.Prelude.{ℕ, zero, suc, ◌+◌, ◌==◌, Bool, false, ◌||◌, if◌then◌else◌, List, [], ◌∷◌, ◌++◌, length, map, Option, Some, None, Result, Ok, Err, option_map}
 use Rattle.std.specs.Borrow.{Bor}
+use Rattle.std.specs.Global.{Vec}
 use Rattle.std.specs.Str.{bytes_eq}
 use Rattle.irig_vote.specs.declared.redundancy.Redundancy.{Redundancy}
 use Rattle.irig_vote.specs.declared.redundancy.Redundancy.TheVariants.{One, Three, Five}
@@ -9,6 +10,10 @@ use Rattle.record_text.specs.Fields.{field}
 use Rattle.record_vcd.specs.Sections.{WireValue}
 use Rattle.report_judge.specs.declared.channels.ChannelFault.{ChannelFault}
 use Rattle.report_judge.specs.declared.channels.ChannelFault.TheVariants.{Count, Unknown, Twice}
+
+-- the bytes of some names
+abbrev pub texts_of : List (Vec ℕ) → List (List ℕ)
+texts_of names = map (λ name. name.items) names
 
 -- the names that are asked for, if any are
 abbrev pub channel_bytes : Option (Bor (List ℕ)) → Option (List ℕ)
@@ -29,33 +34,34 @@ abbrev pub upto : ℕ → List ℕ
 upto zero = []
 upto (suc n) = upto n ++ n ∷ []
 
--- the place of the first wire with this name, counted from n
-abbrev pub place_from : (n : ℕ) → List WireValue → (name : List ℕ) → Option ℕ
+-- the place of the first channel that has this name, counted from n
+abbrev pub place_from : (n : ℕ) → (channels : List (List ℕ)) → (name : List ℕ) → Option ℕ
 place_from n [] name = None
-place_from n (wire ∷ wires) name = if bytes_eq wire.name name then Some n else place_from (n + 1) wires name
+place_from n (channel ∷ channels) name =
+    if bytes_eq channel name then Some n else place_from (n + 1) channels name
 
--- the place of the first wire with this name
-abbrev pub place_of : List WireValue → (name : List ℕ) → Option ℕ
-place_of wires name = place_from 0 wires name
+-- the place of the first channel that has this name
+abbrev pub place_of : (channels : List (List ℕ)) → (name : List ℕ) → Option ℕ
+place_of channels name = place_from 0 channels name
 
 -- one of these places is that one
 abbrev pub is_in : (places : List ℕ) → (place : ℕ) → Bool
 is_in [] place = false
 is_in (other ∷ others) place = other == place || is_in others place
 
--- a wire is chosen by a name, after others, if there is one and it is none of them
+-- a channel is chosen by a name, after others, if there is one and it is none of them
 abbrev pub chosen_next : Option ℕ → (at : ℕ) → (places : List ℕ)
     → (others : List ℕ → Result (List ℕ) ChannelFault) → Result (List ℕ) ChannelFault
 chosen_next None at places others = Err (Unknown at)
 chosen_next (Some place) at places others =
     if is_in places place then Err (Twice at) else others (places ++ place ∷ [])
 
--- the wires that so many more names choose, the first of which stands at a place, after others
-abbrev pub chosen : List WireValue → (names : List ℕ) → (left at : ℕ) → (places : List ℕ)
+-- the channels that so many more names choose, the first of which stands at a place, after others
+abbrev pub chosen : (channels : List (List ℕ)) → (names : List ℕ) → (left at : ℕ) → (places : List ℕ)
     → Result (List ℕ) ChannelFault
-chosen wires names zero at places = Ok places
-chosen wires names (suc left) at places = chosen_next (place_of wires (field at names)) at places
-    (λ more. chosen wires names left (at + 1) more)
+chosen channels names zero at places = Ok places
+chosen channels names (suc left) at places = chosen_next (place_of channels (field at names)) at places
+    (λ more. chosen channels names left (at + 1) more)
 
 -- what is chosen, if it may be judged that so many are
 abbrev pub if_judged : Option Redundancy → (count : ℕ) → Result (List ℕ) ChannelFault
@@ -63,8 +69,22 @@ abbrev pub if_judged : Option Redundancy → (count : ℕ) → Result (List ℕ)
 if_judged None count places = Err (Count count)
 if_judged (Some redundancy) count places = places
 
+-- the places of the channels that are judged, of which these are the names: those with the names
+-- that are asked for, or all
+abbrev pub places_named : (channels : List (List ℕ)) → (names : Option (List ℕ)) → Result (List ℕ) ChannelFault
+places_named channels None =
+    if_judged (redundancy_of (length channels)) (length channels) (Ok (upto (length channels)))
+places_named channels (Some names) =
+    if_judged (redundancy_of (names_in names)) (names_in names) (chosen channels names (names_in names) 0 [])
+
+-- the name of a wire
+abbrev pub name_of : WireValue → List ℕ
+name_of wire = wire.name
+
+-- the names of wires
+abbrev pub names_of : List WireValue → List (List ℕ)
+names_of wires = map name_of wires
+
 -- the places of the wires that are judged: those with the names that are asked for, or all
 abbrev pub places_of : List WireValue → (names : Option (List ℕ)) → Result (List ℕ) ChannelFault
-places_of wires None = if_judged (redundancy_of (length wires)) (length wires) (Ok (upto (length wires)))
-places_of wires (Some names) =
-    if_judged (redundancy_of (names_in names)) (names_in names) (chosen wires names (names_in names) 0 [])
+places_of wires names = places_named (names_of wires) names

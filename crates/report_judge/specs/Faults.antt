@@ -1,12 +1,26 @@
 -- Why a recording is refused.
 -- Source: docs/irig.1, judge; this project's profile.
+use Rattle.record_comtrade.specs.declared.fault.ConfigFault.{ConfigFault}
+use Rattle.record_comtrade.specs.declared.fault.ConfigFault.TheVariants as config
+use Rattle.record_comtrade.specs.declared.reader.DataFault.{DataFault}
+use Rattle.record_comtrade.specs.declared.reader.DataFault.TheVariants as samples
 use Rattle.record_vcd.specs.declared.changes.HeadFault.{HeadFault}
 use Rattle.record_vcd.specs.declared.changes.HeadFault.TheVariants as head
 use Rattle.report_judge.specs.declared.fault.JudgeFault.{JudgeFault}
-use Rattle.report_judge.specs.declared.fault.JudgeFault.TheVariants.{Head, Memory}
+use Rattle.report_judge.specs.declared.fault.JudgeFault.TheVariants.{Config, Head, Memory, Sample}
 
 -- the fault of a head
 abbrev pub of_head : HeadFault → JudgeFault
 of_head head.Memory = Memory
 of_head head.Unended = Head head.Unended
 of_head head.NoTimescale = Head head.NoTimescale
+
+-- the fault of a configuration
+abbrev pub of_config : ConfigFault → JudgeFault
+of_config config.Memory = Memory
+of_config (config.Refused fault) = Config fault
+
+-- the fault of samples
+abbrev pub of_samples : DataFault → JudgeFault
+of_samples samples.Memory = Memory
+of_samples (samples.Refused fault) = Sample fault

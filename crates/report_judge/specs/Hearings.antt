@@ -1,6 +1,6 @@
 -- The lines of a recording as they are heard, by the levels that were told of them, the newest first.
 -- Source: this project's profile.
-use Rattle.std.specs.Prelude.{◌≡◌, ℕ, ◌*◌, ◌≤◌, Bool, if◌then◌else◌, is_some, List, [], ◌∷◌, Option, Some, None, IsTrue, ⊤, string_bytes}
+use Rattle.std.specs.Prelude.{◌≡◌, ℕ, ◌*◌, ◌≤◌, Bool, if◌then◌else◌, is_some, List, [], ◌∷◌, ◌++◌, Option, Some, None, IsTrue, ⊤, string_bytes}
 use Rattle.irig_vote.specs.Vote.{ports_in}
 use Rattle.irig_timekeeper.specs.Lived.{MadeOf}
 use Rattle.record_levels.specs.declared.levels.Levels.{Levels}
@@ -86,13 +86,20 @@ pub record HasHeard (asked : Asked) (lines : ℕ) (levels : List Levels) (h : He
   pub heard : IsHearingOf h made (glitch_of asked) levels
   pub form : h.as_json ≡ asked.as_json
 
--- the text of a verdict with what was seen of lines, as it is asked for
-abbrev pub IsVerdictText : (as_json : Bool) → Verdict → List LineSeen → (text : List ℕ) → Type 0
-IsVerdictText as_json verdict lines text =
-    text ≡ (if as_json then json_text verdict lines else verdict_text verdict lines)
+-- the text of a verdict with what was seen of lines, as it is asked for. What else is said stands
+-- in front of its lines, or as further keys of its object
+abbrev pub IsVerdictText : (said : List ℕ) → (as_json : Bool) → Verdict → List LineSeen → (text : List ℕ) → Type 0
+IsVerdictText said as_json verdict lines text =
+    text ≡ (if as_json then json_text verdict lines said else said ++ verdict_text verdict lines)
 
--- the verdict on so many lines that were told these levels: that of seconds which the levels carry
-pub record IsVerdictOn (asked : Asked) (lines : ℕ) (levels : List Levels) (judged : Judged) : Type 0 where
+-- nothing else is said
+abbrev pub nothing_else : Verdict → List ℕ
+nothing_else verdict = []
+
+-- the verdict on so many lines that were told these levels, with what else is said by it: that of
+-- seconds which the levels carry
+pub record IsVerdictOn (said : Verdict → List ℕ) (asked : Asked) (lines : ℕ) (levels : List Levels) (judged : Judged)
+    : Type 0 where
   pub made : MadeOf
   pub for : IsMadeFor asked lines made
   pub seconds : List RecordedSecond
@@ -100,5 +107,5 @@ pub record IsVerdictOn (asked : Asked) (lines : ℕ) (levels : List Levels) (jud
       seconds
   pub verdict : Verdict
   pub of : IsVerdictOf verdict (ports_in made.clock.redundancy) seconds
-  pub text : (seen : List LineSeen) × IsVerdictText asked.as_json verdict seen (string_bytes judged.text)
+  pub text : (seen : List LineSeen) × IsVerdictText (said verdict) asked.as_json verdict seen (string_bytes judged.text)
   pub decided : judged.is_decided ≡ is_some (first_agreed seconds)

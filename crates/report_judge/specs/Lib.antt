@@ -2,3 +2,5 @@ pub mod Channels
 pub mod Faults
 pub mod Readings
 pub mod Hearings
+pub mod Records
+pub mod Stamps

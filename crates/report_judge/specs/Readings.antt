@@ -14,13 +14,13 @@ use Rattle.record_vcd.specs.Dumps.{dump_of, to_come}
 use Rattle.report_judge.specs.declared.asked.Asked.{Asked}
 use Rattle.report_judge.specs.declared.channels.ChannelFault.{ChannelFault}
 use Rattle.report_judge.specs.declared.fault.JudgeFault.{JudgeFault}
-use Rattle.report_judge.specs.declared.fault.JudgeFault.TheVariants.{Empty, Form, Head, Channels, Dump, Endless, Read, Memory}
+use Rattle.report_judge.specs.declared.fault.JudgeFault.TheVariants.{Empty, Form, Head, Channels, Dump, Endless, Memory}
 use Rattle.report_judge.specs.declared.hearing.Judged.{Judged}
 use Rattle.report_judge.specs.declared.reading.Below.{Below}
 use Rattle.report_judge.specs.declared.reading.Stage.{Stage}
 use Rattle.report_judge.specs.declared.reading.Stage.TheVariants as stage
 use Rattle.report_judge.specs.Channels.{channel_bytes, places_of}
-use Rattle.report_judge.specs.Hearings.{HasHeard, IsVerdictOn}
+use Rattle.report_judge.specs.Hearings.{HasHeard, IsVerdictOn, nothing_else}
 
 -- a value change dump may begin with this byte: a $ or a blank
 abbrev pub is_of_dump : (byte : ℕ) → Bool
@@ -64,19 +64,8 @@ RefusedBy names text (Channels fault there) = judged_places names text ≡ Err f
 RefusedBy names text (Dump fault) =
     (said : List Said) × (said_of_lines names text ≡ Some (said ++ Refused fault ∷ []))
 RefusedBy names text Endless = 2 ^ 64 - 1 ≤ length text
-RefusedBy names text Read = ⊥
 RefusedBy names text Memory = ⊤
-
--- a fault says why wires are not judged, or that there was no memory to say it
-abbrev pub IsChannelFault : ChannelFault → JudgeFault → Type 0
-IsChannelFault fault (Channels found there) = found ≡ fault
-IsChannelFault fault Memory = ⊤
-IsChannelFault fault Empty = ⊥
-IsChannelFault fault Form = ⊥
-IsChannelFault fault (Head why) = ⊥
-IsChannelFault fault (Dump why) = ⊥
-IsChannelFault fault Endless = ⊥
-IsChannelFault fault Read = ⊥
+RefusedBy names text _ = ⊥
 
 -- a text is refused by this fault, whatever follows
 abbrev pub RefusedFrom : (names : Option (List ℕ)) → (text : List ℕ) → JudgeFault → Type 0
@@ -131,4 +120,4 @@ pub record JudgedWhole (asked : Asked) (text : List ℕ) (judged : Judged) : Typ
   pub says : said_of_lines (channel_bytes asked.channels) text ≡ Some (said ++ Ends end ∷ [])
   pub places : List ℕ
   pub chosen : judged_places (channel_bytes asked.channels) text ≡ Ok places
-  pub verdict : IsVerdictOn asked (length places) (levels_after [] said) judged
+  pub verdict : IsVerdictOn nothing_else asked (length places) (levels_after [] said) judged

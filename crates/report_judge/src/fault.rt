@@ -2,10 +2,11 @@
 
 ghost use Rattle.std.specs.Prelude.{◌≡◌};
 ghost use Rattle.report_judge.specs.declared.fault.JudgeFault.TheVariants.{Dump, Memory, Read};
-ghost use Rattle.report_judge.specs.Faults.{of_head};
+ghost use Rattle.report_judge.specs.Faults.{of_config, of_head, of_samples};
 
 use crate::channels::ChannelFault;
 use irig_device::DeviceFault;
+use record_comtrade::{ConfigFault, DataFault, SampleFault};
 use record_vcd::{Fault, HeadFault};
 use std::alloc::AllocError;
 
@@ -22,10 +23,19 @@ pub enum JudgeFault {
     Channels(ChannelFault, String),
     /// It is a value change dump that can't be read on.
     Dump(Fault),
+    /// A line of the configuration of a disturbance record is at fault.
+    Config(record_comtrade::Fault),
+    /// The digital channels that are asked for can't be judged. The text has the names that are
+    /// there.
+    Digitals(ChannelFault, String),
+    /// A sample of a record is at fault, or the samples end too early.
+    Sample(SampleFault),
     /// It has 2^64 bytes or more.
     Endless,
-    /// It can't be read to its end.
+    /// It can't be read to its end; of a record its configuration can't.
     Read,
+    /// The samples of a record can't be read to their end.
+    ReadSamples,
     /// There was no memory.
     Memory,
 }
@@ -62,5 +72,27 @@ impl From<Fault> for JudgeFault {
 
     fn from(fault: Fault) -> JudgeFault {
         JudgeFault::Dump(fault)
+    }
+}
+
+impl From<ConfigFault> for JudgeFault {
+    ghost from_gives = { λ config fault. fault ≡ of_config config };
+
+    fn from(fault: ConfigFault) -> JudgeFault {
+        match fault {
+            ConfigFault::Memory => JudgeFault::Memory,
+            ConfigFault::Refused(fault) => JudgeFault::Config(fault),
+        }
+    }
+}
+
+impl From<DataFault> for JudgeFault {
+    ghost from_gives = { λ samples fault. fault ≡ of_samples samples };
+
+    fn from(fault: DataFault) -> JudgeFault {
+        match fault {
+            DataFault::Memory => JudgeFault::Memory,
+            DataFault::Refused(fault) => JudgeFault::Sample(fault),
+        }
     }
 }

@@ -12,7 +12,7 @@ use irig_time::LeapTable;
 use irig_vote::Redundancy;
 use record_levels::Levels;
 use record_lines::Recording;
-use record_verdict::Verdict;
+use record_verdict::{Verdict, Zero, zero_by};
 use report_verdict::{LineSeen, push_json, push_verdict};
 use std::alloc::{AllocError, Global};
 
@@ -39,6 +39,7 @@ impl Hearing {
     ghost use Rattle.record_lines.specs.declared.second.RecordedSecond.{RecordedSecond as SecondOf};
     ghost use Rattle.record_lines.specs.Helds.{has_room};
     ghost use Rattle.record_verdict.specs.Verdicts.{IsVerdictOf, first_agreed};
+    ghost use Rattle.record_verdict.specs.Zeros.{zero_of};
     ghost use Rattle.report_verdict.specs.declared.line_seen.LineSeen.{LineSeen as LineSeenOf};
     ghost use Rattle.report_judge.specs.Hearings.{EndsOn, HasHeard, HearsOn, IsVerdictText, TakesOn};
 
@@ -97,16 +98,30 @@ impl Hearing {
         }
     }
 
-    /// The verdict on lines of these names, of which there are five at most.
-    pub(crate) fn judged(&self, alloc: Global, names: &[Vec<u8>]) -> Result<Judged, AllocError>
+    /// When 0.000 s was, if most lines agree on any second.
+    pub(crate) fn zero(&self) -> Option<Zero>
+        ensures { result ≡ zero_of self.now.verdict.first }
+    {
+        zero_by(&self.verdict.first)
+    }
+
+    /// The verdict on lines of these names, of which there are five at most. What else is said
+    /// stands in front of its lines, or as further keys of its object.
+    pub(crate) fn judged(
+        &self,
+        alloc: Global,
+        names: &[Vec<u8>],
+        said: &str,
+    ) -> Result<Judged, AllocError>
         ensures text { IfOk result (λ judged. (lines : List LineSeenOf)
-            × IsVerdictText self.now.as_json self.now.verdict lines (string_bytes judged.text)) }
+            × IsVerdictText said.now self.now.as_json self.now.verdict lines
+            (string_bytes judged.text)) }
         ensures decided { IfOk result (λ judged. (n : ℕ) (seconds : List SecondOf)
             → IsVerdictOf self.now.verdict n seconds
             → judged.is_decided ≡ is_some (first_agreed seconds)) }
     {
         let lines = self.lines_seen(alloc, names)?;
-        let text = self.text(alloc, lines.as_slice())?;
+        let text = self.text(alloc, lines.as_slice(), said)?;
         Ok(Judged {
             text,
             is_decided: self.verdict.is_decided(),
@@ -136,14 +151,15 @@ impl Hearing {
         Ok(lines)
     }
 
-    fn text(&self, alloc: Global, lines: &[LineSeen<'_>]) -> Result<String, AllocError>
-        ensures { IfOk result (λ text.
-            IsVerdictText self.now.as_json self.now.verdict lines.now (string_bytes text)) }
+    fn text(&self, alloc: Global, lines: &[LineSeen<'_>], said: &str) -> Result<String, AllocError>
+        ensures { IfOk result (λ text. IsVerdictText said.now self.now.as_json self.now.verdict
+            lines.now (string_bytes text)) }
     {
         let mut text = String::new(alloc);
         if self.as_json {
-            push_json(&mut text, &self.verdict, lines)?;
+            push_json(&mut text, &self.verdict, lines, said)?;
         } else {
+            text.push_str(said)?;
             push_verdict(&mut text, &self.verdict, lines)?;
         }
         Ok(text)

@@ -1,15 +1,20 @@
 //! A recording of lines, judged: which of its wires are judged, and what is said of them.
 //!
-//! [`judge`] reads a recording from a device in pieces, in memory that does not grow with it, and answers
-//! its verdict, or why it is refused. [`Reading`] is the same for bytes that come by themselves.
+//! [`judge`] reads a recording from a device in pieces, in memory that does not grow with it, and
+//! answers its verdict, or why it is refused. [`Reading`] is the same for bytes that come by
+//! themselves, and [`judge_record`] reads a disturbance record from two devices, and judges its
+//! stamp too.
 #![tactic(auto)]
 
 mod asked;
 mod channels;
 mod fault;
 mod hearing;
+mod names;
 mod reading;
+mod record;
 mod run;
+mod stamp;
 mod why;
 
 pub use asked::Asked;
@@ -17,5 +22,6 @@ pub use channels::ChannelFault;
 pub use fault::JudgeFault;
 pub use hearing::Judged;
 pub use reading::Reading;
+pub use record::judge_record;
 pub use run::judge;
 pub use why::why_refused;

@@ -1,18 +1,18 @@
 //! A recording that comes in pieces.
 
-ghost use Rattle.std.specs.Prelude.{◌≡◌, ◌<◌, ◌++◌, [], All, IsTrue, IfErr, IfOk, List, ℕ, length};
+ghost use Rattle.std.specs.Prelude.{◌≡◌, ◌++◌, [], IsTrue, IfErr, IfOk, List, ℕ};
 ghost use Rattle.record_vcd.specs.Sections.{is_over};
 ghost use Rattle.report_judge.specs.declared.asked.Asked.{Asked as AskedOf};
 ghost use Rattle.report_judge.specs.declared.fault.JudgeFault.TheVariants.{Dump};
 ghost use Rattle.report_judge.specs.Channels.{channel_bytes};
-ghost use Rattle.report_judge.specs.Readings.{HasReadBelow, HasReadHead, HasReadTo, IsChannelFault, JudgedWhole, RefusedBy, RefusedFrom, begins_dump};
+ghost use Rattle.report_judge.specs.Readings.{HasReadBelow, HasReadHead, HasReadTo, JudgedWhole, RefusedBy, RefusedFrom, begins_dump};
 
 use crate::asked::Asked;
-use crate::channels::{ChannelFault, places_of};
+use crate::channels::places_named;
 use crate::fault::JudgeFault;
 use crate::hearing::{Hearing, Judged};
-use crate::why::names_of;
-use record_vcd::{Changes, Fault, Head, HeadFault, Wire};
+use crate::names::{listed, names_at, wire_names};
+use record_vcd::{Changes, Fault, Head, HeadFault};
 use std::alloc::{AllocError, Global};
 
 /// A recording as far as it was read.
@@ -145,11 +145,15 @@ impl Below {
         ensures refuses { IfErr result (λ fault. (text : List ℕ) → HasReadHead text head
             → RefusedFrom (channel_bytes asked.now.channels) text fault) }
     {
-        let places = match places_of(head.wires(), asked.channels) {
+        let all = wire_names(alloc, head.wires())?;
+        let places = match places_named(all.as_slice(), asked.channels) {
             Ok(places) => places,
-            Err(fault) => return Err(fault_of(alloc, head.wires(), fault)),
+            Err(fault) => {
+                let there = listed(alloc, all.as_slice())?;
+                return Err(JudgeFault::Channels(fault, there));
+            }
         };
-        let names = names_at(alloc, head.wires(), places.as_slice())?;
+        let names = names_at(alloc, all.as_slice(), places.as_slice())?;
         let changes = Changes::new(alloc, head, places.as_slice())?;
         let hearing = Hearing::new(alloc, places.len(), asked)?;
         Ok(Below {
@@ -190,30 +194,7 @@ impl Below {
         let end = changes.end()?;
         hearing.hear(end.levels);
         hearing.end(end.time_ns);
-        let judged = hearing.judged(alloc, names.as_slice())?;
+        let judged = hearing.judged(alloc, names.as_slice(), "")?;
         Ok(judged)
-    }
-}
-
-// The names of the wires at these places.
-fn names_at(alloc: Global, wires: &[Wire], places: &[usize]) -> Result<Vec<Vec<u8>>, AllocError>
-    requires { All (λ place. place < length wires.now) places.now }
-{
-    let mut names = Vec::new(alloc);
-    for &place in places {
-        let mut name = Vec::new(alloc);
-        name.extend_from_slice(wires[place].name.as_slice())?;
-        names.push(name)?;
-    }
-    Ok(names)
-}
-
-// What is said of wires that are not judged.
-fn fault_of(alloc: Global, wires: &[Wire], fault: ChannelFault) -> JudgeFault
-    ensures { IsChannelFault fault result }
-{
-    match names_of(alloc, wires) {
-        Ok(names) => JudgeFault::Channels(fault, names),
-        Err(_) => JudgeFault::Memory,
     }
 }

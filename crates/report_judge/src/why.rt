@@ -2,13 +2,12 @@
 
 use crate::channels::ChannelFault;
 use crate::fault::JudgeFault;
+use crate::names::push_name;
+use record_comtrade::{Field, Reason as SampleReason, RowFault, RowField, SampleFault};
 use record_levels::TimeFault;
 use record_text::field_of;
-use record_vcd::{Fault, HeadFault, Reason, Wire};
+use record_vcd::{Fault, HeadFault, Reason};
 use std::alloc::{AllocError, Global};
-
-// So many names are said at most.
-const MOST_NAMES: usize = 32;
 
 /// Why a recording is refused, in a line, where the lines that were asked for have these names.
 pub fn why_refused(
@@ -20,9 +19,21 @@ pub fn why_refused(
     match fault {
         JudgeFault::Channels(fault, names) => {
             let asked = channels.unwrap_or("");
-            push_channel_fault(&mut text, *fault, asked.as_bytes(), names.as_str())?;
+            push_channel_fault(&mut text, *fault, asked.as_bytes(), names.as_str(), &WIRES)?;
+        }
+        JudgeFault::Digitals(fault, names) => {
+            let asked = channels.unwrap_or("");
+            push_channel_fault(
+                &mut text,
+                *fault,
+                asked.as_bytes(),
+                names.as_str(),
+                &DIGITALS,
+            )?;
         }
         JudgeFault::Dump(fault) => push_dump_fault(&mut text, *fault)?,
+        JudgeFault::Config(fault) => push_config_fault(&mut text, *fault)?,
+        JudgeFault::Sample(fault) => push_sample_fault(&mut text, *fault)?,
         other => text.push_str(words_of(other))?,
     }
     Ok(text)
@@ -40,6 +51,7 @@ fn words_of(fault: &JudgeFault) -> &'static str {
         JudgeFault::Head(_) => "it has no $timescale, as a value change dump has",
         JudgeFault::Endless => "it does not end",
         JudgeFault::Read => "it could not be read to its end",
+        JudgeFault::ReadSamples => "its samples could not be read to their end",
         _ => "out of memory",
     }
 }
@@ -54,15 +66,88 @@ fn push_dump_fault(text: &mut String, fault: Fault) -> Result<(), AllocError> {
     write!(text, "line {}: {reason}", fault.line)
 }
 
+fn push_config_fault(text: &mut String, fault: record_comtrade::Fault) -> Result<(), AllocError> {
+    let line = fault.line;
+    let reason = match fault.field {
+        Field::Missing => return write!(text, "its configuration ends before line {line}"),
+        Field::Line => "it is longer than 1,020 bytes",
+        Field::Edition => "its edition is no year up to 9,999",
+        Field::AnalogCount => "its number of analog channels is none up to 999,999, as 4A",
+        Field::DigitalCount => "its number of digital channels is none up to 999,999, as 2D",
+        Field::RateCount => "its number of rates is none up to 999",
+        Field::Rate => "its rate is no number",
+        Field::LastSample =>
+            "its last sample is no number, or does not lie after that of the rate above",
+        Field::Samples => "its samples are none of ASCII, BINARY, BINARY32 and FLOAT32",
+        Field::Multiple => "its multiple of times is no number",
+    };
+    write!(text, "line {line} of its configuration: {reason}")
+}
+
+fn push_sample_fault(text: &mut String, fault: SampleFault) -> Result<(), AllocError> {
+    let sample = fault.sample;
+    let reason = match fault.reason {
+        SampleReason::Row(row) => return push_row_fault(text, row),
+        SampleReason::Last => {
+            return write!(
+                text,
+                "its samples end after {sample}, before the last one that its configuration names: they are cut off"
+            );
+        }
+        SampleReason::NoTime => "it has no time, and a rate of samples is 0",
+        SampleReason::Time(TimeFault::Beyond) => "its time is 1,000 hours or more after the first",
+        SampleReason::Time(TimeFault::Back) => "its time lies before that of a sample before it",
+        SampleReason::Time(TimeFault::Gap) => "its time lies more than a day after the last level",
+    };
+    write!(text, "sample {sample}: {reason}")
+}
+
+fn push_row_fault(text: &mut String, fault: RowFault) -> Result<(), AllocError> {
+    let line = fault.line;
+    let reason = match fault.field {
+        RowField::Line => "it is longer than 64 MB",
+        RowField::Number => "its number is none below 2^32",
+        RowField::Time => "its time is no whole number below 2^32 - 1",
+        RowField::Few => "it has fewer fields than the record channels",
+        RowField::Level(place) => {
+            let number = place.saturating_add(1);
+            return write!(
+                text,
+                "line {line} of its samples: digital channel {number} is neither 0 nor 1"
+            );
+        }
+    };
+    write!(text, "line {line} of its samples: {reason}")
+}
+
+// What channels are called.
+struct Called {
+    one: &'static str,
+    none: &'static str,
+}
+
+const WIRES: Called = Called {
+    one: "wire",
+    none: "it has no wire of one bit",
+};
+
+const DIGITALS: Called = Called {
+    one: "channel",
+    none: "it has no digital channel",
+};
+
 fn push_channel_fault(
     text: &mut String,
     fault: ChannelFault,
     channels: &[u8],
     names: &str,
+    called: &Called,
 ) -> Result<(), AllocError> {
     match fault {
         ChannelFault::Unknown(at) => {
-            text.push_str("it has no wire ")?;
+            text.push_str("it has no ")?;
+            text.push_str(called.one)?;
+            text.push_str(" ")?;
             push_name(text, field_of(channels, at))?;
             write!(text, "; it has {names}")
         }
@@ -71,7 +156,7 @@ fn push_channel_fault(
             push_name(text, field_of(channels, at))?;
             text.push_str(" twice")
         }
-        ChannelFault::Count(0) => text.push_str("it has no wire of one bit"),
+        ChannelFault::Count(0) => text.push_str(called.none),
         ChannelFault::Count(2) => write!(
             text,
             "two lines cannot outvote each other: --channels has to name one, three or five of {names}"
@@ -81,32 +166,4 @@ fn push_channel_fault(
             "{count} lines are not judged: --channels has to name one, three or five of {names}"
         ),
     }
-}
-
-/// The names of wires, with a comma between two, as they can be printed.
-pub(crate) fn names_of(alloc: Global, wires: &[Wire]) -> Result<String, AllocError> {
-    let mut text = String::new(alloc);
-    for (at, wire) in wires.iter().enumerate() {
-        if at == MOST_NAMES {
-            write!(text, " and {} more", wires.len() - at)?;
-            return Ok(text);
-        }
-        if at > 0 {
-            text.push_str(", ")?;
-        }
-        push_name(&mut text, wire.name.as_slice())?;
-    }
-    Ok(text)
-}
-
-// A name, as it can be printed.
-fn push_name(text: &mut String, name: &[u8]) -> Result<(), AllocError> {
-    for &byte in name {
-        if (0x20..0x7f).contains(&byte) && byte != b'\\' {
-            text.push(char::from(byte))?;
-        } else {
-            write!(text, "\\x{byte:02x}")?;
-        }
-    }
-    Ok(())
 }

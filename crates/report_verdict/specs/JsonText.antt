@@ -195,10 +195,18 @@ json_stretches v =
 
 -- what was seen on lines
 unfoldable pub json_lines : List LineSeen → List ℕ
-json_lines lines = codes ",\"lines\":[" ++ (joined json_line lines ++ codes "]}\n")
+json_lines lines = codes ",\"lines\":[" ++ (joined json_line lines ++ codes "]")
 
--- the object
-abbrev pub json_text : Verdict → List LineSeen → List ℕ
-json_text v lines =
+-- its keys
+abbrev pub json_keys : Verdict → List LineSeen → List ℕ
+json_keys v lines =
     json_decided (is_some v.first) ++ (json_seconds v.agreed ++ (json_others v ++ (json_times v
     ++ (json_stretches v ++ json_lines lines))))
+
+-- further keys, each behind a comma, and its end
+unfoldable pub json_end : (further : List ℕ) → List ℕ
+json_end further = further ++ codes "}\n"
+
+-- the object
+abbrev pub json_text : Verdict → List LineSeen → (further : List ℕ) → List ℕ
+json_text v lines further = json_keys v lines ++ json_end further

@@ -11,9 +11,11 @@ ghost use Rattle.report_verdict.specs.JsonText.{
   json_counts,
   json_decided,
   json_detail,
+  json_end,
   json_fault,
   json_instant,
   json_inverted,
+  json_keys,
   json_kind,
   json_line,
   json_lines,
@@ -46,17 +48,27 @@ use report_log::Offset;
 use std::alloc::AllocError;
 use text_faults::number_of;
 
-/// Pushes a verdict as one object of JSON on one line, with times in whole microseconds. It has the keys
-/// `decided`, `seconds`, `without_vote`, `apart_us`, `first` and `last` (`utc` and `edge_us`, or null),
-/// `zero` (null if it is not known), `stretches` (those that ended), `more` (how many more did), `open`
-/// (by line 0 to 4, or null) and `lines`. It fails only if there is no memory.
+/// Pushes a verdict as one object of JSON on one line, with times in whole microseconds. It has the
+/// keys `decided`, `seconds`, `without_vote`, `apart_us`, `first` and `last` (`utc` and `edge_us`,
+/// or null), `zero` (null if it is not known), `stretches` (those that ended), `more` (how many
+/// more did), `open` (by line 0 to 4, or null) and `lines`, and then further keys with their
+/// values, which are given, each behind a comma. It fails only if there is no memory.
 pub fn push_json(
     text: &mut String,
     verdict: &Verdict,
     lines: &[LineSeen<'_>],
+    further: &str,
 ) -> Result<(), AllocError>
     ensures { OnOk result (string_bytes text.new
-        ≡ string_bytes text.old ++ json_text verdict.now lines.now) }
+        ≡ string_bytes text.old ++ json_text verdict.now lines.now further.now) }
+{
+    push_keys(text, verdict, lines)?;
+    push_end(text, further)
+}
+
+fn push_keys(text: &mut String, verdict: &Verdict, lines: &[LineSeen<'_>]) -> Result<(), AllocError>
+    ensures { OnOk result (string_bytes text.new
+        ≡ string_bytes text.old ++ json_keys verdict.now lines.now) }
 {
     push_decided(text, verdict.first.is_some())?;
     push_seconds(text, verdict.agreed)?;
@@ -64,6 +76,16 @@ pub fn push_json(
     push_times(text, verdict)?;
     push_stretches(text, verdict)?;
     push_lines(text, lines)
+}
+
+// Further keys, and the end of the object.
+#[tactic(auto, unfolding(crate::specs::JsonText::json_end))]
+fn push_end(text: &mut String, further: &str) -> Result<(), AllocError>
+    ensures { OnOk result (string_bytes text.new
+        ≡ string_bytes text.old ++ json_end further.now) }
+{
+    text.push_str(further)?;
+    text.push_str("}\n")
 }
 
 #[tactic(auto, unfolding(crate::specs::JsonText::json_decided))]
@@ -319,7 +341,7 @@ fn push_lines(text: &mut String, lines: &[LineSeen<'_>]) -> Result<(), AllocErro
 {
     text.push_str(",\"lines\":[")?;
     push_seen(text, lines)?;
-    text.push_str("]}\n")
+    text.push_str("]")
 }
 
 fn push_seen(text: &mut String, lines: &[LineSeen<'_>]) -> Result<(), AllocError>
@@ -350,7 +372,7 @@ fn push_named(text: &mut String, name: &[u8]) -> Result<(), AllocError>
     ensures { OnOk result (string_bytes text.new ≡ string_bytes text.old ++ json_named name.now) }
 {
     text.push_str("{\"name\":\"")?;
-    push_name(text, name)?;
+    push_json_part(text, name)?;
     text.push_str("\"")
 }
 
@@ -377,10 +399,13 @@ fn push_counts(text: &mut String, counts: &Counts) -> Result<(), AllocError>
     )
 }
 
-fn push_name(text: &mut String, name: &[u8]) -> Result<(), AllocError>
-    ensures { OnOk result (string_bytes text.new ≡ string_bytes text.old ++ json_name name.now) }
+/// Pushes any bytes as a part of a string of JSON: plain ASCII as it is, but for the quotation mark
+/// and the backslash, and any other byte as the character of its number. It fails only if there is
+/// no memory.
+pub fn push_json_part(text: &mut String, part: &[u8]) -> Result<(), AllocError>
+    ensures { OnOk result (string_bytes text.new ≡ string_bytes text.old ++ json_name part.now) }
 {
-    for byte in name {
+    for byte in part {
         push_byte(text, *byte)?;
     }
     Ok(())

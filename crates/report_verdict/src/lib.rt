@@ -10,6 +10,6 @@ mod number_text;
 mod stretch_text;
 mod text;
 
-pub use json::push_json;
+pub use json::{push_json, push_json_part};
 pub use line_seen::LineSeen;
 pub use text::push_verdict;

@@ -25,6 +25,8 @@ mod readers;
 #[cfg(test)]
 mod recorded;
 #[cfg(test)]
+mod samples;
+#[cfg(test)]
 mod stamps;
 #[cfg(test)]
 mod texts;

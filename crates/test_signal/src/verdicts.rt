@@ -247,10 +247,15 @@ G \\x1b[2J\\x5c: 700 pulses, 7 frames, 0 out of step, inverted
 #[test]
 fn a_verdict_is_an_object(rt: HostRuntime) -> Result<(), Fail> {
     let mut text = String::new(rt.alloc());
-    push_json(&mut text, &late_then_faulty(), &[LINE, LINE])?;
+    push_json(
+        &mut text,
+        &late_then_faulty(),
+        &[LINE, LINE],
+        ",\"stamp\":null",
+    )?;
     assert!(rt;
         text.as_str()
-            == "{\"decided\":true,\"seconds\":3,\"without_vote\":0,\"apart_us\":300,\"first\":{\"utc\":\"2026-11-24T09:30:00Z\",\"edge_us\":1050000},\"last\":{\"utc\":\"2026-11-24T09:30:02Z\",\"edge_us\":3050000},\"zero\":\"2026-11-24T09:29:59.950000Z\",\"stretches\":[{\"line\":1,\"kind\":\"late\",\"least_us\":3200,\"most_us\":3250,\"seconds\":2,\"first\":{\"utc\":\"2026-11-24T09:30:00Z\",\"edge_us\":1050000},\"last\":{\"utc\":\"2026-11-24T09:30:01Z\",\"edge_us\":2050000}}],\"more\":0,\"open\":[null,{\"line\":1,\"kind\":\"faulty\",\"fault\":17,\"seconds\":1,\"first\":{\"utc\":\"2026-11-24T09:30:02Z\",\"edge_us\":3050000},\"last\":{\"utc\":\"2026-11-24T09:30:02Z\",\"edge_us\":3050000}},null,null,null],\"lines\":[{\"name\":\"G \\u001b[2J\\u005c\",\"inverted\":true,\"pulses\":700,\"frames\":7,\"out_of_step\":0},{\"name\":\"G \\u001b[2J\\u005c\",\"inverted\":true,\"pulses\":700,\"frames\":7,\"out_of_step\":0}]}\n"
+            == "{\"decided\":true,\"seconds\":3,\"without_vote\":0,\"apart_us\":300,\"first\":{\"utc\":\"2026-11-24T09:30:00Z\",\"edge_us\":1050000},\"last\":{\"utc\":\"2026-11-24T09:30:02Z\",\"edge_us\":3050000},\"zero\":\"2026-11-24T09:29:59.950000Z\",\"stretches\":[{\"line\":1,\"kind\":\"late\",\"least_us\":3200,\"most_us\":3250,\"seconds\":2,\"first\":{\"utc\":\"2026-11-24T09:30:00Z\",\"edge_us\":1050000},\"last\":{\"utc\":\"2026-11-24T09:30:01Z\",\"edge_us\":2050000}}],\"more\":0,\"open\":[null,{\"line\":1,\"kind\":\"faulty\",\"fault\":17,\"seconds\":1,\"first\":{\"utc\":\"2026-11-24T09:30:02Z\",\"edge_us\":3050000},\"last\":{\"utc\":\"2026-11-24T09:30:02Z\",\"edge_us\":3050000}},null,null,null],\"lines\":[{\"name\":\"G \\u001b[2J\\u005c\",\"inverted\":true,\"pulses\":700,\"frames\":7,\"out_of_step\":0},{\"name\":\"G \\u001b[2J\\u005c\",\"inverted\":true,\"pulses\":700,\"frames\":7,\"out_of_step\":0}],\"stamp\":null}\n"
     );
     Ok(())
 }

@@ -1,15 +1,16 @@
 use Rattle.std.proofs.Common.{◌∙◌, Ok, [], ap, sym, subst, length, rules}
 use Rattle.std.proofs.lemmas.Result.{err_from_is_err_and}
 use Rattle.record_vcd.specs.Sections.{wires_of}
-use Rattle.report_judge.specs.Channels.{channel_bytes, places_of}
+use Rattle.report_judge.specs.Channels.{channel_bytes, names_of}
 use Rattle.report_judge.specs.Hearings.{HasHeard}
-use Rattle.report_judge.proofs.ReadingLaws.{begins-below, refused-channels, refused-head}
+use Rattle.report_judge.proofs.ReadingLaws.{begins-below, chosen-by-name, places-are, refused-head}
 use Rattle.report_judge.proofs.reading.Below.new.Goals as goal
 
 pub returns-in-Err-clause-refuses : goal.returns-in-Err-clause-refuses
-returns-in-Err-clause-refuses c = λ text h.
-    refused-channels (channel_bytes c.args.asked.now.channels) text c.args.head c.in-Err.fault c.fault_of.result h c.requires
-    (ap (λ w. places_of (wires_of w) (channel_bytes c.args.asked.now.channels)) (sym c.wires.ensures) ∙ c.in-Err.ensures.places) c.fault_of.ensures
+returns-in-Err-clause-refuses c = λ text h more.
+    places-are (channel_bytes c.args.asked.now.channels) text c.args.head more _ h c.requires
+    (chosen-by-name (channel_bytes c.args.asked.now.channels) c.args.head.wires.items c.in_ok-all.all.items _
+    (c.in_ok-all.ensures.names ∙ ap (λ w. names_of (wires_of w)) c.wires.ensures) (search rules))
 
 pub returns-in_err-changes-clause-refuses : goal.returns-in_err-changes-clause-refuses
 returns-in_err-changes-clause-refuses c =
@@ -18,6 +19,7 @@ returns-in_err-changes-clause-refuses c =
 
 pub returns-clause-reads : goal.returns-clause-reads
 returns-clause-reads c = λ text h.
-    begins-below c.args.asked.now text c.args.head c.as_slice-2.result.now _ h c.in_ok-changes.ensures.ready
-    (ap (λ w. places_of (wires_of w) (channel_bytes c.args.asked.now.channels)) (sym c.wires.ensures) ∙ c.in-Ok.ensures.places ∙ ap Ok (sym c.as_slice-2.ensures.value))
-    c.in_ok-changes.ensures.says (subst (λ n. HasHeard c.args.asked.now n [] c.in_ok-hearing.hearing) {x = c.len.result} {y = length c.as_slice-2.result.now} (search rules) c.in_ok-hearing.ensures)
+    begins-below c.args.asked.now text c.args.head c.as_slice-4.result.now _ h c.in_ok-changes.ensures.ready
+    (chosen-by-name (channel_bytes c.args.asked.now.channels) c.args.head.wires.items c.in_ok-all.all.items _
+    (c.in_ok-all.ensures.names ∙ ap (λ w. names_of (wires_of w)) c.wires.ensures) (search rules))
+    c.in_ok-changes.ensures.says (subst (λ n. HasHeard c.args.asked.now n [] c.in_ok-hearing.hearing) {x = c.len.result} {y = length c.as_slice-4.result.now} (search rules) c.in_ok-hearing.ensures)

@@ -1,0 +1,4 @@
+pub mod Rows
+pub mod Readers
+pub mod Records
+pub mod Order

@@ -1,0 +1,14 @@
+//! The samples of a disturbance record, COMTRADE of 1991, 1999 and 2013, in pieces: whether they are
+//! numbers or rows of a text, [`Samples`] reads them.
+#![tactic(auto)]
+
+mod channels;
+mod course;
+mod fields;
+mod laws;
+mod row;
+mod rows;
+mod samples;
+
+pub use laws::{changes_are_those_of_the_file, levels_are_in_order, pieces_do_not_matter};
+pub use samples::{End, Samples};
