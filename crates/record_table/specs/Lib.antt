@@ -1,0 +1,11 @@
+pub mod Cells
+pub mod Remarks
+pub mod Rates
+pub mod Units
+pub mod Titles
+pub mod Heads
+pub mod Whens
+pub mod Rows
+pub mod Changes
+pub mod Tables
+pub mod Order

@@ -1,0 +1,23 @@
+//! The name of a channel.
+
+ghost use Rattle.std.specs.Prelude.{◌≡◌, ◌∷◌, ◌++◌, [], IfOk};
+ghost use Rattle.record_table.specs.Titles.{names_of};
+
+use std::alloc::{AllocError, Global};
+
+/// The name of a channel, as it stands above its column.
+#[derive(Drop)]
+pub struct Name {
+    /// Its bytes, without blanks and quotes round it.
+    pub bytes: Vec<u8>,
+}
+
+/// Adds a name.
+pub(crate) fn add(alloc: Global, names: &mut Vec<Name>, text: &[u8]) -> Result<(), AllocError>
+    ensures { IfOk result (λ _. names_of names.new.items ≡ names_of names.old.items ++ text.now ∷ []) }
+{
+    let mut bytes = Vec::new(alloc);
+    bytes.extend_from_slice(text)?;
+    names.push(Name { bytes })?;
+    Ok(())
+}

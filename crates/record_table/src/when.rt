@@ -1,0 +1,121 @@
+//! When a row is.
+
+ghost use Rattle.std.specs.Prelude.{◌≡◌, ◌+◌, ◌*◌, ◌/◌, ◌^◌, ◌≤◌, false};
+ghost use Rattle.record_text.specs.Signed.{IsSmall};
+ghost use Rattle.record_table.specs.Whens.{below_end, row_ns, scaled, signed, when_by, when_of};
+
+use crate::row::Reason;
+use crate::unit::Unit;
+use record_levels::TimeFault;
+use record_text::{Decimal, decimal_of};
+
+/// Nanoseconds of 1,000 hours.
+pub(crate) const END_NS: u64 = 3_600_000_000_000_000;
+
+/// A time, less than 1,000 hours before or after that of 0.
+#[derive(Clone, Copy, PartialEq, Eq)]
+pub(crate) enum When {
+    /// So many nanoseconds after it.
+    After(u64),
+    /// So many nanoseconds before it.
+    Before(u64),
+}
+
+/// The time that a cell says.
+pub(crate) fn when_of(unit: Unit, cell: &[u8]) -> Result<When, Reason>
+    ensures { result ≡ when_of unit cell.now }
+{
+    match decimal_of(cell) {
+        Some(decimal) => when_by(decimal.is_minus, scaled_ns(unit.power(), decimal)),
+        None => Err(Reason::BadTime),
+    }
+}
+
+/// The time of a row by the rate of samples, where so many rows stand above it.
+pub(crate) fn when_by_rate(rows: u64, rate: u128) -> Result<When, Reason>
+    ensures { result ≡ when_by false (row_ns rows rate) }
+{
+    when_by(false, row_ns(rows, rate))
+}
+
+fn when_by(is_minus: bool, time_ns: Option<u64>) -> Result<When, Reason>
+    ensures { result ≡ when_by is_minus time_ns }
+{
+    match time_ns {
+        Some(time_ns) => Ok(signed(is_minus, time_ns)),
+        None => Err(Reason::Time(TimeFault::Beyond)),
+    }
+}
+
+fn signed(is_minus: bool, time_ns: u64) -> When
+    ensures { result ≡ signed is_minus time_ns }
+{
+    if is_minus {
+        When::Before(time_ns)
+    } else {
+        When::After(time_ns)
+    }
+}
+
+// A decimal number of units in nanoseconds, rounded down.
+fn scaled_ns(power: u64, decimal: Decimal) -> Option<u64>
+    requires power { power ≤ 15 }
+    requires small { IsSmall decimal }
+    ensures { result ≡ below_end (scaled decimal.number (decimal.up + power) (decimal.down + 6)) }
+{
+    let up = decimal.up + power;
+    let down = decimal.down + 6;
+    if down <= up {
+        raised(decimal.number, up - down)
+    } else {
+        below_end(lowered(decimal.number, down - up))
+    }
+}
+
+fn below_end(time_ns: u64) -> Option<u64>
+    ensures { result ≡ below_end time_ns }
+{
+    if time_ns < END_NS {
+        Some(time_ns)
+    } else {
+        None
+    }
+}
+
+fn raised(number: u64, power: u64) -> Option<u64>
+    ensures { result ≡ below_end (number * 10 ^ power) }
+{
+    let mut number = number;
+    for _place in 0..power {
+        if number >= END_NS {
+            return None;
+        }
+        number *= 10;
+    }
+    below_end(number)
+}
+
+fn lowered(number: u64, power: u64) -> u64
+    ensures { result ≡ number / 10 ^ power }
+{
+    let mut number = number;
+    for _place in 0..power {
+        number /= 10;
+    }
+    number
+}
+
+// So many samples in nanoseconds.
+fn row_ns(rows: u64, rate: u128) -> Option<u64>
+    ensures { result ≡ row_ns rows rate }
+{
+    if rate == 0 {
+        return Some(0);
+    }
+    let time_ns = u128::from(rows) * 1_000_000_000_000_000 / rate;
+    if time_ns < u128::from(END_NS) {
+        Some(time_ns as u64)
+    } else {
+        None
+    }
+}
