@@ -60,33 +60,33 @@ with-stands last now high h =
     [ true ↦ h | false ↦ (h.0, refl) ]
 
 -- the levels as they stand at another time
-abbrev moved : (is_due : Bool) → (rows start high next : ℕ) → (levels : Option ℕ) → Now
-moved is_due rows start high next levels = record { rows = rows; start_ns = start; time_ns = next; high = high; is_due = is_due; levels_ns = levels }
+abbrev moved : (is_due : Bool) → (rows step start high next : ℕ) → (levels : Option ℕ) → Now
+moved is_due rows step start high next levels = record { rows = rows; step = step; start_ns = start; time_ns = next; high = high; is_due = is_due; levels_ns = levels }
 
-goes-by : (is_due is_later : Bool) (last : Option ℕ) (rows start time high new next : ℕ) (levels : Option ℕ) → nat_lt time next ≡ is_later
+goes-by : (is_due is_later : Bool) (last : Option ℕ) (rows step start time high new next : ℕ) (levels : Option ℕ) → nat_lt time next ≡ is_later
     → Follows last time → levels ≡ (if is_due then Some time else last) → time ≤ next → next < end_ns → IsWithinDay levels next
-    → StepFits last (if is_due && is_later then Says (record { time_ns = time; high = high }) (with_high (moved false rows start high next levels) new)
-    else Goes (with_high (moved is_due rows start high next levels) new))
-goes-by true true last rows start time high new next levels later h is le below near =
+    → StepFits last (if is_due && is_later then Says (record { time_ns = time; high = high }) (with_high (moved false rows step start high next levels) new)
+    else Goes (with_high (moved is_due rows step start high next levels) new))
+goes-by true true last rows step start time high new next levels later h is le below near =
     let P : Option ℕ → Type 0 = λ l. IsWithinDay l next in
-    (h, with-stands (Some time) (moved false rows start high next levels) new ((ltb-true time next later, subst P is near, below), is))
-goes-by true false last rows start time high new next levels later h is le below near =
+    (h, with-stands (Some time) (moved false rows step start high next levels) new ((ltb-true time next later, subst P is near, below), is))
+goes-by true false last rows step start time high new next levels later h is le below near =
     let same : time ≡ next = le_antisymm le (ltb-false time next later) in
     let P : ℕ → Type 0 = λ t. Follows last t in
-    with-stands last (moved true rows start high next levels) new (subst P same h, is ∙ ap Some same)
-goes-by false true last rows start time high new next levels later h is le below near =
+    with-stands last (moved true rows step start high next levels) new (subst P same h, is ∙ ap Some same)
+goes-by false true last rows step start time high new next levels later h is le below near =
     let P : Option ℕ → Type 0 = λ l. IsWithinDay l next in
-    with-stands last (moved false rows start high next levels) new (follows-later last time next h le below (subst P is near), is)
-goes-by false false last rows start time high new next levels later h is le below near =
+    with-stands last (moved false rows step start high next levels) new (follows-later last time next h le below (subst P is near), is)
+goes-by false false last rows step start time high new next levels later h is le below near =
     let P : Option ℕ → Type 0 = λ l. IsWithinDay l next in
-    with-stands last (moved false rows start high next levels) new (follows-later last time next h le below (subst P is near), is)
+    with-stands last (moved false rows step start high next levels) new (follows-later last time next h le below (subst P is near), is)
 
 at-fits : (last : Option ℕ) (now : Now) (line high next : ℕ) (fault : Option TimeFault) → time_fault now.time_ns now.levels_ns next ≡ fault
     → Stands last now → StepFits last (heard_at now line high next fault)
 at-fits last now line high next (Some fault) e h = tt
 at-fits last now line high next None e h =
     let a = allowed now.time_ns now.levels_ns next e in
-    goes-by now.is_due (nat_lt now.time_ns next) last now.rows now.start_ns now.time_ns now.high high next now.levels_ns refl h.0 h.1 a.0 a.1 a.2
+    goes-by now.is_due (nat_lt now.time_ns next) last now.rows now.step now.start_ns now.time_ns now.high high next now.levels_ns refl h.0 h.1 a.0 a.1 a.2
 
 since-fits : (last : Option ℕ) (now : Now) (line high : ℕ) (time : Result ℕ TimeFault) → Stands last now → StepFits last (heard_since now line high time)
 since-fits last now line high (Err fault) h = tt
@@ -94,12 +94,12 @@ since-fits last now line high (Ok next) h = at-fits last now line high next (tim
 
 heard-fits : (last : Option ℕ) (now : Now) (line : ℕ) (row : Result Row Reason) → Stands last now → StepFits last (heard now line row)
 heard-fits last now line (Err reason) h = tt
-heard-fits last now line (Ok row) h = since-fits last (counted now row.when) line row.high (since (counted now row.when).start_ns row.when) h
+heard-fits last now line (Ok row) h = since-fits last (counted now row) line row.high (since (counted now row).start_ns row.when) h
 
 step-fits : (last : Option ℕ) (plan : Plan) (now : Now) (line : Line) → Stands last now → StepFits last (step plan now line)
 step-fits last plan now line h =
-    elim (is_remark line.text) as (λ b. StepFits last (if b then Goes now else heard now line.number (row_of plan.clock plan.columns plan.chosen now.rows line.text)))
-    [ true ↦ h | false ↦ heard-fits last now line.number (row_of plan.clock plan.columns plan.chosen now.rows line.text) h ]
+    elim (is_remark line.text) as (λ b. StepFits last (if b then Goes now else heard now line.number (row_of plan.clock plan.columns plan.chosen now.rows now.step line.text)))
+    [ true ↦ h | false ↦ heard-fits last now line.number (row_of plan.clock plan.columns plan.chosen now.rows now.step line.text) h ]
 
 by-step : (last : Option ℕ) (step : Step) (others : Now → List Said) → StepFits last step
     → ((next : Now) (newest : Option ℕ) → Stands newest next → AreInOrder newest (others next)) → AreInOrder last (said_by step others)

@@ -1,12 +1,13 @@
 -- What tables say, at known values.
-use Rattle.std.proofs.Common.{◌≡◌, ℕ, true, false, List, [], ◌∷◌, ◌++◌, Some, None, refl}
+use Rattle.std.proofs.Common.{◌≡◌, ℕ, true, false, ap, arith, List, [], ◌∷◌, ◌++◌, Some, None, refl}
 use Rattle.std.specs.Prelude.{codes, Ok, Err}
+use Rattle.std.proofs.lemmas.Fmt.{decimal_digit}
 use Rattle.record_levels.specs.declared.limits.TimeFault.TheVariants.{Beyond, Back, Gap}
 use Rattle.record_text.specs.Lines.{lines_of}
 use Rattle.record_table.specs.declared.clock.Clock.TheVariants.{Times}
 use Rattle.record_table.specs.declared.head.Stage.TheVariants.{Above, Below}
 use Rattle.record_table.specs.declared.row.Reason.{Reason}
-use Rattle.record_table.specs.declared.row.Reason.TheVariants.{BadTime, Columns, Level, NoRow, Time}
+use Rattle.record_table.specs.declared.row.Reason.TheVariants.{BadTime, Columns, Level, NoRow, NoStep, Time}
 use Rattle.record_table.specs.declared.title.HeadReason.TheVariants.{NoChannel, NoTimes}
 use Rattle.record_table.specs.declared.title.HeadReason.TheVariants.{Rate as NoRate}
 use Rattle.record_table.specs.declared.title.HeadReason.TheVariants.{Unit as NoUnit}
@@ -16,6 +17,7 @@ use Rattle.record_table.specs.declared.unit.Column.TheVariants.{Times as HasTime
 use Rattle.record_table.specs.declared.when.When.TheVariants.{After, Before}
 use Rattle.record_table.specs.Cells.{level_of}
 use Rattle.record_table.specs.Rates.{rate_of}
+use Rattle.record_table.specs.Titles.{numbered}
 use Rattle.record_table.specs.Units.{column_of}
 use Rattle.record_table.specs.Whens.{row_ns, when_of}
 use Rattle.record_table.specs.Heads.{head_from, refused, top}
@@ -105,6 +107,28 @@ pub known_rows : table_of (0 ∷ 1 ∷ []) (line (codes "; Samplerate: 1 kHz") +
     ≡ Some (levels 0 2 ∷ levels 2000000 3 ∷ Ends 3000000 ∷ [])
 known_rows = refl
 
+pub known_number : numbered 7 ≡ codes "D7"
+known_number = ap (λ d. 68 ∷ d) (decimal_digit 7 (omega arith))
+
+-- the names of two channels that sigrok calls logic stand in a remark, or are numbered
+abbrev logic_text : (remark : List ℕ) → List ℕ
+logic_text remark = line (codes "; Samplerate: 1 MHz") ++ line remark ++ line (codes "logic,logic")
+
+abbrev names_in_text : (text : List ℕ) → List (List ℕ)
+names_in_text text = (head_from top (lines_of text)).head.names
+
+pub known_names : (names_in_text (logic_text (codes "; Channels (2/8): left, right (B)")) ≡ codes "left" ∷ codes "right (B)" ∷ [])
+    × (names_in_text (logic_text (codes "; Channels (3/8): a, b, c")) ≡ numbered 0 ∷ numbered 1 ∷ [])
+    × (names_in_text (logic_text [] ++ line (codes "0,1")) ≡ numbered 0 ∷ numbered 1 ∷ [])
+    × (names_in_text (line (codes "# samplerate: 2 kHz") ++ line (codes "Time,")) ≡ numbered 0 ∷ [])
+    × (names_in_text (line (codes "Time,logic,other")) ≡ codes "logic" ∷ codes "other" ∷ [])
+known_names = (refl, refl, refl, refl, refl)
+
+-- sigrok counts the whole time of one sample from 1 on: 333 ns for a sample of a third of a microsecond
+pub known_steps : table_of (0 ∷ []) (line (codes "; Samplerate: 3 MHz") ++ line (codes "Time,a") ++ line (codes "333,0") ++ line (codes "666,1") ++ line (codes "1332,0"))
+    ≡ Some (levels 0 0 ∷ levels 333 1 ∷ levels 1000 0 ∷ Ends 1000 ∷ [])
+known_steps = refl
+
 -- ---- refusals
 
 -- what was said before stays
@@ -119,8 +143,10 @@ pub known_refusals : (table_of (0 ∷ []) (head_text ++ line (codes "3,0,0,0") +
     × (table_of (1 ∷ []) (head_text ++ codes "3600000000000,0,0,0") ≡ Some (denied 5 (Time Beyond) ∷ []))
     × (table_of (1 ∷ []) (head_text ++ line (codes "0,0,0,0") ++ codes "86400000001,0,0,0") ≡ Some (denied 6 (Time Gap) ∷ []))
     × (table_of (1 ∷ []) (head_text ++ line (codes "0,0,0,0") ++ codes "-1,0,0,0") ≡ Some (denied 6 (Time Back) ∷ []))
+    × (table_of (0 ∷ []) (line (codes "; samplerate: 1 GHz") ++ line (codes "Time,a") ++ codes "0,1") ≡ Some (denied 3 NoStep ∷ []))
+    × (table_of (0 ∷ []) (line (codes "; samplerate: 1 kHz") ++ line (codes "Time,a") ++ line (codes "10,1") ++ codes "9,1") ≡ Some (denied 4 (Time Back) ∷ []))
     × (table_of (1 ∷ []) (head_text ++ line (codes "# no row")) ≡ Some (denied 4 NoRow ∷ []))
-known_refusals = (refl, refl, refl, refl, refl, refl, refl, refl)
+known_refusals = (refl, refl, refl, refl, refl, refl, refl, refl, refl, refl)
 
 -- a table that ends above its names says nothing, nor one that is refused there
 pub known_heads : ((head_from top (lines_of (line (codes "; nothing")))).head.stage ≡ Above)

@@ -37,7 +37,7 @@ pub record Plan : Type 0 where
 
 -- before the first row
 abbrev pub start : Now
-start = record { rows = 0; start_ns = 0; time_ns = 0; high = 0; is_due = false; levels_ns = None }
+start = record { rows = 0; step = 0; start_ns = 0; time_ns = 0; high = 0; is_due = false; levels_ns = None }
 
 -- a line is refused
 abbrev pub refusal : (line : ℕ) → Reason → Fault
@@ -59,10 +59,11 @@ start_by (Before time) = time
 start_by (After time) = 0
 
 -- a row more, which may be the first
-abbrev pub counted : Now → When → Now
-counted now when = record now {
+abbrev pub counted : Now → Row → Now
+counted now row = record now {
   rows = next_number now.rows;
-  start_ns = if nat_eq now.rows 0 then start_by when else now.start_ns;
+  step = row.step;
+  start_ns = if nat_eq now.rows 0 then start_by row.when else now.start_ns;
 }
 
 -- how long after the beginning a time is, if that is below 1,000 hours
@@ -99,13 +100,13 @@ heard_since now line high (Ok next) = heard_at now line high next (time_fault no
 abbrev pub heard : Now → (line : ℕ) → Result Row Reason → Step
 heard now line (Err reason) = Refuses (refusal line reason)
 heard now line (Ok row) =
-    heard_since (counted now row.when) line row.high (since (counted now row.when).start_ns row.when)
+    heard_since (counted now row) line row.high (since (counted now row).start_ns row.when)
 
 -- what a line makes of the levels: a remark nothing
 abbrev pub step : Plan → Now → Line → Step
 step plan now line =
     if is_remark line.text then Goes now
-    else heard now line.number (row_of plan.clock plan.columns plan.chosen now.rows line.text)
+    else heard now line.number (row_of plan.clock plan.columns plan.chosen now.rows now.step line.text)
 
 -- a step that says levels leaves some
 abbrev pub HasLevels : Step → Type 0

@@ -1,5 +1,5 @@
 -- What stands above the rows of a table, line by line.
--- Source: this project's profile: remarks, of which the last rate of samples counts, and then the line of names.
+-- Source: this project's profile: remarks, of which the last rate and the last list count, and then the line of names.
 use Rattle.std.specs.Prelude.{ℕ, Bool, true, false, if◌then◌else◌, List, [], ◌∷◌, Option, Some, None, Result, Ok, Err, nat_eq}
 use Rattle.record_text.specs.Lines.{Line, with_line, without_mark}
 use Rattle.record_table.specs.declared.clock.Clock.{Clock}
@@ -9,23 +9,31 @@ use Rattle.record_table.specs.declared.head.Head.{Head}
 use Rattle.record_table.specs.declared.head.Stage.{Stage}
 use Rattle.record_table.specs.declared.head.Stage.TheVariants.{Above, Below, Refused}
 use Rattle.record_table.specs.Rates.{rate_of}
-use Rattle.record_table.specs.Remarks.{is_remark, rate_text}
-use Rattle.record_table.specs.Titles.{first_place, names_from, names_in, names_of, title_clock}
+use Rattle.record_table.specs.Remarks.{is_remark, list_text, rate_text}
+use Rattle.record_table.specs.Titles.{bytes_of, title_clock, title_names}
 
--- a head: the rate of samples and the names that it has, how far it was read, and on which line the names stand
+-- a head: the rate of samples and the list of names that remarks say, the names, how far it was read, and on which
+-- line the names stand
 pub record HeadValue : Type 0 where
   pub rate : Option ℕ
+  pub list : List ℕ
   pub names : List (List ℕ)
   pub stage : Stage
   pub above : ℕ
 
 -- what a reader has of a head
 abbrev pub value_of : Head → HeadValue
-value_of head = record { rate = head.rate; names = names_of head.names.items; stage = head.stage; above = head.above }
+value_of head = record {
+  rate = head.rate;
+  list = head.list.items;
+  names = bytes_of head.names.items;
+  stage = head.stage;
+  above = head.above;
+}
 
 -- of which nothing was read
 abbrev pub top : HeadValue
-top = record { rate = None; names = []; stage = Above; above = 0 }
+top = record { rate = None; list = []; names = []; stage = Above; above = 0 }
 
 -- a head is over: its names were read, or it was refused
 abbrev pub is_over : Stage → Bool
@@ -42,10 +50,15 @@ abbrev pub remarked : HeadValue → (line : ℕ) → (rate : Option ℕ) → Hea
 remarked head line (Some rate) = record head { rate = Some rate }
 remarked head line None = record head { stage = refused line NoRate }
 
--- a remark on a line has this text of a rate, if it has one
-abbrev pub remarked_by : HeadValue → (line : ℕ) → (text : Option (List ℕ)) → HeadValue
-remarked_by head line (Some text) = remarked head line (rate_of text)
-remarked_by head line None = head
+-- a remark has this list of names, if it has one
+abbrev pub listed_by : HeadValue → (list : Option (List ℕ)) → HeadValue
+listed_by head (Some list) = record head { list = list }
+listed_by head None = head
+
+-- a remark on a line has this text of a rate, if it has one, or else this list
+abbrev pub remarked_by : HeadValue → (line : ℕ) → (text list : Option (List ℕ)) → HeadValue
+remarked_by head line (Some text) list = remarked head line (rate_of text)
+remarked_by head line None list = listed_by head list
 
 -- by what rows have their times below the names, or why the line is refused
 abbrev pub titled_by : HeadValue → (line : ℕ) → Result Clock HeadReason → HeadValue
@@ -54,7 +67,7 @@ titled_by head line (Err reason) = record head { stage = refused line reason; ab
 
 -- the names of a line, if it is not refused
 abbrev pub named_by : HeadValue → (text : List ℕ) → Result Clock HeadReason → HeadValue
-named_by head text (Ok clock) = record head { names = names_from (first_place clock) (names_in clock text) text }
+named_by head text (Ok clock) = record head { names = title_names clock text head.list }
 named_by head text (Err reason) = head
 
 -- the line of names has this text
@@ -69,7 +82,7 @@ text_on line text = if nat_eq line 1 then without_mark text else text
 -- what the text of a line makes of a head
 abbrev pub stepped : HeadValue → (line : ℕ) → (text : List ℕ) → HeadValue
 stepped head line text =
-    if is_remark text then remarked_by head line (rate_text text) else titled head line text
+    if is_remark text then remarked_by head line (rate_text text) (list_text text) else titled head line text
 
 -- what a line makes of a head
 abbrev pub step : HeadValue → (line : ℕ) → (text : List ℕ) → HeadValue

@@ -1,8 +1,9 @@
 -- Remarks of a table, and what they say.
--- Source: sigrok's output of tables (; Samplerate: 1 MHz), and this project's profile.
+-- Source: sigrok's output of tables (; Samplerate: 1 MHz, ; Channels (2/8): D0, D1), and this project's profile.
 use Rattle.std.specs.Prelude.{ℕ, Bool, false, ◌&&◌, ◌||◌, if◌then◌else◌, List, [], ◌∷◌, length, take, drop, codes, Option, Some, None, nat_eq, nat_lt}
 use Rattle.std.specs.Str.{str_eq_ignore_ascii_case}
 use Rattle.record_text.specs.Fields.{trimmed}
+use Rattle.record_table.specs.Cells.{before}
 
 -- the sign of a remark: ; # or %
 abbrev pub is_sign : (byte : ℕ) → Bool
@@ -51,3 +52,22 @@ after_word text word =
 -- the text of the rate of samples, if a remark says one
 abbrev pub rate_text : (line : List ℕ) → Option (List ℕ)
 rate_text line = after_word (said_in line) (codes "samplerate:")
+
+-- a list behind a bracket and a colon
+abbrev pub behind_end : (text : List ℕ) → Option (List ℕ)
+behind_end [] = None
+behind_end (a ∷ []) = None
+behind_end (a ∷ b ∷ list) = if nat_eq a 41 && nat_eq b 58 then Some list else None
+
+-- what stands behind the first bracket that ends, and a colon
+abbrev pub behind_bracket : (text : List ℕ) → Option (List ℕ)
+behind_bracket text = behind_end (drop (before 41 41 text) text)
+
+-- the same of what may be there
+abbrev pub list_by : (text : Option (List ℕ)) → Option (List ℕ)
+list_by (Some text) = behind_bracket text
+list_by None = None
+
+-- the names that a remark lists, as ; Channels (2/8): D0, D1
+abbrev pub list_text : (line : List ℕ) → Option (List ℕ)
+list_text line = list_by (after_word (said_in line) (codes "channels ("))

@@ -197,9 +197,9 @@ impl Changes {
         if is_remark(line) {
             return Step::Goes(self.here);
         }
-        let rows = self.here.rows;
+        let here = self.here;
         let chosen = self.chosen.places.as_slice();
-        let row = row_of(self.clock, self.columns, chosen, rows, line);
-        self.here.hear(number, row)
+        let row = row_of(self.clock, self.columns, chosen, here.rows, here.step, line);
+        here.hear(number, row)
     }
 }

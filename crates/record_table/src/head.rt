@@ -1,7 +1,6 @@
 //! What stands above the rows.
 
 ghost use Rattle.std.specs.Prelude.{◌≡◌, ℕ, List, [], ◌∷◌, ◌++◌, take, length, IfOk, IsFalse, Some, None, ◌≤◌};
-ghost use Rattle.record_table.specs.Titles.{names_of};
 ghost use Rattle.record_table.specs.Heads.{head_end, head_end_by, is_over, remarked, step, text_on, titled_by, top, value_of};
 ghost use Rattle.record_table.specs.Tables.{IsAtTop, LeadsOn, fault_of};
 ghost use Rattle.record_table.specs.declared.head.HeadFault.TheVariants.{Memory};
@@ -9,7 +8,7 @@ ghost use Rattle.record_table.specs.declared.head.HeadFault.TheVariants.{Memory}
 use crate::clock::Clock;
 use crate::name::Name;
 use crate::rate::rate_of;
-use crate::remark::{is_remark, rate_text};
+use crate::remark::{is_remark, list_text, rate_text};
 use crate::title::{HeadReason, HeadRefusal, names_of, title_clock};
 use record_text::{Lines, without_mark};
 use std::alloc::{AllocError, Global};
@@ -58,6 +57,7 @@ pub(crate) enum Stage {
 pub struct Head {
     pub(crate) lines: Lines,
     rate: Option<u128>,
+    list: Vec<u8>,
     pub(crate) names: Vec<Name>,
     pub(crate) stage: Stage,
     pub(crate) above: u64,
@@ -71,6 +71,7 @@ impl Head {
         Head {
             lines: Lines::new(),
             rate: None,
+            list: Vec::new(alloc),
             names: Vec::new(alloc),
             stage: Stage::Above,
             above: 0,
@@ -148,12 +149,14 @@ impl Head {
             if let Some(text) = rate_text(line) {
                 let rate = rate_of(text);
                 self.take_rate(number, rate);
+            } else if let Some(list) = list_text(line) {
+                self.list = copied(alloc, list)?;
             }
             return Ok(());
         }
         let clock = title_clock(self.rate, line);
         if let Ok(clock) = clock {
-            self.names = names_of(alloc, clock, line)?;
+            self.names = names_of(alloc, clock, line, self.list.as_slice())?;
         }
         self.take_clock(number, clock);
         Ok(())
@@ -187,6 +190,14 @@ impl Head {
             }),
         };
     }
+}
+
+fn copied(alloc: Global, text: &[u8]) -> Result<Vec<u8>, AllocError>
+    ensures { IfOk result (λ copy. copy.items ≡ text.now) }
+{
+    let mut copy = Vec::new(alloc);
+    copy.extend_from_slice(text)?;
+    Ok(copy)
 }
 
 // The text of a line; the first one may begin with a mark.

@@ -22,6 +22,8 @@ pub struct Fault {
 pub(crate) struct Now {
     /// How many rows there were.
     pub(crate) rows: u64,
+    /// The whole time of one sample, or 0 if none was seen.
+    pub(crate) step: u64,
     /// How long before the time of 0 the recording begins.
     pub(crate) start_ns: u64,
     pub(crate) time_ns: u64,
@@ -47,6 +49,7 @@ impl Now {
     {
         Now {
             rows: 0,
+            step: 0,
             start_ns: 0,
             time_ns: 0,
             high: 0,
@@ -77,19 +80,20 @@ impl Now {
         match row {
             Err(reason) => Step::Refuses(Fault { line, reason }),
             Ok(row) => {
-                let now = self.counted(row.when);
+                let now = self.counted(row);
                 now.hear_since(line, row.high, since(now.start_ns, row.when))
             }
         }
     }
 
-    fn counted(self, when: When) -> Now
-        ensures { result ≡ counted self when }
+    fn counted(self, row: Row) -> Now
+        ensures { result ≡ counted self row }
     {
         Now {
             rows: next_number(self.rows),
+            step: row.step,
             start_ns: if self.rows == 0 {
-                start_by(when)
+                start_by(row.when)
             } else {
                 self.start_ns
             },

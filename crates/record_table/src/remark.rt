@@ -1,8 +1,9 @@
 //! Remarks.
 
 ghost use Rattle.std.specs.Prelude.{◌≡◌, IfSome, IfNone, Some, None};
-ghost use Rattle.record_table.specs.Remarks.{behind_meta, is_remark, rate_text, said_in, begins_remark, after_word};
+ghost use Rattle.record_table.specs.Remarks.{after_word, begins_remark, behind_bracket, behind_meta, is_remark, list_text, rate_text, said_in};
 
+use crate::cells::before;
 use record_text::trimmed;
 
 /// Whether a line is a remark: it is empty, or begins with `;`, `#`, `%` or `META`.
@@ -27,6 +28,28 @@ pub(crate) fn rate_text(line: &[u8]) -> Option<&[u8]>
     ensures none { IfNone result (rate_text line.now ≡ None) }
 {
     after_word(said_in(line), b"samplerate:")
+}
+
+/// The names that a remark lists, as `; Channels (2/8): D0, D1`.
+pub(crate) fn list_text(line: &[u8]) -> Option<&[u8]>
+    ensures some { IfSome result (λ text. list_text line.now ≡ Some text.now) }
+    ensures none { IfNone result (list_text line.now ≡ None) }
+{
+    match after_word(said_in(line), b"channels (") {
+        Some(text) => behind_bracket(text),
+        None => None,
+    }
+}
+
+// What stands behind the first bracket that ends, and a colon.
+fn behind_bracket(text: &[u8]) -> Option<&[u8]>
+    ensures some { IfSome result (λ list. behind_bracket text.now ≡ Some list.now) }
+    ensures none { IfNone result (behind_bracket text.now ≡ None) }
+{
+    match text.split_at(before(b')', b')', text)).1 {
+        [b')', b':', list @ ..] => Some(list),
+        _ => None,
+    }
 }
 
 // What a remark says behind its sign.

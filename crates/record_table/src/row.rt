@@ -4,7 +4,7 @@ ghost use Rattle.std.specs.Prelude.{◌≡◌, ◌≤◌, ◌<◌, length};
 ghost use Rattle.record_table.specs.Rows.{high_from, high_of, row_by, row_of, with_level};
 
 use crate::cells::{columns_in, level_of};
-use crate::clock::Clock;
+use crate::clock::{Clock, Timed};
 use crate::when::When;
 use record_levels::TimeFault;
 use record_text::{LONGEST_LINE, field_of};
@@ -21,45 +21,53 @@ pub enum Reason {
     /// What stands in the column of a chosen channel is neither 0 nor 1: at this place among the names,
     /// from 0.
     Level(usize),
+    /// Its time is 0, and that of one sample, of which a remark says the rate.
+    NoStep,
     /// A time that no recording goes on with.
     Time(TimeFault),
     /// No row stands below the line of names.
     NoRow,
 }
 
-/// A row: its time, and the levels of the chosen channels, of which the first has the bit of 1.
+/// A row: its time, the step that was seen in its column of times, and the levels of the chosen channels, of which the first has the bit of 1.
 #[derive(Clone, Copy)]
 pub(crate) struct Row {
     pub(crate) when: When,
+    pub(crate) step: u64,
     pub(crate) high: u8,
 }
 
-/// What a row says, where so many stand above it: of so many columns that have names, those at these
-/// places.
+/// What a row says, where so many stand above it, in which that step was seen: of so many columns that
+/// have names, those at these places.
 pub(crate) fn row_of(
     clock: Clock,
     columns: usize,
     chosen: &[usize],
     rows: u64,
+    step: u64,
     line: &[u8],
 ) -> Result<Row, Reason>
     requires { length chosen.now ≤ 5 }
-    ensures { result ≡ row_of clock columns chosen.now rows line.now }
+    ensures { result ≡ row_of clock columns chosen.now rows step line.now }
 {
     if line.len() >= LONGEST_LINE {
         return Err(Reason::Long);
     }
-    let when = clock.time_of(rows, line);
-    row_by(when, high_of(columns, chosen, clock.cells_of(line)))
+    let timed = clock.time_of(rows, step, line);
+    row_by(timed, high_of(columns, chosen, clock.cells_of(line)))
 }
 
-fn row_by(when: Result<When, Reason>, high: Result<u8, Reason>) -> Result<Row, Reason>
-    ensures { result ≡ row_by when high }
+fn row_by(timed: Result<Timed, Reason>, high: Result<u8, Reason>) -> Result<Row, Reason>
+    ensures { result ≡ row_by timed high }
 {
-    match (when, high) {
+    match (timed, high) {
         (Err(reason), _) => Err(reason),
         (Ok(_), Err(reason)) => Err(reason),
-        (Ok(when), Ok(high)) => Ok(Row { when, high }),
+        (Ok(timed), Ok(high)) => Ok(Row {
+            when: timed.when,
+            step: timed.step,
+            high,
+        }),
     }
 }
 

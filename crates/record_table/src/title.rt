@@ -1,11 +1,11 @@
 //! The line of names.
 
 ghost use Rattle.std.specs.Prelude.{◌≡◌, ◌≤◌, ◌-◌, ◌+◌, IfOk, length, true, false};
-ghost use Rattle.record_table.specs.Titles.{clock_by, clock_of, first_place, names_from, names_of, title_clock, names_in};
+ghost use Rattle.record_table.specs.Titles.{all_are, bytes_of, clock_of, first_place, is_nameless, names_from, names_in, numbered_from, title_clock, title_names};
 
 use crate::cells::{columns_in, unquoted};
 use crate::clock::Clock;
-use crate::name::{Name, add};
+use crate::name::{Name, add, add_numbered};
 use crate::unit::{Column, column_of};
 use record_text::{LONGEST_LINE, field_of};
 use std::alloc::{AllocError, Global};
@@ -53,7 +53,10 @@ fn clock_of(column: Column, rate: Option<u128>) -> Result<Clock, HeadReason>
 {
     match column {
         Column::Unknown => Err(HeadReason::Unit),
-        Column::Times(unit) => Ok(Clock::Times(unit)),
+        Column::Times(unit) => Ok(match rate {
+            Some(rate) => Clock::Steps(unit, rate),
+            None => Clock::Times(unit),
+        }),
         Column::Levels => match rate {
             Some(rate) => Ok(Clock::Rate(rate)),
             None => Err(HeadReason::NoTimes),
@@ -67,26 +70,80 @@ fn first_place(clock: Clock) -> usize
     ensures few { result ≤ 1 }
 {
     match clock {
-        Clock::Times(_) => 1,
+        Clock::Times(_) | Clock::Steps(..) => 1,
         Clock::Rate(_) => 0,
     }
 }
 
 /// How many channels have names.
 pub(crate) fn names_in(clock: Clock, line: &[u8]) -> usize
-    ensures { result ≡ names_in clock line.now }
+    ensures count { result ≡ names_in clock line.now }
+    ensures few { result ≤ length line.now + 1 }
 {
     columns_in(line).saturating_sub(first_place(clock))
 }
 
-/// The names of a line.
-pub(crate) fn names_of(alloc: Global, clock: Clock, line: &[u8]) -> Result<Vec<Name>, AllocError>
-    ensures { IfOk result (λ names. names_of names.items ≡ names_from (first_place clock) (names_in clock line.now) line.now) }
+/// The names of the channels of a line, where a remark lists those names.
+pub(crate) fn names_of(
+    alloc: Global,
+    clock: Clock,
+    line: &[u8],
+    list: &[u8],
+) -> Result<Vec<Name>, AllocError>
+    ensures { IfOk result (λ names. bytes_of names.items ≡ title_names clock line.now list.now) }
+{
+    let names = names_at(alloc, first_place(clock), names_in(clock, line), line)?;
+    if !is_nameless(names.as_slice()) {
+        Ok(names)
+    } else if !list.is_empty() && columns_in(list) == names.len() {
+        names_at(alloc, 0, columns_in(list), list)
+    } else {
+        numbered(alloc, names.len())
+    }
+}
+
+// The names of so many cells from a place on.
+fn names_at(
+    alloc: Global,
+    first: usize,
+    count: usize,
+    line: &[u8],
+) -> Result<Vec<Name>, AllocError>
+    requires { first + count ≤ length line.now + 2 }
+    ensures { IfOk result (λ names. bytes_of names.items ≡ names_from first count line.now) }
 {
     let mut names = Vec::new(alloc);
-    let first = first_place(clock);
-    for at in 0..names_in(clock, line) {
+    for at in 0..count {
         add(alloc, &mut names, unquoted(field_of(line, first + at)))?;
+    }
+    Ok(names)
+}
+
+// Whether all names are sigrok's word for each, or empty.
+fn is_nameless(names: &[Name]) -> bool
+    ensures { result ≡ is_nameless (bytes_of names.now) }
+{
+    all_are(names, b"logic") || all_are(names, b"")
+}
+
+fn all_are(names: &[Name], word: &[u8]) -> bool
+    ensures { result ≡ all_are (bytes_of names.now) word.now }
+{
+    for name in names {
+        if name.bytes.as_slice() != word {
+            return false;
+        }
+    }
+    true
+}
+
+// So many names of a D and a number, from 0.
+fn numbered(alloc: Global, count: usize) -> Result<Vec<Name>, AllocError>
+    ensures { IfOk result (λ names. bytes_of names.items ≡ numbered_from 0 count) }
+{
+    let mut names = Vec::new(alloc);
+    for at in 0..count {
+        add_numbered(alloc, &mut names, at)?;
     }
     Ok(names)
 }
