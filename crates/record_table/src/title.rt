@@ -103,12 +103,7 @@ pub(crate) fn names_of(
 }
 
 // The names of so many cells from a place on.
-fn names_at(
-    alloc: Global,
-    first: usize,
-    count: usize,
-    line: &[u8],
-) -> Result<Vec<Name>, AllocError>
+fn names_at(alloc: Global, first: usize, count: usize, line: &[u8]) -> Result<Vec<Name>, AllocError>
     requires { first + count ≤ length line.now + 2 }
     ensures { IfOk result (λ names. bytes_of names.items ≡ names_from first count line.now) }
 {
