@@ -27,6 +27,8 @@ mod recorded;
 #[cfg(test)]
 mod stamps;
 #[cfg(test)]
+mod tables;
+#[cfg(test)]
 mod texts;
 #[cfg(test)]
 mod times;
