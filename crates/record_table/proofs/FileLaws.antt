@@ -1,11 +1,12 @@
 -- What calls of a reader say, one after another, and what a whole table says.
-use Rattle.std.proofs.Common.{◌≡◌, ℕ, List, [], ◌∷◌, ◌++◌, Some, IsTrue, refl, append_assoc, sym, ap, ◌∙◌}
+use Rattle.std.proofs.Common.{◌≡◌, ℕ, List, [], ◌∷◌, ◌++◌, Option, Some, IsTrue, refl, append_assoc, sym, ap, ◌∙◌}
 use Rattle.std.specs.Prelude.{if◌then◌else◌}
 use Rattle.record_text.specs.Lines.{Line, lines_of, lines_on}
 use Rattle.record_table.specs.declared.clock.Clock.{Clock}
 use Rattle.record_table.specs.declared.head.Head.{Head}
 use Rattle.record_table.specs.declared.head.Stage.TheVariants.{Below}
 use Rattle.record_table.specs.declared.changes.Changes.{Changes}
+use Rattle.record_table.specs.declared.volts.Threshold.{Threshold}
 use Rattle.record_table.specs.Heads.{HeadEnd, HeadValue, head_end, head_from, is_over, step, top, value_of}
 use Rattle.record_table.specs.Changes.{said}
 use Rattle.record_table.specs.Tables.{AreCalls, AreHeadCalls, Call, HeadCall, IsAtTop, IsBelow, below, below_by, head_after, head_taken_by, reader_after, said_in, table_of, taken_by, to_come}
@@ -39,16 +40,16 @@ top-is first text h =
     ap (λ v. head_from v (lines_on first.lines text)) h.0
     ∙ ap (head_from top) (h.1 text)
 
-pub file-says : (first : Head) (head_calls : List HeadCall) (places : List ℕ) (clock : Clock) (changes : Changes) (calls : List Call) (more : List ℕ)
+pub file-says : (first : Head) (head_calls : List HeadCall) (threshold : Option Threshold) (places : List ℕ) (clock : Clock) (changes : Changes) (calls : List Call) (more : List ℕ)
     → IsAtTop first → AreHeadCalls first head_calls
     → (head_after first head_calls).stage ≡ Below clock
-    → IsBelow (head_after first head_calls) places clock changes
+    → IsBelow (head_after first head_calls) threshold places clock changes
     → AreCalls changes calls
-    → table_of places (head_taken_by head_calls ++ (taken_by calls ++ more)) ≡ Some (said_in calls ++ to_come (reader_after changes calls) more)
-file-says first head_calls places clock changes calls more at_top head_led is_stage is_below led =
+    → table_of threshold places (head_taken_by head_calls ++ (taken_by calls ++ more)) ≡ Some (said_in calls ++ to_come (reader_after changes calls) more)
+file-says first head_calls threshold places clock changes calls more at_top head_led is_stage is_below led =
     let head = head_after first head_calls in
     let rest = taken_by calls ++ more in
     let end : HeadEnd = record { head = value_of head; lines = lines_on head.lines rest } in
-    ap (below places) (sym (top-is first (head_taken_by head_calls ++ rest) at_top) ∙ head-calls-lead first head_calls rest head_led ∙ over-stays (value_of head) (lines_on head.lines rest) (ap is_over is_stage))
-    ∙ ap (λ s. below_by s places end) is_stage
+    ap (below threshold places) (sym (top-is first (head_taken_by head_calls ++ rest) at_top) ∙ head-calls-lead first head_calls rest head_led ∙ over-stays (value_of head) (lines_on head.lines rest) (ap is_over is_stage))
+    ∙ ap (λ s. below_by s threshold places end) is_stage
     ∙ ap Some (sym (is_below rest) ∙ calls-lead changes calls more led)

@@ -11,12 +11,13 @@ use Rattle.record_text.specs.Lines.{Line}
 use Rattle.record_table.specs.declared.row.Reason.{Reason}
 use Rattle.record_table.specs.declared.row.Reason.TheVariants.{NoRow}
 use Rattle.record_table.specs.declared.row.Row.{Row}
+use Rattle.record_table.specs.declared.row.Stand.{Stand}
 use Rattle.record_table.specs.declared.now.Now.{Now}
 use Rattle.record_table.specs.declared.now.Step.{Step}
 use Rattle.record_table.specs.declared.now.Step.TheVariants.{Goes, Says, Refuses}
 use Rattle.record_table.specs.Remarks.{is_remark}
 use Rattle.record_table.specs.Rows.{row_of}
-use Rattle.record_table.specs.Changes.{Plan, Said, changes_of, counted, due, ended, heard, heard_at, heard_since, refusal, said, said_by, said_from, since, start, step, with_high}
+use Rattle.record_table.specs.Changes.{Reading, Said, changes_of, counted, due, ended, heard, heard_at, heard_since, refusal, said, said_by, said_from, since, start, step, with_high}
 use Rattle.record_table.specs.Changes.Said.{Ends, Refused}
 use Rattle.record_table.specs.Order.{AreInOrder}
 
@@ -43,9 +44,9 @@ ends-in-order last now h =
     elim (now.is_due) as (λ b. AreInOrder last (said (if b then Some (record { time_ns = now.time_ns; high = now.high }) else None) ++ Ends now.time_ns ∷ []))
     [ true ↦ (h, (omega arith, omega arith, below-end last now.time_ns h)) | false ↦ ends last now.time_ns h ]
 
-ended-in-order : (last : Option ℕ) (plan : Plan) (now : Now) → Follows last now.time_ns → AreInOrder last (ended plan now)
-ended-in-order last plan now h =
-    elim (is_some now.levels_ns) as (λ b. AreInOrder last (if b then said (due now) ++ Ends now.time_ns ∷ [] else Refused (refusal plan.above NoRow) ∷ []))
+ended-in-order : (last : Option ℕ) (above : ℕ) (now : Now) → Follows last now.time_ns → AreInOrder last (ended above now)
+ended-in-order last above now h =
+    elim (is_some now.levels_ns) as (λ b. AreInOrder last (if b then said (due now) ++ Ends now.time_ns ∷ [] else Refused (refusal above NoRow) ∷ []))
     [ true ↦ ends-in-order last now h | false ↦ tt ]
 
 -- a later time follows too, if it is within a day of the last levels
@@ -60,33 +61,33 @@ with-stands last now high h =
     [ true ↦ h | false ↦ (h.0, refl) ]
 
 -- the levels as they stand at another time
-abbrev moved : (is_due : Bool) → (rows step start high next : ℕ) → (levels : Option ℕ) → Now
-moved is_due rows step start high next levels = record { rows = rows; step = step; start_ns = start; time_ns = next; high = high; is_due = is_due; levels_ns = levels }
+abbrev moved : (is_due : Bool) → (rows step start high next : ℕ) → Stand → (levels : Option ℕ) → Now
+moved is_due rows step start high next stand levels = record { rows = rows; step = step; start_ns = start; stand = stand; time_ns = next; high = high; is_due = is_due; levels_ns = levels }
 
-goes-by : (is_due is_later : Bool) (last : Option ℕ) (rows step start time high new next : ℕ) (levels : Option ℕ) → nat_lt time next ≡ is_later
+goes-by : (is_due is_later : Bool) (last : Option ℕ) (rows step start time high new next : ℕ) (stand : Stand) (levels : Option ℕ) → nat_lt time next ≡ is_later
     → Follows last time → levels ≡ (if is_due then Some time else last) → time ≤ next → next < end_ns → IsWithinDay levels next
-    → StepFits last (if is_due && is_later then Says (record { time_ns = time; high = high }) (with_high (moved false rows step start high next levels) new)
-    else Goes (with_high (moved is_due rows step start high next levels) new))
-goes-by true true last rows step start time high new next levels later h is le below near =
+    → StepFits last (if is_due && is_later then Says (record { time_ns = time; high = high }) (with_high (moved false rows step start high next stand levels) new)
+    else Goes (with_high (moved is_due rows step start high next stand levels) new))
+goes-by true true last rows step start time high new next stand levels later h is le below near =
     let P : Option ℕ → Type 0 = λ l. IsWithinDay l next in
-    (h, with-stands (Some time) (moved false rows step start high next levels) new ((ltb-true time next later, subst P is near, below), is))
-goes-by true false last rows step start time high new next levels later h is le below near =
+    (h, with-stands (Some time) (moved false rows step start high next stand levels) new ((ltb-true time next later, subst P is near, below), is))
+goes-by true false last rows step start time high new next stand levels later h is le below near =
     let same : time ≡ next = le_antisymm le (ltb-false time next later) in
     let P : ℕ → Type 0 = λ t. Follows last t in
-    with-stands last (moved true rows step start high next levels) new (subst P same h, is ∙ ap Some same)
-goes-by false true last rows step start time high new next levels later h is le below near =
+    with-stands last (moved true rows step start high next stand levels) new (subst P same h, is ∙ ap Some same)
+goes-by false true last rows step start time high new next stand levels later h is le below near =
     let P : Option ℕ → Type 0 = λ l. IsWithinDay l next in
-    with-stands last (moved false rows step start high next levels) new (follows-later last time next h le below (subst P is near), is)
-goes-by false false last rows step start time high new next levels later h is le below near =
+    with-stands last (moved false rows step start high next stand levels) new (follows-later last time next h le below (subst P is near), is)
+goes-by false false last rows step start time high new next stand levels later h is le below near =
     let P : Option ℕ → Type 0 = λ l. IsWithinDay l next in
-    with-stands last (moved false rows step start high next levels) new (follows-later last time next h le below (subst P is near), is)
+    with-stands last (moved false rows step start high next stand levels) new (follows-later last time next h le below (subst P is near), is)
 
 at-fits : (last : Option ℕ) (now : Now) (line high next : ℕ) (fault : Option TimeFault) → time_fault now.time_ns now.levels_ns next ≡ fault
     → Stands last now → StepFits last (heard_at now line high next fault)
 at-fits last now line high next (Some fault) e h = tt
 at-fits last now line high next None e h =
     let a = allowed now.time_ns now.levels_ns next e in
-    goes-by now.is_due (nat_lt now.time_ns next) last now.rows now.step now.start_ns now.time_ns now.high high next now.levels_ns refl h.0 h.1 a.0 a.1 a.2
+    goes-by now.is_due (nat_lt now.time_ns next) last now.rows now.step now.start_ns now.time_ns now.high high next now.stand now.levels_ns refl h.0 h.1 a.0 a.1 a.2
 
 since-fits : (last : Option ℕ) (now : Now) (line high : ℕ) (time : Result ℕ TimeFault) → Stands last now → StepFits last (heard_since now line high time)
 since-fits last now line high (Err fault) h = tt
@@ -94,12 +95,12 @@ since-fits last now line high (Ok next) h = at-fits last now line high next (tim
 
 heard-fits : (last : Option ℕ) (now : Now) (line : ℕ) (row : Result Row Reason) → Stands last now → StepFits last (heard now line row)
 heard-fits last now line (Err reason) h = tt
-heard-fits last now line (Ok row) h = since-fits last (counted now row) line row.high (since (counted now row).start_ns row.when) h
+heard-fits last now line (Ok row) h = since-fits last (counted now row) line row.stand.high (since (counted now row).start_ns row.when) h
 
-step-fits : (last : Option ℕ) (plan : Plan) (now : Now) (line : Line) → Stands last now → StepFits last (step plan now line)
-step-fits last plan now line h =
-    elim (is_remark line.text) as (λ b. StepFits last (if b then Goes now else heard now line.number (row_of plan.clock plan.columns plan.chosen now.rows now.step line.text)))
-    [ true ↦ h | false ↦ heard-fits last now line.number (row_of plan.clock plan.columns plan.chosen now.rows now.step line.text) h ]
+step-fits : (last : Option ℕ) (reading : Reading) (now : Now) (line : Line) → Stands last now → StepFits last (step reading now line)
+step-fits last reading now line h =
+    elim (is_remark line.text) as (λ b. StepFits last (if b then Goes now else heard now line.number (row_of reading.plan reading.chosen now line.text)))
+    [ true ↦ h | false ↦ heard-fits last now line.number (row_of reading.plan reading.chosen now line.text) h ]
 
 by-step : (last : Option ℕ) (step : Step) (others : Now → List Said) → StepFits last step
     → ((next : Now) (newest : Option ℕ) → Stands newest next → AreInOrder newest (others next)) → AreInOrder last (said_by step others)
@@ -107,11 +108,11 @@ by-step last (Goes now) others h next = next now last h
 by-step last (Says levels now) others h next = (h.0, next now (Some levels.time_ns) h.1)
 by-step last (Refuses fault) others h next = tt
 
-from-in-order : (plan : Plan) (now : Now) (lines : List Line) (last : Option ℕ) → Stands last now → AreInOrder last (said_from plan now lines)
-from-in-order plan now [] last h = ended-in-order last plan now h.0
-from-in-order plan now (line ∷ lines) last h =
-    by-step last (step plan now line) (λ next. said_from plan next lines) (step-fits last plan now line h)
-    (λ next newest fits. from-in-order plan next lines newest fits)
+from-in-order : (reading : Reading) (now : Now) (lines : List Line) (last : Option ℕ) → Stands last now → AreInOrder last (said_from reading now lines)
+from-in-order reading now [] last h = ended-in-order last reading.above now h.0
+from-in-order reading now (line ∷ lines) last h =
+    by-step last (step reading now line) (λ next. said_from reading next lines) (step-fits last reading now line h)
+    (λ next newest fits. from-in-order reading next lines newest fits)
 
-pub in-order : (plan : Plan) (lines : List Line) → AreInOrder None (changes_of plan lines)
-in-order plan lines = from-in-order plan start lines None (omega arith, refl)
+pub in-order : (reading : Reading) (lines : List Line) → AreInOrder None (changes_of reading lines)
+in-order reading lines = from-in-order reading start lines None (omega arith, refl)

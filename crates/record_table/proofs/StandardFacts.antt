@@ -1,5 +1,5 @@
 -- What tables say, at known values.
-use Rattle.std.proofs.Common.{◌≡◌, ℕ, true, false, ap, arith, List, [], ◌∷◌, ◌++◌, Some, None, refl}
+use Rattle.std.proofs.Common.{◌≡◌, ℕ, true, false, ap, arith, List, [], ◌∷◌, ◌++◌, Option, Some, None, refl}
 use Rattle.std.specs.Prelude.{codes, Ok, Err}
 use Rattle.std.proofs.lemmas.Fmt.{decimal_digit}
 use Rattle.record_levels.specs.declared.limits.TimeFault.TheVariants.{Beyond, Back, Gap}
@@ -20,6 +20,7 @@ use Rattle.record_table.specs.Rates.{rate_of}
 use Rattle.record_table.specs.Titles.{numbered}
 use Rattle.record_table.specs.Units.{column_of}
 use Rattle.record_table.specs.Whens.{row_ns, when_of}
+use Rattle.record_table.specs.Volts.{place_of, threshold_of}
 use Rattle.record_table.specs.Heads.{head_from, refused, top}
 use Rattle.record_table.specs.Changes.{Said}
 use Rattle.record_table.specs.Changes.Said.{Change, Refused, Ends}
@@ -90,20 +91,20 @@ abbrev table_text : List ℕ
 table_text = head_text ++ line (codes "1,1,0,x") ++ line (codes "1.5,1,0,") ++ line (codes "# 9,0,0,0") ++ line (codes "2.5," ++ quoted_one ++ codes ", 1 ,0")
     ++ line (codes "2.5,0,1,0") ++ line (codes "4,0,1,0") ++ codes "5,1,1,0"
 
-pub known_table : table_of (0 ∷ 1 ∷ []) table_text ≡ Some (levels 1000 1 ∷ levels 2500 2 ∷ levels 5000 3 ∷ Ends 5000 ∷ [])
+pub known_table : table_of None (0 ∷ 1 ∷ []) table_text ≡ Some (levels 1000 1 ∷ levels 2500 2 ∷ levels 5000 3 ∷ Ends 5000 ∷ [])
 known_table = refl
 
 -- the other channel is the first of two
-pub known_choice : table_of (1 ∷ 0 ∷ []) table_text ≡ Some (levels 1000 2 ∷ levels 2500 1 ∷ levels 5000 3 ∷ Ends 5000 ∷ [])
+pub known_choice : table_of None (1 ∷ 0 ∷ []) table_text ≡ Some (levels 1000 2 ∷ levels 2500 1 ∷ levels 5000 3 ∷ Ends 5000 ∷ [])
 known_choice = refl
 
 -- the first row is 12 us before the trigger: times are counted from there
-pub known_before : table_of (0 ∷ []) (line (codes "Time,a") ++ line (codes "-0.000012,0") ++ line (codes "0,1") ++ line (codes "0.5,1"))
+pub known_before : table_of None (0 ∷ []) (line (codes "Time,a") ++ line (codes "-0.000012,0") ++ line (codes "0,1") ++ line (codes "0.5,1"))
     ≡ Some (levels 0 0 ∷ levels 12000 1 ∷ Ends 500012000 ∷ [])
 known_before = refl
 
 -- a row a sample, at 1 kHz
-pub known_rows : table_of (0 ∷ 1 ∷ []) (line (codes "; Samplerate: 1 kHz") ++ line (codes "a,b") ++ line (codes "0,1") ++ line (codes "0,1") ++ line (codes "1,1") ++ line (codes "1,1"))
+pub known_rows : table_of None (0 ∷ 1 ∷ []) (line (codes "; Samplerate: 1 kHz") ++ line (codes "a,b") ++ line (codes "0,1") ++ line (codes "0,1") ++ line (codes "1,1") ++ line (codes "1,1"))
     ≡ Some (levels 0 2 ∷ levels 2000000 3 ∷ Ends 3000000 ∷ [])
 known_rows = refl
 
@@ -125,27 +126,46 @@ pub known_names : (names_in_text (logic_text (codes "; Channels (2/8): left, rig
 known_names = (refl, refl, refl, refl, refl)
 
 -- sigrok counts the whole time of one sample from 1 on: 333 ns for a sample of a third of a microsecond
-pub known_steps : table_of (0 ∷ []) (line (codes "; Samplerate: 3 MHz") ++ line (codes "Time,a") ++ line (codes "333,0") ++ line (codes "666,1") ++ line (codes "1332,0"))
+pub known_steps : table_of None (0 ∷ []) (line (codes "; Samplerate: 3 MHz") ++ line (codes "Time,a") ++ line (codes "333,0") ++ line (codes "666,1") ++ line (codes "1332,0"))
     ≡ Some (levels 0 0 ∷ levels 333 1 ∷ levels 1000 0 ∷ Ends 1000 ∷ [])
 known_steps = refl
+
+-- ---- voltages
+
+-- the threshold is 1.5 V
+abbrev volts : (table : List ℕ) → Option (List Said)
+volts table = table_of (threshold_of (codes "1.5")) (0 ∷ []) table
+
+-- 3.5 V is 2 V off, so within 0.2 V of the threshold the level stays; -1 V is 2.5 V off
+pub known_volts : volts (line (codes "Time (ms),A,B") ++ line (codes "0,3.5,x") ++ line (codes "1,1.4,") ++ line (codes "2,1.29,") ++ line (codes "3,1.7,") ++ line (codes "4,17.1e-1,") ++ line (codes "5,-1,") ++ line (codes "6,1.75,") ++ line (codes "7,1.751,"))
+    ≡ Some (levels 0 1 ∷ levels 2000000 0 ∷ levels 4000000 1 ∷ levels 5000000 0 ∷ levels 7000000 1 ∷ Ends 7000000 ∷ [])
+known_volts = refl
+
+-- at the threshold a line is low at first
+pub known_low : volts (line (codes "Time,A") ++ line (codes "0,1.5") ++ line (codes "1,1.500000001")) ≡ Some (levels 0 0 ∷ levels 1000000000 1 ∷ Ends 1000000000 ∷ [])
+known_low = refl
+
+pub known_thresholds : (place_of (codes "-0.0000000019") ≡ Some 999999999999999999) × (place_of (codes "999999999.999999999") ≡ Some 1999999999999999999)
+    × (place_of (codes "1e9") ≡ None) × (threshold_of (codes "1,5") ≡ None) × (volts (line (codes "Time,A") ++ line (codes "0,high")) ≡ Some (denied 2 (Level 0) ∷ []))
+known_thresholds = (refl, refl, refl, refl, refl)
 
 -- ---- refusals
 
 -- what was said before stays
-pub known_back : table_of (0 ∷ []) (head_text ++ line (codes "1,1,0,0") ++ line (codes "3,0,0,0") ++ line (codes "2.9,x,0,0") ++ line (codes "2.9,0,0,0"))
+pub known_back : table_of None (0 ∷ []) (head_text ++ line (codes "1,1,0,0") ++ line (codes "3,0,0,0") ++ line (codes "2.9,x,0,0") ++ line (codes "2.9,0,0,0"))
     ≡ Some (levels 1000 1 ∷ denied 7 (Level 0) ∷ [])
 known_back = refl
 
-pub known_refusals : (table_of (0 ∷ []) (head_text ++ line (codes "3,0,0,0") ++ codes "2.9,0,0,0") ≡ Some (denied 6 (Time Back) ∷ []))
-    × (table_of (1 ∷ []) (head_text ++ codes "3,0,0") ≡ Some (denied 5 (Columns 2) ∷ []))
-    × (table_of (1 ∷ []) (head_text ++ codes "3,0,2,0") ≡ Some (denied 5 (Level 1) ∷ []))
-    × (table_of (1 ∷ []) (head_text ++ codes "3 us,0,0,0") ≡ Some (denied 5 BadTime ∷ []))
-    × (table_of (1 ∷ []) (head_text ++ codes "3600000000000,0,0,0") ≡ Some (denied 5 (Time Beyond) ∷ []))
-    × (table_of (1 ∷ []) (head_text ++ line (codes "0,0,0,0") ++ codes "86400000001,0,0,0") ≡ Some (denied 6 (Time Gap) ∷ []))
-    × (table_of (1 ∷ []) (head_text ++ line (codes "0,0,0,0") ++ codes "-1,0,0,0") ≡ Some (denied 6 (Time Back) ∷ []))
-    × (table_of (0 ∷ []) (line (codes "; samplerate: 1 GHz") ++ line (codes "Time,a") ++ codes "0,1") ≡ Some (denied 3 NoStep ∷ []))
-    × (table_of (0 ∷ []) (line (codes "; samplerate: 1 kHz") ++ line (codes "Time,a") ++ line (codes "10,1") ++ codes "9,1") ≡ Some (denied 4 (Time Back) ∷ []))
-    × (table_of (1 ∷ []) (head_text ++ line (codes "# no row")) ≡ Some (denied 4 NoRow ∷ []))
+pub known_refusals : (table_of None (0 ∷ []) (head_text ++ line (codes "3,0,0,0") ++ codes "2.9,0,0,0") ≡ Some (denied 6 (Time Back) ∷ []))
+    × (table_of None (1 ∷ []) (head_text ++ codes "3,0,0") ≡ Some (denied 5 (Columns 2) ∷ []))
+    × (table_of None (1 ∷ []) (head_text ++ codes "3,0,2,0") ≡ Some (denied 5 (Level 1) ∷ []))
+    × (table_of None (1 ∷ []) (head_text ++ codes "3 us,0,0,0") ≡ Some (denied 5 BadTime ∷ []))
+    × (table_of None (1 ∷ []) (head_text ++ codes "3600000000000,0,0,0") ≡ Some (denied 5 (Time Beyond) ∷ []))
+    × (table_of None (1 ∷ []) (head_text ++ line (codes "0,0,0,0") ++ codes "86400000001,0,0,0") ≡ Some (denied 6 (Time Gap) ∷ []))
+    × (table_of None (1 ∷ []) (head_text ++ line (codes "0,0,0,0") ++ codes "-1,0,0,0") ≡ Some (denied 6 (Time Back) ∷ []))
+    × (table_of None (0 ∷ []) (line (codes "; samplerate: 1 GHz") ++ line (codes "Time,a") ++ codes "0,1") ≡ Some (denied 3 NoStep ∷ []))
+    × (table_of None (0 ∷ []) (line (codes "; samplerate: 1 kHz") ++ line (codes "Time,a") ++ line (codes "10,1") ++ codes "9,1") ≡ Some (denied 4 (Time Back) ∷ []))
+    × (table_of None (1 ∷ []) (head_text ++ line (codes "# no row")) ≡ Some (denied 4 NoRow ∷ []))
 known_refusals = (refl, refl, refl, refl, refl, refl, refl, refl, refl, refl)
 
 -- a table that ends above its names says nothing, nor one that is refused there
@@ -154,5 +174,5 @@ pub known_heads : ((head_from top (lines_of (line (codes "; nothing")))).head.st
     × ((head_from top (lines_of (line (codes "Time")))).head.stage ≡ refused 1 NoChannel)
     × ((head_from top (lines_of (line (codes "Time (h),a")))).head.stage ≡ refused 1 NoUnit)
     × ((head_from top (lines_of (line [] ++ line (codes "# samplerate: x") ++ line (codes "Time (h),a")))).head.stage ≡ refused 2 NoRate)
-    × (table_of (0 ∷ []) (line (codes "a,b") ++ codes "0,0") ≡ None)
+    × (table_of None (0 ∷ []) (line (codes "a,b") ++ codes "0,0") ≡ None)
 known_heads = (refl, refl, refl, refl, refl, refl)

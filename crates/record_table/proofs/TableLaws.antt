@@ -12,7 +12,7 @@ use Rattle.record_table.specs.declared.changes.End.{End}
 use Rattle.record_table.specs.declared.now.Fault.{Fault}
 use Rattle.record_table.specs.Changes.{Said, ended, said, said_from}
 use Rattle.record_table.specs.Changes.Said.{Ends, Refused}
-use Rattle.record_table.specs.Tables.{said_of, to_come, to_come_by, unless_refused, plan_of}
+use Rattle.record_table.specs.Tables.{said_of, to_come, to_come_by, unless_refused, reading_of}
 
 -- where a front of the bytes has led, the next ones lead on from there
 pub leads-on : (first here : Changes) (lines : Lines) (bytes rest : List ℕ) (count n : ℕ) (ended : Option ℕ) (line : ℕ)
@@ -57,10 +57,10 @@ hears-last changes number same e =
 
 -- where none is open, the end is said
 pub rests : (changes : Changes) → changes.lines.text.items ≡ [] → changes.refusal ≡ None
-    → to_come changes [] ≡ ended (plan_of changes) changes.here
+    → to_come changes [] ≡ ended changes.above changes.here
 rests changes none goes =
-    ap (λ r. unless_refused r (said_from (plan_of changes) changes.here (lines_on changes.lines []))) goes
-    ∙ ap (λ t. said_from (plan_of changes) changes.here (line_on changes.lines.number t)) none
+    ap (λ r. unless_refused r (said_from (reading_of changes) changes.here (lines_on changes.lines []))) goes
+    ∙ ap (λ t. said_from (reading_of changes) changes.here (line_on changes.lines.number t)) none
 
 -- what levels and then the end are, where both are known
 pub end-says : (result : Result End Fault) (before : Option Levels) (coming rest : List Said) → coming ≡ said before ++ rest

@@ -8,7 +8,7 @@ use Rattle.record_levels.specs.declared.limits.TimeFault.{TimeFault}
 use Rattle.record_levels.specs.declared.limits.TimeFault.TheVariants.{Back, Beyond}
 use Rattle.record_levels.specs.Limits.{end_ns, time_fault}
 use Rattle.record_text.specs.Lines.{Line, next_number}
-use Rattle.record_table.specs.declared.clock.Clock.{Clock}
+use Rattle.record_table.specs.declared.row.Plan.{Plan}
 use Rattle.record_table.specs.declared.row.Reason.{Reason}
 use Rattle.record_table.specs.declared.row.Reason.TheVariants.{NoRow, Time}
 use Rattle.record_table.specs.declared.row.Row.{Row}
@@ -20,6 +20,7 @@ use Rattle.record_table.specs.declared.now.Step.{Step}
 use Rattle.record_table.specs.declared.now.Step.TheVariants.{Goes, Says, Refuses}
 use Rattle.record_table.specs.Remarks.{is_remark}
 use Rattle.record_table.specs.Rows.{row_of}
+use Rattle.record_table.specs.Stands.{no_stand}
 
 -- what a table says: levels, why it is refused, or the time at which it ends
 pub data Said : Type 0 where
@@ -27,17 +28,15 @@ pub data Said : Type 0 where
   Refused : Fault → Said
   Ends : ℕ → Said
 
--- what is read of rows: by what they have their times, how many names there are and on which line, and the places
--- of the chosen ones
-pub record Plan : Type 0 where
-  pub clock : Clock
-  pub columns : ℕ
+-- what is read of rows: for what, on which line the names stand, and the places of the chosen ones
+pub record Reading : Type 0 where
+  pub plan : Plan
   pub above : ℕ
   pub chosen : List ℕ
 
 -- before the first row
 abbrev pub start : Now
-start = record { rows = 0; step = 0; start_ns = 0; time_ns = 0; high = 0; is_due = false; levels_ns = None }
+start = record { rows = 0; step = 0; start_ns = 0; stand = no_stand; time_ns = 0; high = 0; is_due = false; levels_ns = None }
 
 -- a line is refused
 abbrev pub refusal : (line : ℕ) → Reason → Fault
@@ -63,6 +62,7 @@ abbrev pub counted : Now → Row → Now
 counted now row = record now {
   rows = next_number now.rows;
   step = row.step;
+  stand = row.stand;
   start_ns = if nat_eq now.rows 0 then start_by row.when else now.start_ns;
 }
 
@@ -100,13 +100,13 @@ heard_since now line high (Ok next) = heard_at now line high next (time_fault no
 abbrev pub heard : Now → (line : ℕ) → Result Row Reason → Step
 heard now line (Err reason) = Refuses (refusal line reason)
 heard now line (Ok row) =
-    heard_since (counted now row) line row.high (since (counted now row).start_ns row.when)
+    heard_since (counted now row) line row.stand.high (since (counted now row).start_ns row.when)
 
 -- what a line makes of the levels: a remark nothing
-abbrev pub step : Plan → Now → Line → Step
-step plan now line =
+abbrev pub step : Reading → Now → Line → Step
+step reading now line =
     if is_remark line.text then Goes now
-    else heard now line.number (row_of plan.clock plan.columns plan.chosen now.rows now.step line.text)
+    else heard now line.number (row_of reading.plan reading.chosen now line.text)
 
 -- a step that says levels leaves some
 abbrev pub HasLevels : Step → Type 0
@@ -128,16 +128,16 @@ said_by (Says levels now) others = Change levels ∷ others now
 said_by (Refuses fault) others = Refused fault ∷ []
 
 -- what is said after the last line: the last levels, and the time of the last row. Without a row it is refused
-abbrev pub ended : Plan → Now → List Said
-ended plan now =
+abbrev pub ended : (above : ℕ) → Now → List Said
+ended above now =
     if is_some now.levels_ns then said (due now) ++ Ends now.time_ns ∷ []
-    else Refused (refusal plan.above NoRow) ∷ []
+    else Refused (refusal above NoRow) ∷ []
 
 -- what lines say
-abbrev pub said_from : Plan → Now → List Line → List Said
-said_from plan now [] = ended plan now
-said_from plan now (line ∷ lines) = said_by (step plan now line) (λ next. said_from plan next lines)
+abbrev pub said_from : Reading → Now → List Line → List Said
+said_from reading now [] = ended reading.above now
+said_from reading now (line ∷ lines) = said_by (step reading now line) (λ next. said_from reading next lines)
 
 -- what the lines below a head say
-abbrev pub changes_of : Plan → List Line → List Said
-changes_of plan lines = said_from plan start lines
+abbrev pub changes_of : Reading → List Line → List Said
+changes_of reading lines = said_from reading start lines

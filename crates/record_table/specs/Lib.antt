@@ -4,7 +4,10 @@ pub mod Rates
 pub mod Units
 pub mod Titles
 pub mod Heads
+pub mod Scales
 pub mod Whens
+pub mod Volts
+pub mod Stands
 pub mod Rows
 pub mod Changes
 pub mod Tables

@@ -13,7 +13,8 @@ use Rattle.record_table.specs.declared.head.Stage.{Stage}
 use Rattle.record_table.specs.declared.head.Stage.TheVariants as stage
 use Rattle.record_table.specs.declared.changes.Changes.{Changes}
 use Rattle.record_table.specs.Heads.{HeadEnd, HeadValue, head_end, head_from, top, value_of}
-use Rattle.record_table.specs.Changes.{Plan, Said, changes_of, said, said_from}
+use Rattle.record_table.specs.declared.volts.Threshold.{Threshold}
+use Rattle.record_table.specs.Changes.{Reading, Said, changes_of, said, said_from}
 use Rattle.record_table.specs.Changes.Said.{Refused}
 
 -- what was refused stays so
@@ -26,17 +27,13 @@ abbrev pub line_of : Changes → (number : ℕ) → Line
 line_of changes number = record { text = changes.lines.text.items; number = number }
 
 -- what a reader reads of rows
-abbrev pub plan_of : Changes → Plan
-plan_of changes = record {
-  clock = changes.clock;
-  columns = changes.columns;
-  above = changes.above;
-  chosen = changes.chosen.places.items;
-}
+abbrev pub reading_of : Changes → Reading
+reading_of changes =
+    record { plan = changes.plan; above = changes.above; chosen = changes.chosen.places.items }
 
 -- what these lines say to a reader as it stands
 abbrev pub said_of : Changes → List Line → List Said
-said_of changes lines = unless_refused changes.refusal (said_from (plan_of changes) changes.here lines)
+said_of changes lines = unless_refused changes.refusal (said_from (reading_of changes) changes.here lines)
 
 -- the same of the bytes that follow, up to the end of the text, where a line of its own may have ended
 abbrev pub to_come_by : (ended : Option ℕ) → Changes → (more : List ℕ) → List Said
@@ -101,29 +98,33 @@ abbrev pub head_after : Head → List HeadCall → Head
 head_after head [] = head
 head_after head (call ∷ calls) = head_after call.next calls
 
--- what is read of rows below such a head, of the names at these places
-abbrev pub plan_by : Clock → HeadValue → (places : List ℕ) → Plan
-plan_by clock head places =
-    record { clock = clock; columns = length head.names; above = head.above; chosen = places }
+-- what is read of rows below such a head, by a threshold or by levels, of the names at these places
+abbrev pub reading_by : Clock → Option Threshold → HeadValue → (places : List ℕ) → Reading
+reading_by clock threshold head places = record {
+  plan = record { clock = clock; threshold = threshold; columns = length head.names };
+  above = head.above;
+  chosen = places;
+}
 
 -- what stands below a head that was read so far
-abbrev pub below_by : Stage → (places : List ℕ) → HeadEnd → Option (List Said)
-below_by stage.Above places end = None
-below_by (stage.Below clock) places end = Some (changes_of (plan_by clock end.head places) end.lines)
-below_by (stage.Refused refusal) places end = None
+abbrev pub below_by : Stage → Option Threshold → (places : List ℕ) → HeadEnd → Option (List Said)
+below_by stage.Above threshold places end = None
+below_by (stage.Below clock) threshold places end =
+    Some (changes_of (reading_by clock threshold end.head places) end.lines)
+below_by (stage.Refused refusal) threshold places end = None
 
 -- what stands below a head, if it is over and was not refused
-abbrev pub below : (places : List ℕ) → HeadEnd → Option (List Said)
-below places end = below_by end.head.stage places end
+abbrev pub below : Option Threshold → (places : List ℕ) → HeadEnd → Option (List Said)
+below threshold places end = below_by end.head.stage threshold places end
 
--- what a table says of the channels at these places among its names
-abbrev pub table_of : (places : List ℕ) → (text : List ℕ) → Option (List Said)
-table_of places text = below places (head_from top (lines_of text))
+-- what a table says of the channels at these places among its names: of levels, or of voltages by a threshold
+abbrev pub table_of : Option Threshold → (places : List ℕ) → (text : List ℕ) → Option (List Said)
+table_of threshold places text = below threshold places (head_from top (lines_of text))
 
--- this is a reader of what follows that head, of the names at these places
-abbrev pub IsBelow : Head → (places : List ℕ) → Clock → Changes → Type 0
-IsBelow head places clock changes = (more : List ℕ) → to_come changes more
-    ≡ changes_of (plan_by clock (value_of head) places) (lines_on head.lines more)
+-- this is a reader of what follows that head, by a threshold or by levels, of the names at these places
+abbrev pub IsBelow : Head → Option Threshold → (places : List ℕ) → Clock → Changes → Type 0
+IsBelow head threshold places clock changes = (more : List ℕ) → to_come changes more
+    ≡ changes_of (reading_by clock threshold (value_of head) places) (lines_on head.lines more)
 
 -- nothing of a head was read
 abbrev pub IsAtTop : Head → Type 0

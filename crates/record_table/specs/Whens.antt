@@ -1,6 +1,6 @@
 -- The time of a row in nanoseconds before or after that of 0.
 -- Source: this project's profile: a part of a nanosecond is left out.
-use Rattle.std.specs.Prelude.{ℕ, ◌+◌, ◌-◌, ◌*◌, ◌/◌, ◌^◌, Bool, if◌then◌else◌, List, Option, Some, None, Result, Ok, Err, nat_le, nat_lt}
+use Rattle.std.specs.Prelude.{ℕ, ◌+◌, ◌*◌, ◌/◌, Bool, if◌then◌else◌, List, Option, Some, None, Result, Ok, Err}
 use Rattle.record_levels.specs.Limits.{end_ns}
 use Rattle.record_levels.specs.declared.limits.TimeFault.TheVariants.{Beyond}
 use Rattle.record_text.specs.Signed.{decimal}
@@ -10,15 +10,8 @@ use Rattle.record_table.specs.declared.row.Reason.{Reason}
 use Rattle.record_table.specs.declared.row.Reason.TheVariants.{BadTime, Time}
 use Rattle.record_table.specs.declared.when.When.{When}
 use Rattle.record_table.specs.declared.when.When.TheVariants.{After, Before}
+use Rattle.record_table.specs.Scales.{below, scaled}
 use Rattle.record_table.specs.Units.{power_of}
-
--- a time, if it is below 1,000 hours
-abbrev pub below_end : (time : ℕ) → Option ℕ
-below_end time = if nat_lt time end_ns then Some time else None
-
--- n times 10 to the power of up, parted by 10 to the power of down, rounded down
-abbrev pub scaled : (n up down : ℕ) → ℕ
-scaled n up down = if nat_le down up then n * 10 ^ (up - down) else n / 10 ^ (down - up)
 
 -- before or after the time of 0
 abbrev pub signed : (minus : Bool) → (time : ℕ) → When
@@ -32,7 +25,7 @@ when_by minus None = Err (Time Beyond)
 -- a decimal number of units, of which a nanosecond has a million femtoseconds
 abbrev pub when_scaled : Unit → Option Decimal → Result When Reason
 when_scaled unit None = Err BadTime
-when_scaled unit (Some d) = when_by d.is_minus (below_end (scaled d.number (d.up + power_of unit) (d.down + 6)))
+when_scaled unit (Some d) = when_by d.is_minus (below end_ns (scaled d.number (d.up + power_of unit) (d.down + 6)))
 
 -- the time that a cell says in a unit
 abbrev pub when_of : Unit → (cell : List ℕ) → Result When Reason
@@ -40,4 +33,4 @@ when_of unit cell = when_scaled unit (decimal cell)
 
 -- so many samples after the first in nanoseconds, at a rate in millionths of a sample a second
 abbrev pub row_ns : (rows rate : ℕ) → Option ℕ
-row_ns rows rate = below_end (rows * 1000000000000000 / rate)
+row_ns rows rate = below end_ns (rows * 1000000000000000 / rate)

@@ -3,7 +3,7 @@
 ghost use Rattle.std.specs.Prelude.{◌≡◌, ℕ, All, List, [], ◌∷◌, ◌++◌, take, length, Some, None, IfOk, IfSome, IfErr, MatchResult, IsSome, ◌<◌, ◌≤◌};
 ghost use Rattle.record_table.specs.Changes.{HasLevels, Said, ended, said, said_by, step};
 ghost use Rattle.record_table.specs.Changes.Said.{Change, Refused, Ends};
-ghost use Rattle.record_table.specs.Tables.{HeadFaultFits, IsBelow, IsReady, Leads, line_of, plan_of, to_come, to_come_by};
+ghost use Rattle.record_table.specs.Tables.{HeadFaultFits, IsBelow, IsReady, Leads, line_of, reading_of, to_come, to_come_by};
 ghost use Rattle.record_table.specs.declared.head.Stage.TheVariants.{Below};
 
 use crate::chosen::Chosen;
@@ -11,7 +11,8 @@ use crate::clock::Clock;
 use crate::head::{Head, HeadFault, Stage};
 use crate::now::{Fault, Now, Step};
 use crate::remark::is_remark;
-use crate::row::{Reason, row_of};
+use crate::row::{Plan, Reason, row_of};
+use crate::volts::Threshold;
 use record_levels::Levels;
 use record_text::Lines;
 use std::alloc::Global;
@@ -39,8 +40,7 @@ pub struct End {
 /// The rows of a table, as far as they were read.
 #[derive(Drop)]
 pub struct Changes {
-    clock: Clock,
-    columns: usize,
+    plan: Plan,
     chosen: Chosen,
     above: u64,
     lines: Lines,
@@ -55,7 +55,40 @@ impl Changes {
         requires few { length chosen.now ≤ 5 }
         requires places { All (λ place. place < length head.names.items) chosen.now }
         ensures says { IfOk result (λ changes. (clock : Clock) → head.stage ≡ Below clock
-            → IsBelow head chosen.now clock changes) }
+            → IsBelow head None chosen.now clock changes) }
+        ensures ready { IfOk result (λ changes. IsReady head) }
+        ensures fault { IfErr result (λ fault. HeadFaultFits head fault) }
+    {
+        Changes::of(alloc, head, None, chosen)
+    }
+
+    /// The same of a table of voltages: a line is high above the threshold. It keeps its level while it is
+    /// off the threshold by no more than a tenth of the most that it ever was.
+    pub fn by_threshold(
+        alloc: Global,
+        head: Head,
+        threshold: Threshold,
+        chosen: &[usize],
+    ) -> Result<Changes, HeadFault>
+        requires few { length chosen.now ≤ 5 }
+        requires places { All (λ place. place < length head.names.items) chosen.now }
+        ensures says { IfOk result (λ changes. (clock : Clock) → head.stage ≡ Below clock
+            → IsBelow head (Some threshold) chosen.now clock changes) }
+        ensures ready { IfOk result (λ changes. IsReady head) }
+        ensures fault { IfErr result (λ fault. HeadFaultFits head fault) }
+    {
+        Changes::of(alloc, head, Some(threshold), chosen)
+    }
+
+    fn of(
+        alloc: Global,
+        head: Head,
+        threshold: Option<Threshold>,
+        chosen: &[usize],
+    ) -> Result<Changes, HeadFault>
+        requires { length chosen.now ≤ 5 }
+        ensures says { IfOk result (λ changes. (clock : Clock) → head.stage ≡ Below clock
+            → IsBelow head threshold chosen.now clock changes) }
         ensures ready { IfOk result (λ changes. IsReady head) }
         ensures fault { IfErr result (λ fault. HeadFaultFits head fault) }
     {
@@ -66,8 +99,11 @@ impl Changes {
         };
         let chosen = Chosen::new(alloc, chosen)?;
         Ok(Changes {
-            clock,
-            columns: head.names.len(),
+            plan: Plan {
+                clock,
+                threshold,
+                columns: head.names.len(),
+            },
             chosen,
             above: head.above,
             lines: head.lines,
@@ -139,10 +175,10 @@ impl Changes {
         requires { IfSome before (λ _. IsSome self.now.here.levels_ns) }
         ensures before { IfOk result (λ end. end.before ≡ before) }
         ensures ends { IfOk result (λ end.
-            ended (plan_of self.now) self.now.here ≡ said end.levels ++ Ends end.time_ns ∷ []) }
+            ended self.now.above self.now.here ≡ said end.levels ++ Ends end.time_ns ∷ []) }
         ensures none { IfErr result (λ _. before ≡ None) }
         ensures refuses { IfErr result (λ fault.
-            ended (plan_of self.now) self.now.here ≡ Refused fault ∷ []) }
+            ended self.now.above self.now.here ≡ Refused fault ∷ []) }
     {
         if self.here.levels_ns.is_none() {
             return Err(Fault {
@@ -190,16 +226,15 @@ impl Changes {
 
     // What a line makes of the levels.
     fn judged(&self, number: u64) -> Step
-        ensures step { result ≡ step (plan_of self.now) self.now.here (line_of self.now number) }
+        ensures step { result ≡ step (reading_of self.now) self.now.here (line_of self.now number) }
         ensures some { HasLevels result }
     {
         let line = self.lines.text();
         if is_remark(line) {
             return Step::Goes(self.here);
         }
-        let here = self.here;
         let chosen = self.chosen.places.as_slice();
-        let row = row_of(self.clock, self.columns, chosen, here.rows, here.step, line);
-        here.hear(number, row)
+        let row = row_of(self.plan, chosen, self.here, line);
+        self.here.hear(number, row)
     }
 }

@@ -4,7 +4,7 @@ ghost use Rattle.std.specs.Prelude.{◌≡◌, IsSome};
 ghost use Rattle.record_table.specs.Changes.{HasLevels, counted, due, gone_on, heard, heard_at, heard_since, since, start, start_by, with_high};
 ghost use Rattle.record_text.specs.Lines.{next_number};
 
-use crate::row::{Reason, Row};
+use crate::row::{Reason, Row, Stand};
 use crate::when::{END_NS, When};
 use record_levels::{Levels, TimeFault, time_fault};
 
@@ -26,6 +26,8 @@ pub(crate) struct Now {
     pub(crate) step: u64,
     /// How long before the time of 0 the recording begins.
     pub(crate) start_ns: u64,
+    /// How the lines stood at the last row.
+    pub(crate) stand: Stand,
     pub(crate) time_ns: u64,
     pub(crate) high: u8,
     /// Whether the levels at this time are still to be said.
@@ -51,6 +53,7 @@ impl Now {
             rows: 0,
             step: 0,
             start_ns: 0,
+            stand: Stand::start(),
             time_ns: 0,
             high: 0,
             is_due: false,
@@ -81,7 +84,7 @@ impl Now {
             Err(reason) => Step::Refuses(Fault { line, reason }),
             Ok(row) => {
                 let now = self.counted(row);
-                now.hear_since(line, row.high, since(now.start_ns, row.when))
+                now.hear_since(line, row.stand.high, since(now.start_ns, row.when))
             }
         }
     }
@@ -92,6 +95,7 @@ impl Now {
         Now {
             rows: next_number(self.rows),
             step: row.step,
+            stand: row.stand,
             start_ns: if self.rows == 0 {
                 start_by(row.when)
             } else {

@@ -2,9 +2,12 @@
 
 ghost use Rattle.std.specs.Prelude.{◌≡◌, ◌+◌, ◌*◌, ◌/◌, ◌^◌, ◌≤◌, false};
 ghost use Rattle.record_text.specs.Signed.{IsSmall};
-ghost use Rattle.record_table.specs.Whens.{below_end, row_ns, scaled, signed, when_by, when_of};
+ghost use Rattle.record_levels.specs.Limits.{end_ns};
+ghost use Rattle.record_table.specs.Scales.{below, scaled};
+ghost use Rattle.record_table.specs.Whens.{row_ns, signed, when_by, when_of};
 
 use crate::row::Reason;
+use crate::scale::scaled_below;
 use crate::unit::Unit;
 use record_levels::TimeFault;
 use record_text::{Decimal, decimal_of};
@@ -61,48 +64,10 @@ fn signed(is_minus: bool, time_ns: u64) -> When
 fn scaled_ns(power: u64, decimal: Decimal) -> Option<u64>
     requires power { power ≤ 15 }
     requires small { IsSmall decimal }
-    ensures { result ≡ below_end (scaled decimal.number (decimal.up + power) (decimal.down + 6)) }
+    ensures { result ≡ below end_ns
+        (scaled decimal.number (decimal.up + power) (decimal.down + 6)) }
 {
-    let up = decimal.up + power;
-    let down = decimal.down + 6;
-    if down <= up {
-        raised(decimal.number, up - down)
-    } else {
-        below_end(lowered(decimal.number, down - up))
-    }
-}
-
-fn below_end(time_ns: u64) -> Option<u64>
-    ensures { result ≡ below_end time_ns }
-{
-    if time_ns < END_NS {
-        Some(time_ns)
-    } else {
-        None
-    }
-}
-
-fn raised(number: u64, power: u64) -> Option<u64>
-    ensures { result ≡ below_end (number * 10 ^ power) }
-{
-    let mut number = number;
-    for _place in 0..power {
-        if number >= END_NS {
-            return None;
-        }
-        number *= 10;
-    }
-    below_end(number)
-}
-
-fn lowered(number: u64, power: u64) -> u64
-    ensures { result ≡ number / 10 ^ power }
-{
-    let mut number = number;
-    for _place in 0..power {
-        number /= 10;
-    }
-    number
+    scaled_below(END_NS, decimal.number, decimal.up + power, decimal.down + 6)
 }
 
 // So many samples in nanoseconds.

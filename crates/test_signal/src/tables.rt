@@ -1,6 +1,6 @@
 //! Tables, from their bytes to the levels that they say.
 
-use record_table::{Changes, Fault, Head, HeadFault, Name};
+use record_table::{Changes, Fault, Head, HeadFault, Name, Threshold};
 use std::alloc::{AllocError, Global};
 use std::test::Fail;
 
@@ -12,6 +12,10 @@ const SAMPLED: &[u8] =
     b"; Channels (2/8): left, right\r\n; Samplerate: 1 kHz\r\nlogic,logic\r\n0,1\r\n0,1\r\n1,1\r\n";
 
 const REFUSED: &[u8] = b"time,a,b\n1,0,0\n2,1,0\n3,1,high\n4,x,0\n";
+
+// A slow edge with noise about 1.5 V, after one that shows the swing.
+const VOLTS: &[u8] =
+    b"Time (ms),A,B\n0,3.5,\n1,-5.0e-1,\n2,1.4,\n3,1.6,\n4,1.45,\n5,1.75,\n6,3.5,\n";
 
 const NO_TIMES: &[u8] = b"; by hand\nUp,Down\n0,1\n";
 
@@ -56,6 +60,24 @@ fn push_names(text: &mut String, names: &[Name]) -> Result<(), AllocError> {
     Ok(())
 }
 
+// What a table of volts says of its first channel.
+fn said_of_volts(alloc: Global, table: &[u8]) -> Result<String, AllocError> {
+    let mut text = String::new(alloc);
+    let mut head = Head::new(alloc);
+    let taken = head.read(alloc, table)?;
+    let Some(threshold) = Threshold::of(b"1.5") else {
+        return Ok(text);
+    };
+    if head.names().is_empty() {
+        return Ok(text);
+    }
+    if let Ok(mut changes) = Changes::by_threshold(alloc, head, threshold, &[0]) {
+        push_piece(&mut text, &mut changes, table.split_at(taken.count).1)?;
+        push_end(&mut text, changes)?;
+    }
+    Ok(text)
+}
+
 // The names of a table, and what it says of the first two, read in pieces of so many bytes.
 fn said_of(alloc: Global, table: &[u8], size: usize) -> Result<String, AllocError>
     requires { 0 < size }
@@ -83,8 +105,7 @@ fn said_of(alloc: Global, table: &[u8], size: usize) -> Result<String, AllocErro
 
 #[test]
 fn a_table_says_levels_after_its_first_row(rt: HostRuntime) -> Result<(), Fail> {
-    let said =
-        "Clock 0; Clock 1; 0 2, 10000000 3, from 12000, 15012000 1, ends 20012400";
+    let said = "Clock 0; Clock 1; 0 2, 10000000 3, from 12000, 15012000 1, ends 20012400";
     let whole = said_of(rt.alloc(), ANALYSED, 1_000)?;
     assert!(rt; whole.as_str() == said);
     let bytes = said_of(rt.alloc(), ANALYSED, 1)?;
@@ -105,5 +126,12 @@ fn a_line_is_refused(rt: HostRuntime) -> Result<(), Fail> {
     assert!(rt; rows.as_str() == "a; b; 1000000000 0, from 0, line 4");
     let head = said_of(rt.alloc(), NO_TIMES, 5)?;
     assert!(rt; head.as_str() == "head 2");
+    Ok(())
+}
+
+#[test]
+fn a_slow_edge_is_one(rt: HostRuntime) -> Result<(), Fail> {
+    let text = said_of_volts(rt.alloc(), VOLTS)?;
+    assert!(rt; text.as_str() == "0 1, 1000000 0, 5000000 1, ends 6000000");
     Ok(())
 }

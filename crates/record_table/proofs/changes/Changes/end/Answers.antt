@@ -1,7 +1,7 @@
 use Rattle.std.proofs.Common.{[], ◌++◌, nat_eq, length, ◌∙◌, ap, sym}
 use Rattle.std.proofs.lemmas.Result.{err_from_is_err_and}
 use Rattle.record_table.specs.Changes.{ended, said}
-use Rattle.record_table.specs.Tables.{plan_of, to_come}
+use Rattle.record_table.specs.Tables.{to_come}
 use Rattle.record_table.proofs.TableLaws.{end-says, hears-last, rests}
 use Rattle.record_table.proofs.changes.Changes.end.Goals as goal
 
@@ -17,6 +17,6 @@ returns c =
     let heard = c.in_ok-before.ensures in
     let before = c.in_ok-before.before in
     let then = c.hear.new.self in
-    end-says c.ended-2.result before (to_come c.args.self []) (ended (plan_of then) then.here)
+    end-says c.ended-2.result before (to_come c.args.self []) (ended then.above then.here)
     (hears ∙ heard.says [] ∙ ap (λ l. said before ++ l) (rests then heard.cleared heard.goes))
     c.ended-2.ensures.before c.ended-2.ensures.ends c.ended-2.ensures.none c.ended-2.ensures.refuses

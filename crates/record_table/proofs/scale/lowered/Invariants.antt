@@ -1,5 +1,5 @@
 use Rattle.std.proofs.Common.{◌≡◌, ◌-◌, ◌/◌, ◌^◌}
-use Rattle.record_table.proofs.when.lowered.Given as goal
+use Rattle.record_table.proofs.scale.lowered.Given as goal
 
 -- the places that are left make it whole
 abbrev pub invariant-loop-place : goal.invariant-loop-place

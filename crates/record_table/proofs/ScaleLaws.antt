@@ -3,8 +3,7 @@ use Rattle.std.proofs.Common.{◌≡◌, ℕ, suc, zero, ◌+◌, ◌-◌, ◌*�
 use Rattle.std.specs.Prelude.{if◌then◌else◌}
 use Rattle.std.proofs.Math.Nat.{pow-succ', div-div-eq-div-mul, le-mul_of_pos_right}
 use Rattle.std.proofs.lemmas.Bool.{le-ltb}
-use Rattle.record_levels.specs.Limits.{end_ns}
-use Rattle.record_table.specs.Whens.{below_end}
+use Rattle.record_table.specs.Scales.{below}
 
 -- one place more is a factor of 10 more
 ten-more : (power place : ℕ) → place < power → 10 ^ (power - place) ≡ 10 * 10 ^ (power - (place + 1))
@@ -25,6 +24,6 @@ ten-pos zero = omega arith
 ten-pos (suc k) = let e = pow-succ' 10 k in omega (arith, e, ten-pos k)
 
 -- what lies beyond the end stays there
-pub is-beyond : (n k : ℕ) → end_ns ≤ n → below_end (n * 10 ^ k) ≡ None
-is-beyond n k h =
-    ap (λ b. if b then Some (n * 10 ^ k) else None) (le-ltb (n * 10 ^ k) end_ns (le_trans h (le-mul_of_pos_right n (ten-pos k))))
+pub is-beyond : (end n k : ℕ) → end ≤ n → below end (n * 10 ^ k) ≡ None
+is-beyond end n k h =
+    ap (λ b. if b then Some (n * 10 ^ k) else None) (le-ltb (n * 10 ^ k) end (le_trans h (le-mul_of_pos_right n (ten-pos k))))
