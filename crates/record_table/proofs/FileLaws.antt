@@ -6,7 +6,7 @@ use Rattle.record_table.specs.declared.clock.Clock.{Clock}
 use Rattle.record_table.specs.declared.head.Head.{Head}
 use Rattle.record_table.specs.declared.head.Stage.TheVariants.{Below}
 use Rattle.record_table.specs.declared.changes.Changes.{Changes}
-use Rattle.record_table.specs.declared.volts.Threshold.{Threshold}
+use Rattle.record_cells.specs.declared.volts.Threshold.{Threshold}
 use Rattle.record_table.specs.Heads.{HeadEnd, HeadValue, head_end, head_from, is_over, step, top, value_of}
 use Rattle.record_table.specs.Changes.{said}
 use Rattle.record_table.specs.Tables.{AreCalls, AreHeadCalls, Call, HeadCall, IsAtTop, IsBelow, below, below_by, head_after, head_taken_by, reader_after, said_in, table_of, taken_by, to_come}

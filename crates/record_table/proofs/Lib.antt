@@ -1,7 +1,6 @@
 pub mod TableLaws
 pub mod HeadLaws
 pub mod FileLaws
-pub mod ScaleLaws
 pub mod OrderLaws
 pub mod NameLaws
 pub mod StandardFacts

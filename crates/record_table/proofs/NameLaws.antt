@@ -2,7 +2,7 @@
 use Rattle.std.proofs.Common.{◌≡◌, ℕ, suc, ◌+◌, ◌-◌, ◌<◌, List, [], ◌∷◌, ◌++◌, ap, sym, ◌∙◌, append_assoc, arith}
 use Rattle.record_text.specs.Fields.{field}
 use Rattle.record_table.specs.declared.name.Name.{Name}
-use Rattle.record_table.specs.Cells.{unquoted}
+use Rattle.record_cells.specs.Cells.{unquoted}
 use Rattle.record_table.specs.Titles.{bytes_of, names_from, numbered, numbered_from}
 
 -- a name more is the next one

@@ -15,7 +15,7 @@ use Rattle.record_table.specs.declared.row.Stand.{Stand}
 use Rattle.record_table.specs.declared.now.Now.{Now}
 use Rattle.record_table.specs.declared.now.Step.{Step}
 use Rattle.record_table.specs.declared.now.Step.TheVariants.{Goes, Says, Refuses}
-use Rattle.record_table.specs.Remarks.{is_remark}
+use Rattle.record_cells.specs.Remarks.{is_remark}
 use Rattle.record_table.specs.Rows.{row_of}
 use Rattle.record_table.specs.Changes.{Reading, Said, changes_of, counted, due, ended, heard, heard_at, heard_since, refusal, said, said_by, said_from, since, start, step, with_high}
 use Rattle.record_table.specs.Changes.Said.{Ends, Refused}

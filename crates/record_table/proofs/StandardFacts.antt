@@ -1,5 +1,5 @@
 -- What tables say, at known values.
-use Rattle.std.proofs.Common.{◌≡◌, ℕ, true, false, ap, arith, List, [], ◌∷◌, ◌++◌, Option, Some, None, refl}
+use Rattle.std.proofs.Common.{◌≡◌, ℕ, ap, arith, List, [], ◌∷◌, ◌++◌, Option, Some, None, refl}
 use Rattle.std.specs.Prelude.{codes, Ok, Err}
 use Rattle.std.proofs.lemmas.Fmt.{decimal_digit}
 use Rattle.record_levels.specs.declared.limits.TimeFault.TheVariants.{Beyond, Back, Gap}
@@ -11,16 +11,11 @@ use Rattle.record_table.specs.declared.row.Reason.TheVariants.{BadTime, Columns,
 use Rattle.record_table.specs.declared.title.HeadReason.TheVariants.{NoChannel, NoTimes}
 use Rattle.record_table.specs.declared.title.HeadReason.TheVariants.{Rate as NoRate}
 use Rattle.record_table.specs.declared.title.HeadReason.TheVariants.{Unit as NoUnit}
-use Rattle.record_table.specs.declared.unit.Unit.TheVariants.{Second, Millisecond, Microsecond, Picosecond}
-use Rattle.record_table.specs.declared.unit.Column.TheVariants.{Levels, Unknown}
-use Rattle.record_table.specs.declared.unit.Column.TheVariants.{Times as HasTimes}
+use Rattle.record_cells.specs.declared.unit.Unit.TheVariants.{Second, Millisecond, Microsecond, Picosecond}
 use Rattle.record_table.specs.declared.when.When.TheVariants.{After, Before}
-use Rattle.record_table.specs.Cells.{level_of}
-use Rattle.record_table.specs.Rates.{rate_of}
 use Rattle.record_table.specs.Titles.{numbered}
-use Rattle.record_table.specs.Units.{column_of}
 use Rattle.record_table.specs.Whens.{row_ns, when_of}
-use Rattle.record_table.specs.Volts.{place_of, threshold_of}
+use Rattle.record_cells.specs.Volts.{threshold_of}
 use Rattle.record_table.specs.Heads.{head_from, refused, top}
 use Rattle.record_table.specs.Changes.{Said}
 use Rattle.record_table.specs.Changes.Said.{Change, Refused, Ends}
@@ -30,21 +25,9 @@ use Rattle.record_table.specs.Tables.{table_of}
 abbrev line : (text : List ℕ) → List ℕ
 line text = text ++ 10 ∷ []
 
--- ---- cells
-
 -- "1" in quotes
 abbrev quoted_one : List ℕ
 quoted_one = 34 ∷ codes "1" ++ 34 ∷ []
-
-pub known_levels : (level_of (codes "0") ≡ Some false) × (level_of quoted_one ≡ Some true) × (level_of (34 ∷ codes "1") ≡ None)
-    × (level_of (codes "01") ≡ None) × (level_of (codes "1.0") ≡ None) × (level_of [] ≡ None)
-known_levels = (refl, refl, refl, refl, refl, refl)
-
-pub known_columns : (column_of (codes "Time") ≡ HasTimes Second) × (column_of (codes "TIME [ms]") ≡ HasTimes Millisecond)
-    × (column_of (codes "time(ps)") ≡ HasTimes Picosecond) × (column_of (codes "Microseconds") ≡ HasTimes Microsecond)
-    × (column_of (codes "Time [" ++ 194 ∷ 181 ∷ codes "s]") ≡ HasTimes Microsecond) × (column_of (codes "Time [" ++ 206 ∷ 188 ∷ codes "s]") ≡ HasTimes Microsecond)
-    × (column_of (codes "Time [min]") ≡ Unknown) × (column_of (codes "D0") ≡ Levels) × (column_of (codes "tim") ≡ Levels)
-known_columns = (refl, refl, refl, refl, refl, refl, refl, refl, refl)
 
 -- ---- times
 
@@ -60,10 +43,6 @@ pub known_no_times : (when_of Second (codes "3600000") ≡ Err (Time Beyond)) ×
     × (when_of Second (codes ".") ≡ Err BadTime) × (when_of Second (codes "1e") ≡ Err BadTime) × (when_of Second [] ≡ Err BadTime)
     × (when_of Second (codes "18446744073709551616") ≡ Err BadTime)
 known_no_times = (refl, refl, refl, refl, refl, refl, refl, refl, refl, refl, refl)
-
-pub known_rates : (rate_of (codes "1 MHz") ≡ Some 1000000000000) × (rate_of (codes "12.5khz") ≡ Some 12500000000) × (rate_of (codes "44100") ≡ Some 44100000000)
-    × (rate_of (codes "0 Hz") ≡ None) × (rate_of (codes "fast") ≡ None) × (rate_of (codes "1 mm") ≡ None)
-known_rates = (refl, refl, refl, refl, refl, refl)
 
 -- at 3 kHz the samples are a third of a millisecond apart
 pub known_samples : (row_ns 1 3000000000 ≡ Some 333333) × (row_ns 3 3000000000 ≡ Some 1000000) × (row_ns 3600 1000000 ≡ Some 3600000000000) × (row_ns 3600000 1000000 ≡ None)
@@ -145,9 +124,8 @@ known_volts = refl
 pub known_low : volts (line (codes "Time,A") ++ line (codes "0,1.5") ++ line (codes "1,1.500000001")) ≡ Some (levels 0 0 ∷ levels 1000000000 1 ∷ Ends 1000000000 ∷ [])
 known_low = refl
 
-pub known_thresholds : (place_of (codes "-0.0000000019") ≡ Some 999999999999999999) × (place_of (codes "999999999.999999999") ≡ Some 1999999999999999999)
-    × (place_of (codes "1e9") ≡ None) × (threshold_of (codes "1,5") ≡ None) × (volts (line (codes "Time,A") ++ line (codes "0,high")) ≡ Some (denied 2 (Level 0) ∷ []))
-known_thresholds = (refl, refl, refl, refl, refl)
+pub known_no_volts : volts (line (codes "Time,A") ++ line (codes "0,high")) ≡ Some (denied 2 (Level 0) ∷ [])
+known_no_volts = refl
 
 -- ---- refusals
 

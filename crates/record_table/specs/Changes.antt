@@ -18,7 +18,7 @@ use Rattle.record_table.specs.declared.now.Fault.{Fault}
 use Rattle.record_table.specs.declared.now.Now.{Now}
 use Rattle.record_table.specs.declared.now.Step.{Step}
 use Rattle.record_table.specs.declared.now.Step.TheVariants.{Goes, Says, Refuses}
-use Rattle.record_table.specs.Remarks.{is_remark}
+use Rattle.record_cells.specs.Remarks.{is_remark}
 use Rattle.record_table.specs.Rows.{row_of}
 use Rattle.record_table.specs.Stands.{no_stand}
 

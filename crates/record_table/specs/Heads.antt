@@ -8,8 +8,8 @@ use Rattle.record_table.specs.declared.title.HeadReason.TheVariants.{Rate as NoR
 use Rattle.record_table.specs.declared.head.Head.{Head}
 use Rattle.record_table.specs.declared.head.Stage.{Stage}
 use Rattle.record_table.specs.declared.head.Stage.TheVariants.{Above, Below, Refused}
-use Rattle.record_table.specs.Rates.{rate_of}
-use Rattle.record_table.specs.Remarks.{is_remark, list_text, rate_text}
+use Rattle.record_cells.specs.Rates.{rate_of}
+use Rattle.record_cells.specs.Remarks.{is_remark, list_text, rate_text}
 use Rattle.record_table.specs.Titles.{bytes_of, title_clock, title_names}
 
 -- a head: the rate of samples and the list of names that remarks say, the names, how far it was read, and on which

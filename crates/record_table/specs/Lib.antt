@@ -1,12 +1,6 @@
-pub mod Cells
-pub mod Remarks
-pub mod Rates
-pub mod Units
 pub mod Titles
 pub mod Heads
-pub mod Scales
 pub mod Whens
-pub mod Volts
 pub mod Stands
 pub mod Rows
 pub mod Changes

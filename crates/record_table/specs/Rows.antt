@@ -7,7 +7,7 @@ use Rattle.record_text.specs.Numbers.{number}
 use Rattle.record_table.specs.declared.clock.Clock.{Clock}
 use Rattle.record_table.specs.declared.clock.Clock.TheVariants.{Times, Rate, Steps}
 use Rattle.record_table.specs.declared.clock.Timed.{Timed}
-use Rattle.record_table.specs.declared.unit.Unit.{Unit}
+use Rattle.record_cells.specs.declared.unit.Unit.{Unit}
 use Rattle.record_table.specs.declared.row.Reason.{Reason}
 use Rattle.record_table.specs.declared.row.Reason.TheVariants.{Long, NoStep, Time}
 use Rattle.record_table.specs.declared.row.Plan.{Plan}
@@ -16,7 +16,7 @@ use Rattle.record_table.specs.declared.row.Stand.{Stand}
 use Rattle.record_table.specs.declared.now.Now.{Now}
 use Rattle.record_table.specs.Stands.{stand_of}
 use Rattle.record_table.specs.declared.when.When.{When}
-use Rattle.record_table.specs.Cells.{unquoted}
+use Rattle.record_cells.specs.Cells.{unquoted}
 use Rattle.record_table.specs.Whens.{row_ns, when_by, when_of}
 
 -- the cell of a row's time

@@ -6,10 +6,10 @@ use Rattle.record_table.specs.declared.row.Plan.{Plan}
 use Rattle.record_table.specs.declared.row.Reason.{Reason}
 use Rattle.record_table.specs.declared.row.Reason.TheVariants.{Columns, Level}
 use Rattle.record_table.specs.declared.row.Stand.{Stand}
-use Rattle.record_table.specs.declared.volts.Swing.{Swing}
-use Rattle.record_table.specs.declared.volts.Threshold.{Threshold}
-use Rattle.record_table.specs.Cells.{columns_in, level_of, unquoted}
-use Rattle.record_table.specs.Volts.{place_of, swung}
+use Rattle.record_cells.specs.declared.volts.Swing.{Swing}
+use Rattle.record_cells.specs.declared.volts.Threshold.{Threshold}
+use Rattle.record_cells.specs.Cells.{columns_in, level_of, unquoted}
+use Rattle.record_cells.specs.Volts.{place_of, swung}
 
 -- all low, and never off the threshold
 abbrev pub no_stand : Stand

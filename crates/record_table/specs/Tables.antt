@@ -13,7 +13,7 @@ use Rattle.record_table.specs.declared.head.Stage.{Stage}
 use Rattle.record_table.specs.declared.head.Stage.TheVariants as stage
 use Rattle.record_table.specs.declared.changes.Changes.{Changes}
 use Rattle.record_table.specs.Heads.{HeadEnd, HeadValue, head_end, head_from, top, value_of}
-use Rattle.record_table.specs.declared.volts.Threshold.{Threshold}
+use Rattle.record_cells.specs.declared.volts.Threshold.{Threshold}
 use Rattle.record_table.specs.Changes.{Reading, Said, changes_of, said, said_from}
 use Rattle.record_table.specs.Changes.Said.{Refused}
 

@@ -6,14 +6,14 @@ use Rattle.record_text.specs.Fields.{field}
 use Rattle.record_table.specs.declared.name.Name.{Name}
 use Rattle.record_table.specs.declared.clock.Clock.{Clock}
 use Rattle.record_table.specs.declared.clock.Clock.TheVariants.{Times, Rate, Steps}
-use Rattle.record_table.specs.declared.unit.Column.{Column}
-use Rattle.record_table.specs.declared.unit.Column.TheVariants.{Levels, Unknown}
-use Rattle.record_table.specs.declared.unit.Column.TheVariants.{Times as HasTimes}
+use Rattle.record_cells.specs.declared.unit.Column.{Column}
+use Rattle.record_cells.specs.declared.unit.Column.TheVariants.{Levels, Unknown}
+use Rattle.record_cells.specs.declared.unit.Column.TheVariants.{Times as HasTimes}
 use Rattle.record_table.specs.declared.title.HeadReason.{HeadReason}
 use Rattle.record_table.specs.declared.title.HeadReason.TheVariants.{Long, NoTimes, NoChannel}
 use Rattle.record_table.specs.declared.title.HeadReason.TheVariants.{Unit as NoUnit}
-use Rattle.record_table.specs.Cells.{columns_in, unquoted}
-use Rattle.record_table.specs.Units.{column_of}
+use Rattle.record_cells.specs.Cells.{columns_in, unquoted}
+use Rattle.record_cells.specs.Units.{column_of}
 
 -- the bytes of names
 abbrev pub bytes_of : List Name → List (List ℕ)

@@ -5,13 +5,13 @@ use Rattle.record_levels.specs.Limits.{end_ns}
 use Rattle.record_levels.specs.declared.limits.TimeFault.TheVariants.{Beyond}
 use Rattle.record_text.specs.Signed.{decimal}
 use Rattle.record_text.specs.declared.signed.Decimal.{Decimal}
-use Rattle.record_table.specs.declared.unit.Unit.{Unit}
+use Rattle.record_cells.specs.declared.unit.Unit.{Unit}
 use Rattle.record_table.specs.declared.row.Reason.{Reason}
 use Rattle.record_table.specs.declared.row.Reason.TheVariants.{BadTime, Time}
 use Rattle.record_table.specs.declared.when.When.{When}
 use Rattle.record_table.specs.declared.when.When.TheVariants.{After, Before}
-use Rattle.record_table.specs.Scales.{below, scaled}
-use Rattle.record_table.specs.Units.{power_of}
+use Rattle.record_cells.specs.Scales.{below, scaled}
+use Rattle.record_cells.specs.Units.{power_of}
 
 -- before or after the time of 0
 abbrev pub signed : (minus : Bool) → (time : ℕ) → When

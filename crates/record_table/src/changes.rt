@@ -10,9 +10,8 @@ use crate::chosen::Chosen;
 use crate::clock::Clock;
 use crate::head::{Head, HeadFault, Stage};
 use crate::now::{Fault, Now, Step};
-use crate::remark::is_remark;
 use crate::row::{Plan, Reason, row_of};
-use crate::volts::Threshold;
+use record_cells::{Threshold, is_remark};
 use record_levels::Levels;
 use record_text::Lines;
 use std::alloc::Global;
@@ -62,8 +61,8 @@ impl Changes {
         Changes::of(alloc, head, None, chosen)
     }
 
-    /// The same of a table of voltages: a line is high above the threshold. It keeps its level while it is
-    /// off the threshold by no more than a tenth of the most that it ever was.
+    /// The same of a table of voltages: a line is high above the threshold. It keeps its level
+    /// while it is off the threshold by no more than a tenth of the most that it ever was.
     pub fn by_threshold(
         alloc: Global,
         head: Head,
@@ -112,16 +111,16 @@ impl Changes {
         })
     }
 
-    /// How long before the time of 0 the recording begins, in nanoseconds: its times are counted from
-    /// the first row, if that stands at a time below 0. It is 0 before the first row.
+    /// How long before the time of 0 the recording begins, in nanoseconds: its times are counted
+    /// from the first row, if that stands at a time below 0. It is 0 before the first row.
     pub fn start_ns(&self) -> u64
         ensures { result ≡ self.now.here.start_ns }
     {
         self.here.start_ns
     }
 
-    /// Reads on to a row that goes on to a later time, if levels are to be said at the one before, or to
-    /// the end of these bytes. What was refused is refused again at each call.
+    /// Reads on to a row that goes on to a later time, if levels are to be said at the one before,
+    /// or to the end of these bytes. What was refused is refused again at each call.
     pub fn read(&mut self, bytes: &[u8]) -> Result<Taken, Fault>
         ensures within { IfOk result (λ taken. taken.count ≤ length bytes.now) }
         ensures some { IfOk result (λ taken. IfSome taken.levels (λ levels. 0 < taken.count)) }

@@ -3,10 +3,9 @@
 ghost use Rattle.std.specs.Prelude.{◌≡◌};
 ghost use Rattle.record_table.specs.Rows.{cells_of, counted_time, step_by, step_time, time_cell, time_of, with_step};
 
-use crate::cells::unquoted;
 use crate::row::Reason;
-use crate::unit::Unit;
 use crate::when::{When, when_by_rate, when_of};
+use record_cells::{Unit, unquoted};
 use record_levels::TimeFault;
 use record_text::{after_comma, field_of, number_of};
 
@@ -17,9 +16,10 @@ pub enum Clock {
     Times(Unit),
     /// A row is a sample, of so many millionths a second.
     Rate(u128),
-    /// The first column has whole times, and a remark says the rate of samples, in millionths a second.
-    /// sigrok cuts the time of one sample to a whole number, and multiplies that. So the first row is
-    /// the first sample, and its time is that of one. A time that is not whole is in this unit.
+    /// The first column has whole times, and a remark says the rate of samples, in millionths a
+    /// second. sigrok cuts the time of one sample to a whole number, and multiplies that. So the
+    /// first row is the first sample, and its time is that of one. A time that is not whole is in
+    /// this unit.
     Steps(Unit, u128),
 }
 

@@ -7,9 +7,8 @@ ghost use Rattle.record_table.specs.declared.head.HeadFault.TheVariants.{Memory}
 
 use crate::clock::Clock;
 use crate::name::Name;
-use crate::rate::rate_of;
-use crate::remark::{is_remark, list_text, rate_text};
 use crate::title::{HeadReason, HeadRefusal, names_of, title_clock};
+use record_cells::{is_remark, list_text, rate_of, rate_text};
 use record_text::{Lines, without_mark};
 use std::alloc::{AllocError, Global};
 
@@ -78,8 +77,8 @@ impl Head {
         }
     }
 
-    /// The names of the channels, in the order of their columns. None before the head is over, or if it
-    /// is refused.
+    /// The names of the channels, in the order of their columns. None before the head is over, or
+    /// if it is refused.
     pub fn names(&self) -> &[Name]
         ensures { result.now ≡ self.now.names.items }
     {

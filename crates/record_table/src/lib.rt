@@ -1,11 +1,10 @@
-//! A table of levels or volts with commas, read as it comes in pieces: the names of its channels, and the
-//! levels of up to five of them.
+//! A table of levels or volts with commas, read as it comes in pieces: the names of its channels,
+//! and the levels of up to five of them.
 //!
-//! A [`Head`] is read up to the line of names. The caller chooses among these; [`Changes`] are read from
-//! there on, and say the levels with their times.
+//! A [`Head`] is read up to the line of names. The caller chooses among these; [`Changes`] are read
+//! from there on, and say the levels with their times.
 #![tactic(auto)]
 
-mod cells;
 mod changes;
 mod chosen;
 mod clock;
@@ -13,13 +12,8 @@ mod head;
 mod laws;
 mod name;
 mod now;
-mod rate;
-mod remark;
 mod row;
-mod scale;
 mod title;
-mod unit;
-mod volts;
 mod when;
 
 pub use changes::{Changes, End, Taken};
@@ -30,5 +24,3 @@ pub use name::Name;
 pub use now::Fault;
 pub use row::Reason;
 pub use title::{HeadReason, HeadRefusal};
-pub use unit::Unit;
-pub use volts::Threshold;

@@ -15,7 +15,8 @@ pub struct Name {
 
 /// Adds a name.
 pub(crate) fn add(alloc: Global, names: &mut Vec<Name>, text: &[u8]) -> Result<(), AllocError>
-    ensures { IfOk result (λ _. bytes_of names.new.items ≡ bytes_of names.old.items ++ text.now ∷ []) }
+    ensures { IfOk result (λ _. bytes_of names.new.items
+        ≡ bytes_of names.old.items ++ text.now ∷ []) }
 {
     let mut bytes = Vec::new(alloc);
     bytes.extend_from_slice(text)?;

@@ -4,11 +4,10 @@ ghost use Rattle.std.specs.Prelude.{◌≡◌, ◌≤◌, ◌<◌, length};
 ghost use Rattle.record_table.specs.Stands.{all_low, most_at, no_stand, stand_from, stand_of, swing_at, swing_of, with_level, with_most, with_swing};
 ghost use Rattle.record_table.specs.Rows.{row_by, row_of};
 
-use crate::cells::{columns_in, level_of, unquoted};
 use crate::clock::{Clock, Timed};
 use crate::now::Now;
-use crate::volts::{Swing, Threshold, place_of};
 use crate::when::When;
+use record_cells::{Swing, Threshold, columns_in, level_of, place_of, unquoted};
 use record_levels::TimeFault;
 use record_text::{LONGEST_LINE, field_of};
 
@@ -21,8 +20,8 @@ pub enum Reason {
     BadTime,
     /// It has fewer columns than there are names: so many, without that of times.
     Columns(usize),
-    /// What stands in the column of a chosen channel is neither 0 nor 1, or with a threshold no decimal
-    /// number: at this place among the names, from 0.
+    /// What stands in the column of a chosen channel is neither 0 nor 1, or with a threshold no
+    /// decimal number: at this place among the names, from 0.
     Level(usize),
     /// Its time is 0, and that of one sample, of which a remark says the rate.
     NoStep,
@@ -32,7 +31,8 @@ pub enum Reason {
     NoRow,
 }
 
-/// How far each chosen line was off the threshold at most so far, in billionths, and which are high.
+/// How far each chosen line was off the threshold at most so far, in billionths, and which are
+/// high.
 #[derive(Clone, Copy)]
 pub(crate) struct Stand {
     pub(crate) first: u64,
@@ -55,7 +55,8 @@ pub(crate) struct Plan {
     pub(crate) columns: usize,
 }
 
-/// A row: its time, the step that was seen in the column of times, and how the chosen lines stand then.
+/// A row: its time, the step that was seen in the column of times, and how the chosen lines stand
+/// then.
 #[derive(Clone, Copy)]
 pub(crate) struct Row {
     pub(crate) when: When,

@@ -3,14 +3,14 @@
 ghost use Rattle.std.specs.Prelude.{◌≡◌, ◌≤◌, ◌-◌, ◌+◌, IfOk, length, true, false};
 ghost use Rattle.record_table.specs.Titles.{all_are, bytes_of, clock_of, first_place, is_nameless, names_from, names_in, numbered_from, title_clock, title_names};
 
-use crate::cells::{columns_in, unquoted};
 use crate::clock::Clock;
 use crate::name::{Name, add, add_numbered};
-use crate::unit::{Column, column_of};
+use record_cells::{Column, column_of, columns_in, unquoted};
 use record_text::{LONGEST_LINE, field_of};
 use std::alloc::{AllocError, Global};
 
-/// Why a table is refused for what stands above its rows, in the order in which faults are answered.
+/// Why a table is refused for what stands above its rows, in the order in which faults are
+/// answered.
 #[derive(Clone, Copy, PartialEq, Eq)]
 pub enum HeadReason {
     /// A remark says a rate of samples that is none, as `; Samplerate: fast`.

@@ -3,12 +3,11 @@
 ghost use Rattle.std.specs.Prelude.{◌≡◌, ◌+◌, ◌*◌, ◌/◌, ◌^◌, ◌≤◌, false};
 ghost use Rattle.record_text.specs.Signed.{IsSmall};
 ghost use Rattle.record_levels.specs.Limits.{end_ns};
-ghost use Rattle.record_table.specs.Scales.{below, scaled};
+ghost use Rattle.record_cells.specs.Scales.{below, scaled};
 ghost use Rattle.record_table.specs.Whens.{row_ns, signed, when_by, when_of};
 
 use crate::row::Reason;
-use crate::scale::scaled_below;
-use crate::unit::Unit;
+use record_cells::{Unit, scaled_below};
 use record_levels::TimeFault;
 use record_text::{Decimal, decimal_of};
 

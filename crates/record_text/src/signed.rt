@@ -8,8 +8,8 @@ use crate::number::number_of;
 /// The largest exponent that is read.
 const MOST_POWER: u64 = 99;
 
-/// A decimal number as it is written: the number of its digits, times 10 to the power of `up`, parted by
-/// 10 to the power of `down`.
+/// A decimal number as it is written: the number of its digits, times 10 to the power of `up`,
+/// divided by 10 to the power of `down`.
 #[derive(Clone, Copy, PartialEq, Eq)]
 pub struct Decimal {
     /// Whether a minus stands before it.
@@ -22,8 +22,9 @@ pub struct Decimal {
     pub down: u64,
 }
 
-/// The decimal number that a text spells: maybe a sign, digits with a point before, between or behind
-/// them, and maybe e or E with an exponent, from -99 to 99. Its digits are a number below 2^64.
+/// The decimal number that a text spells: maybe a sign, digits with a point before, between or
+/// behind them, and maybe e or E with an exponent, from -99 to 99. Its digits are a number below
+/// 2^64.
 pub fn decimal_of(text: &[u8]) -> Option<Decimal>
     ensures says { result ≡ decimal text.now }
     ensures small { IfSome result IsSmall }

@@ -1,6 +1,7 @@
 //! Tables, from their bytes to the levels that they say.
 
-use record_table::{Changes, Fault, Head, HeadFault, Name, Threshold};
+use record_cells::Threshold;
+use record_table::{Changes, Fault, Head, HeadFault, Name};
 use std::alloc::{AllocError, Global};
 use std::test::Fail;
 

@@ -1,5 +1,5 @@
 use Rattle.std.proofs.Common.{[], ◌∷◌, ◌++◌, ap, ◌∙◌}
-use Rattle.record_table.specs.Cells.{unquoted}
+use Rattle.record_cells.specs.Cells.{unquoted}
 use Rattle.record_table.specs.Titles.{bytes_of}
 use Rattle.record_table.proofs.NameLaws.{next-name}
 use Rattle.record_table.proofs.title.names_at.Goals as goal

@@ -1,7 +1,0 @@
-use Rattle.std.proofs.Common.{◌≡◌, ◌+◌, ◌≤◌, drop}
-use Rattle.record_table.specs.Cells.{columns_in}
-use Rattle.record_table.proofs.cells.columns_in.Given as goal
-
--- what is left decides
-abbrev pub invariant-loop-byte : goal.invariant-loop-byte
-invariant-loop-byte l = (l.commas + columns_in (drop l.byte-index l.text) ≡ columns_in l.text) × (l.commas ≤ l.byte-index)
