@@ -3,7 +3,7 @@
 use Rattle.std.specs.Prelude.{ℕ, ◌+◌, ◌-◌, Bool, true, false, ◌&&◌, ◌||◌, if◌then◌else◌, List, [], ◌∷◌, length, take, codes, slice_index_or, Option, Some, None, nat_eq, nat_lt}
 use Rattle.std.specs.Str.{bytes_eq}
 
--- a cell that begins with a quote, without that one and the one at its end, if it is there
+-- a cell that begins with a quote: without it and the one at its end, if there is one
 abbrev pub unquoted_by : (inner cell : List ℕ) → List ℕ
 unquoted_by inner cell =
     if nat_lt 0 (length inner) && nat_eq (slice_index_or inner (length inner - 1) 0) 34

@@ -13,7 +13,7 @@ pub fn unquoted(cell: &[u8]) -> &[u8]
     }
 }
 
-// Without the second quote too, if it is there.
+// Without both quotes, if one stands at the end.
 fn unquoted_by<'a>(inner: &'a [u8], cell: &'a [u8]) -> &'a [u8]
     ensures { result.now ≡ unquoted_by inner.now cell.now }
 {
@@ -25,7 +25,7 @@ fn unquoted_by<'a>(inner: &'a [u8], cell: &'a [u8]) -> &'a [u8]
     }
 }
 
-/// The level that a cell says.
+/// The level that a cell says: high for 1 and low for 0, in quotes or not.
 pub fn level_of(cell: &[u8]) -> Option<bool>
     ensures { result ≡ level_of cell.now }
 {

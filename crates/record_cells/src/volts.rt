@@ -31,7 +31,9 @@ impl Threshold {
 /// How far a line was off the threshold at most so far, in billionths, and its level.
 #[derive(Clone, Copy)]
 pub struct Swing {
+    /// The most, in billionths of the unit of its column.
     pub most: u64,
+    /// Whether it is high.
     pub is_high: bool,
 }
 

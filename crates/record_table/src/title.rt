@@ -21,7 +21,7 @@ pub enum HeadReason {
     Unit,
     /// The first column has no times by its name, and no remark above says the rate of samples.
     NoTimes,
-    /// No channel has a name.
+    /// No channel has a name, as where no comma parts the columns.
     NoChannel,
 }
 
