@@ -1,5 +1,7 @@
 //! Tables, from their bytes to the levels that they say.
 
+ghost use Rattle.std.specs.Prelude.{◌<◌};
+
 use record_cells::Threshold;
 use record_table::{Changes, Fault, Head, HeadFault, Name};
 use std::alloc::{AllocError, Global};
