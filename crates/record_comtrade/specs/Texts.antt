@@ -1,21 +1,13 @@
 -- The lines of a configuration, and what a reader of one has.
 -- Source: IEEE C37.111-2013, 5.3; that a byte order mark is left out is this project's profile.
-use Rattle.std.specs.Prelude.{ℕ, if◌then◌else◌, List, [], ◌∷◌, ◌++◌, map, ◌&&◌, nat_eq, Option}
-use Rattle.record_text.specs.Lines.{Line, lines_of, lines_on, with_line}
+use Rattle.std.specs.Prelude.{ℕ, if◌then◌else◌, List, [], ◌∷◌, ◌++◌, map, nat_eq, Option}
+use Rattle.record_text.specs.Lines.{Line, lines_of, lines_on, with_line, without_mark}
 use Rattle.record_comtrade.specs.declared.text.Text.{Text}
 use Rattle.record_comtrade.specs.declared.reading.ConfigText.{ConfigText}
 
 -- the bytes of some texts
 abbrev pub texts_of : List Text → List (List ℕ)
 texts_of texts = map (λ text. text.bytes.items) texts
-
--- a text without the byte order mark at its beginning
-abbrev pub without_mark : (text : List ℕ) → List ℕ
-without_mark [] = []
-without_mark (a ∷ []) = a ∷ []
-without_mark (a ∷ b ∷ []) = a ∷ b ∷ []
-without_mark (a ∷ b ∷ c ∷ rest) =
-    if nat_eq a 239 && nat_eq b 187 && nat_eq c 191 then rest else a ∷ b ∷ c ∷ rest
 
 -- the text of a line; the first one may begin with a mark
 abbrev pub text_on : (number : ℕ) → (text : List ℕ) → List ℕ

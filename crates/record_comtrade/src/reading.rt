@@ -7,8 +7,8 @@ ghost use Rattle.record_comtrade.specs.Configs.{config_of};
 
 use crate::fault::ConfigFault;
 use crate::parts::Config;
-use crate::text::{Text, keep, without_mark};
-use record_text::Lines;
+use crate::text::{Text, keep};
+use record_text::{Lines, without_mark};
 use std::alloc::{AllocError, Global};
 
 /// The text of a configuration as far as it was read: lines that end with CR LF, LF or CR, the first maybe

@@ -1,7 +1,7 @@
 //! A text of its own.
 
 ghost use Rattle.std.specs.Prelude.{◌≡◌, ◌∷◌, ◌++◌, [], IfOk};
-ghost use Rattle.record_comtrade.specs.Texts.{texts_of, without_mark};
+ghost use Rattle.record_comtrade.specs.Texts.{texts_of};
 
 use std::alloc::{AllocError, Global};
 
@@ -20,14 +20,4 @@ pub(crate) fn keep(alloc: Global, texts: &mut Vec<Text>, text: &[u8]) -> Result<
     bytes.extend_from_slice(text)?;
     texts.push(Text { bytes })?;
     Ok(())
-}
-
-/// A text without the byte order mark at its beginning.
-pub(crate) fn without_mark(text: &[u8]) -> &[u8]
-    ensures { result.now ≡ without_mark text.now }
-{
-    match text {
-        [239, 187, 191, rest @ ..] => rest,
-        _ => text,
-    }
 }

@@ -1,5 +1,5 @@
 -- Words and numbers at known values.
-use Rattle.std.proofs.Common.{◌≡◌, ℕ, ◌+◌, List, [], ◌∷◌, ◌++◌, Some, None, refl}
+use Rattle.std.proofs.Common.{◌≡◌, ℕ, List, [], ◌∷◌, ◌++◌, Some, None, refl}
 use Rattle.std.specs.Prelude.{codes}
 use Rattle.record_text.specs.Decimals.{millionths, places_in}
 use Rattle.record_text.specs.Fields.{field}

@@ -1,6 +1,6 @@
 -- Words of a text in two pieces.
 use Rattle.std.proofs.Common.{◌≡◌, ℕ, true, false, List, [], ◌∷◌, ◌++◌, refl, ap, sym, append_assoc, ◌∙◌}
-use Rattle.record_text.specs.Words.{Word, after, after_by, is_blank, kept, line_after, whole_words, word_on, words_by, words_from}
+use Rattle.record_text.specs.Words.{after, after_by, is_blank, kept, line_after, whole_words, word_on, words_by, words_from}
 
 pub words-append : (line : ℕ) (word xs ys : List ℕ) → words_from line word (xs ++ ys)
     ≡ whole_words line word xs ++ words_from (after line word xs).line (after line word xs).text ys

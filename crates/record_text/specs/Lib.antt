@@ -3,3 +3,4 @@ pub mod Lines
 pub mod Fields
 pub mod Numbers
 pub mod Decimals
+pub mod Signed

@@ -8,6 +8,14 @@ pub record Line : Type 0 where
   pub text : List ℕ
   pub number : ℕ
 
+-- a text without the byte order mark at its beginning
+abbrev pub without_mark : (text : List ℕ) → List ℕ
+without_mark [] = []
+without_mark (a ∷ []) = a ∷ []
+without_mark (a ∷ b ∷ []) = a ∷ b ∷ []
+without_mark (a ∷ b ∷ c ∷ rest) =
+    if nat_eq a 239 && nat_eq b 187 && nat_eq c 191 then rest else a ∷ b ∷ c ∷ rest
+
 -- a line with one byte more, of which the first 1,024 are kept
 abbrev pub kept_of_line : (text : List ℕ) → (byte : ℕ) → List ℕ
 kept_of_line text b = if nat_lt (length text) 1024 then text ++ b ∷ [] else text

@@ -23,7 +23,8 @@ pub fn trimmed(text: &[u8]) -> &[u8]
     text.trim_ascii()
 }
 
-fn after_comma(text: &[u8]) -> &[u8]
+/// What stands after the first comma of a line; nothing, if it has none.
+pub fn after_comma(text: &[u8]) -> &[u8]
     ensures { result.now ≡ after_comma text.now }
 {
     match text.split_at(comma_in(text)).1 {

@@ -1,12 +1,22 @@
 //! Lines, one after another.
 
 ghost use Rattle.std.specs.Prelude.{◌≡◌, ℕ, List, [], ◌∷◌, ◌++◌, take, length, IfNone, IfSome, ◌<◌, ◌≤◌, ◌^◌};
-ghost use Rattle.record_text.specs.Lines.{kept_of_line, lines_of, lines_on, next_number, with_line};
+ghost use Rattle.record_text.specs.Lines.{kept_of_line, lines_of, lines_on, next_number, with_line, without_mark};
 
 use arrayvec::ArrayVec;
 
 /// The most bytes of a line that are kept; what it has beyond them is left out.
 pub const LONGEST_LINE: usize = 1_024;
+
+/// A text without the byte order mark at its beginning.
+pub fn without_mark(text: &[u8]) -> &[u8]
+    ensures { result.now ≡ without_mark text.now }
+{
+    match text {
+        [239, 187, 191, rest @ ..] => rest,
+        _ => text,
+    }
+}
 
 /// How many bytes were taken, and whether a line ended with them.
 #[derive(Clone, Copy, PartialEq, Eq, Drop)]

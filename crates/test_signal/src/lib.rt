@@ -23,16 +23,8 @@ mod rates;
 #[cfg(test)]
 mod readers;
 #[cfg(test)]
-mod recorded;
-#[cfg(test)]
-mod samples;
-#[cfg(test)]
-mod stamps;
-#[cfg(test)]
 mod texts;
 #[cfg(test)]
 mod times;
-#[cfg(test)]
-mod verdicts;
 #[cfg(test)]
 mod wires;
