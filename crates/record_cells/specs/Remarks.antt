@@ -1,5 +1,5 @@
 -- Remarks of a table, and what they say.
--- Source: sigrok's output of tables (; Samplerate: 1 MHz, ; Channels (..): D0, D1), and this project's profile.
+-- Source: sigrok's output of tables (; Samplerate: 1 MHz, ; Channels (..): left, right), and this project's profile.
 use Rattle.std.specs.Prelude.{ℕ, Bool, false, ◌&&◌, ◌||◌, if◌then◌else◌, List, [], ◌∷◌, length, take, drop, codes, Option, Some, None, nat_eq, nat_lt}
 use Rattle.std.specs.Str.{str_eq_ignore_ascii_case}
 use Rattle.record_text.specs.Fields.{trimmed}
@@ -68,6 +68,6 @@ abbrev pub list_by : (text : Option (List ℕ)) → Option (List ℕ)
 list_by (Some text) = behind_bracket text
 list_by None = None
 
--- the names that a remark lists, as ; Channels (..): D0, D1
+-- the names that a remark lists, as ; Channels (..): left, right
 abbrev pub list_text : (line : List ℕ) → Option (List ℕ)
 list_text line = list_by (after_word (said_in line) (codes "channels ("))

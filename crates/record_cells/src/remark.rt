@@ -30,7 +30,7 @@ pub fn rate_text(line: &[u8]) -> Option<&[u8]>
     after_word(said_in(line), b"samplerate:")
 }
 
-/// The names that a remark lists, as `; Channels (..): D0, D1`.
+/// The names that a remark lists, as `; Channels (..): left, right`.
 pub fn list_text(line: &[u8]) -> Option<&[u8]>
     ensures some { IfSome result (λ text. list_text line.now ≡ Some text.now) }
     ensures none { IfNone result (list_text line.now ≡ None) }
