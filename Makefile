@@ -61,7 +61,10 @@ reproduce: release
 	there=$$(mktemp -d) && trap 'rm -rf "$$there"' EXIT && git clone -q . "$$there/irig" && \
 		$(MAKE) -C "$$there/irig" release && diff -r out/release "$$there/irig/out/release"
 
-out/windows/irig.exe: $(sources) toolchain/for_windows toolchain/windows.c toolchain/llvm_module c/irig_heap.c
+out/irig_main.ll: $(sources) toolchain/llvm_module
+	toolchain/llvm_module irig_main $@
+
+out/windows/irig.exe: out/irig_main.ll toolchain/for_windows toolchain/windows.c c/irig_heap.c
 	toolchain/for_windows $@
 
 web/out/irig.html: web/out/c_scenario.wasm $(of_page)

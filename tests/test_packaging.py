@@ -60,6 +60,9 @@ touch web/out/c_scenario.wasm
 PAGE = """#!/bin/bash
 echo a page > web/out/irig.html
 """
+MODULE = """#!/bin/bash
+touch "$2"
+"""
 WINDOWS = """#!/bin/bash
 mkdir -p out/windows
 echo a program > out/windows/irig.exe
@@ -170,13 +173,13 @@ class Packages(InAFolder):
             else:
                 shutil.copy(ROOT / name, to)
         for name, text in (("build", BUILD), ("c/Makefile", OF_C), ("python/backend.py", BACKEND), ("web/build", WEB),
-                           ("web/page.py", PAGE), ("toolchain/for_windows", WINDOWS), ("docs/irig.bash", ""),
+                           ("web/page.py", PAGE), ("toolchain/for_windows", WINDOWS), ("toolchain/llvm_module", MODULE), ("docs/irig.bash", ""),
                            ("docs/irig.1", '.TH IRIG 1 2026-01-01 "irig 2.0.0"\n')):
             write(root / name, text)
         for name in ("docs/C.md", "docs/PAGE.md", "examples/one.jsonl", "c/examples/one.c", "c/boards/board.c",
                      "c/firmware/Makefile", "python/examples/one.py", "sigrok/README.md", "sigrok/irigb/pd.py",
                      "crates/irig_main/src/main.rt", "toolchain/system.c", "toolchain/windows.c",
-                     "toolchain/llvm_module", "c/irig_heap.c"):
+                     "c/irig_heap.c"):
             write_page(root / name)
         write(root / "c/examples/run", "#!/bin/sh\n")
 
@@ -490,7 +493,7 @@ class Release(Packages):
         ran = self.run_here("packaging/release")
         self.assertEqual((ran.returncode, ran.stderr), (1, f"release: {WHEEL} is not proved\n"))
         self.assertEqual({name: (self.release / name).read_bytes() for name in files_below(self.release)}, before)
-        self.assertEqual({path.name for path in (self.root / "out").iterdir()}, {"THIRD_PARTY", "release", "windows"})
+        self.assertEqual({path.name for path in (self.root / "out").iterdir()}, {"THIRD_PARTY", "irig_main.ll", "release", "windows"})
 
 
 def load_tests(_loader: object, tests: unittest.TestSuite, _pattern: object) -> unittest.TestSuite:
