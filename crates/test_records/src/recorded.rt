@@ -226,7 +226,13 @@ fn a_recording_shows_the_seconds_of_most_lines(rt: HostRuntime) -> Result<(), Fa
     let (Ok(timeline), Ok(generator), Ok(mut recording)) = (
         Timeline::new(rt.alloc(), START, &[]),
         Generator::new(rt.alloc(), zone, &[], Rules::PLAIN),
-        Recording::<FlowPort>::new(Rules::PLAIN, clock(), LeapTable::empty(), 50_000),
+        Recording::<FlowPort>::new(
+            rt.alloc(),
+            Rules::PLAIN,
+            clock(),
+            LeapTable::empty(),
+            50_000,
+        ),
     ) else {
         return Err(Fail::from("no recording"));
     };
