@@ -1,6 +1,6 @@
 //! Samples of digital channels, read in pieces.
 
-ghost use Rattle.std.specs.Prelude.{◌≡◌, ℕ, All, List, [], ◌∷◌, ◌++◌, take, length, Some, None, IfOk, IfSome, IfErr, MatchResult, IsTrue, ◌+◌, ◌<◌, ◌≤◌};
+ghost use Rattle.std.specs.Prelude.{◌≡◌, ℕ, All, List, [], ◌∷◌, ◌++◌, take, length, Some, None, IfOk, IfSome, IfErr, MatchResult, IsTrue, true, false, nat_eq, ◌+◌, ◌<◌, ◌≤◌};
 ghost use Rattle.record_comtrade.specs.Samples.{high_of, stays, step};
 ghost use Rattle.record_comtrade.specs.Samples.Said.{Ends, Refused};
 ghost use Rattle.record_comtrade.specs.Records.{IsDataOf, are_numbers};
@@ -182,8 +182,12 @@ impl Data {
         ensures refuses { IfErr result (λ fault. (more : List ℕ)
             → FaultSays fault (to_come self.old (sample.now ++ more))) }
     {
-        let step = self.judged(sample);
         let (_, digital) = sample.split_at(self.offset);
+        if self.is_as_before(digital) {
+            self.here = self.here.counted(mark_of(sample));
+            return Ok(None);
+        }
+        let step = self.judged(sample);
         set(&mut self.digital, digital)?;
         match step {
             Step::Goes(now) => {
@@ -199,6 +203,14 @@ impl Data {
                 Err(DataFault::Refused(fault))
             }
         }
+    }
+
+    // Whether these are the digital channels of the sample before, as they are of most.
+    fn is_as_before(&self, digital: &[u8]) -> bool
+        ensures { result ≡ true
+            → (nat_eq self.now.here.count 0 ≡ false) × (digital.now ≡ self.now.digital.items) }
+    {
+        self.here.count > 0 && digital == self.digital.as_slice()
     }
 
     // What a sample makes of the levels.
@@ -219,20 +231,13 @@ impl Data {
     }
 
     // Whether the levels stay with these digital channels.
-    #[tactic(auto, using(crate::proofs::SampleLaws::same_stays))]
     fn stays(&self, digital: &[u8]) -> bool
         ensures { result ≡ stays self.now.here.count
             (high_of self.now.chosen.items self.now.digital.items)
             (high_of self.now.chosen.items digital.now) }
     {
-        if self.here.count == 0 {
-            return false;
-        }
-        if digital == self.digital.as_slice() {
-            return true;
-        }
         let chosen = self.chosen.as_slice();
-        high_of(chosen, self.digital.as_slice()) == high_of(chosen, digital)
+        self.here.count > 0 && high_of(chosen, self.digital.as_slice()) == high_of(chosen, digital)
     }
 }
 
@@ -254,9 +259,6 @@ fn joined(begun: &mut Vec<u8>, bytes: &[u8]) -> Result<Vec<u8>, AllocError>
 fn set(bytes: &mut Vec<u8>, text: &[u8]) -> Result<(), AllocError>
     ensures { IfOk result (λ _. bytes.new.items ≡ text.now) }
 {
-    if bytes.as_slice() == text {
-        return Ok(());
-    }
     bytes.clear();
     bytes.extend_from_slice(text)?;
     Ok(())

@@ -9,9 +9,15 @@ use crate::clock::Mark;
 pub(crate) fn mark_of(sample: &[u8]) -> Mark
     ensures { result ≡ mark_of sample.now }
 {
-    Mark {
-        number: number_at(sample, 0),
-        time: number_at(sample, 4),
+    match sample {
+        [a, b, c, d, e, f, g, h, ..] => Mark {
+            number: u32::from_le_bytes([*a, *b, *c, *d]),
+            time: u32::from_le_bytes([*e, *f, *g, *h]),
+        },
+        _ => Mark {
+            number: number_at(sample, 0),
+            time: number_at(sample, 4),
+        },
     }
 }
 
