@@ -1,7 +1,7 @@
 // ---- recordings: a worker runs the program, which judges what was opened
 
 const JUDGED = {
-  0: "judged", 2: "these words ask for nothing", 3: "refused", 4: "it can't be read", 6: "out of memory",
+  0: "judged", 2: "the lines or the zone are not understood", 3: "refused", 4: "it can't be read", 6: "out of memory",
   7: "undecided",
 };
 
@@ -17,7 +17,12 @@ class RecordingTab {
   constructor(module) {
     Object.assign(this, { module, files: [], worker: null, run: 0 });
     this.source = URL.createObjectURL(new Blob([part("recorder").textContent], { type: "text/javascript" }));
-    part("recording").addEventListener("change", ({ target }) => this.take([...target.files]));
+    part("recording").addEventListener("change", ({ target }) => {
+      this.take([...target.files]);
+      target.value = ""; // so that the same file may be opened again
+    });
+    for (const name of ["channels", "stamp-zone"])
+      part(name).addEventListener("input", () => this.tell("changed since: press Judge"));
     part("recording-stop").addEventListener("click", () => this.stop("stopped"));
     part("recording-controls").addEventListener("submit", (event) => {
       event.preventDefault();
@@ -49,14 +54,15 @@ class RecordingTab {
     const run = ++this.run, recordings = recordings_in(this.files);
     part("judged").replaceChildren();
     if (!this.files.length) return;
-    if (!recordings.length) this.tell("these are samples: open the .cfg of the record beside them");
+    if (!recordings.length) this.tell("these are samples: open the .cfg of the record together with them");
+    const begun = performance.now(), ends = [];
     for (const recording of recordings) {
-      const begun = performance.now();
       const files = new Map(read_for(recording, this.files).map((file) => [file.name, file]));
       const answer = await this.ended(this.words_of(recording.name), files);
       if (run !== this.run) return;
       this.show(recording.name, answer, recordings.length > 1);
-      this.tell(`${JUDGED[answer.status] ?? answer.told}, in ${((performance.now() - begun) / 1000).toFixed(2)} s`);
+      ends.push(JUDGED[answer.status] ?? answer.told);
+      this.tell(`${[...new Set(ends)].join(", ")}, in ${((performance.now() - begun) / 1000).toFixed(2)} s`);
     }
   }
 

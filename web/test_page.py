@@ -200,7 +200,7 @@ class InBrowser(browser.Driven):
         self.assertIn("it has no wire G9; it has G0, G1, G2", self.text("judged"))
 
     def test_samples_alone(self) -> None:
-        self.assertIn("open the .cfg", self.open_recordings(ROOT / "examples/late_stamp.dat"))
+        self.assertIn("open the .cfg of the record together", self.open_recordings(ROOT / "examples/late_stamp.dat"))
 
     def test_each_case_of_a_recording(self) -> None:
         """As the program says it."""

@@ -347,7 +347,7 @@ fn judge_command<'a>(alloc: Global) -> Result<Command<'a>, AllocError> {
 
 fn zone_option<'a>(alloc: Global) -> Arg<'a> {
     Arg::new(alloc, "zone").long("zone").value_name("ZONE").help(
-        "By how much the stamp of a record is ahead of UTC, as --zone=1 or --zone=-5h30, where it names no zone",
+        "By how much the stamp of a record is ahead of UTC, as --zone=1 or --zone=-5h30, whatever it names",
     )
 }
 
