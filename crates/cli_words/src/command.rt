@@ -361,7 +361,7 @@ fn json_option<'a>(alloc: Global) -> Arg<'a> {
 fn recording_argument<'a>(alloc: Global) -> Arg<'a> {
     Arg::new(alloc, "FILE")
         .help(
-            "The recording: a value change dump (.vcd), - for one on standard input, or the .cfg of a record",
+            "The recording: a value change dump (.vcd) or a table (.csv), - for one on standard input, or the .cfg of a record",
         )
         .required(true)
 }

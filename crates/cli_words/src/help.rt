@@ -105,6 +105,9 @@ how far they are apart, when 0.000 s of the recording was in UTC, and what is on
 That a line differs is no proof that it is wrong: nobody knows more of a recording than what most lines told. If most
 lines never agree, the first line says undecided. A frame that has a time quality of 8 or more has no vote.
 
+FILE is a value change dump, or else a table: a line of names, and rows with commas of a time in the first column and
+of levels, 0 or 1. In place of times a remark may say the rate, as ; Samplerate: 1 MHz.
+
 If FILE ends with .cfg, it is the configuration of a disturbance record (COMTRADE), whose samples are in the .dat of
 the same name beside it. Its lines are digital channels. The verdict then begins with how far the record's stamp is
 off, the time of its first sample, and with what would explain it: a zone, or an exchanged day and month.

@@ -1,3 +1,5 @@
 pub mod ReadingLaws
+pub mod PartLaws
+pub mod TableLaws
 pub mod RecordLaws
 pub mod HearingLaws

@@ -1,11 +1,11 @@
 -- What is read of a recording, piece by piece.
-use Rattle.std.proofs.Common.{◌≡◌, ◌≢◌, ◌≤◌, ℕ, Bool, List, [], ◌∷◌, ◌++◌, map, take, drop, length, Option, Some, None, Result, Ok, Err, IsTrue, IsFalse, IsSome, IfOk, IfSome, is_some, true, false, refl, append_assoc, sym, ap, ◌∙◌, subst, arith, codes}
+use Rattle.std.proofs.Common.{◌≡◌, ◌≤◌, ℕ, Bool, List, [], ◌∷◌, ◌++◌, map, take, drop, length, Option, Some, None, Result, Ok, Err, IsTrue, IsFalse, IsSome, IfOk, IfSome, is_some, true, false, refl, append_assoc, sym, ap, ◌∙◌, subst, arith, codes}
 use Rattle.std.specs.Prelude.{if◌then◌else◌, nat_lt, slice_index_or, string_bytes}
 use Rattle.std.specs.Str.{bytes_eq}
 use Rattle.std.proofs.lemmas.Slice.Eq.{bytes_eq-Decides}
 use Rattle.std.specs.Global.{Vec}
 use Rattle.std.specs.Io.KnownBytes.{Consumes, IsAtEnd}
-use Rattle.std.proofs.lemmas.List.{length-append, take-append-drop}
+use Rattle.std.proofs.lemmas.List.{append-nil, length-append, take-append-drop}
 use Rattle.std.proofs.lemmas.Option.{same_Some}
 use Rattle.record_levels.specs.Limits.{Follows}
 use Rattle.record_levels.specs.declared.levels.Levels.{Levels}
@@ -40,9 +40,11 @@ use Rattle.report_judge.specs.declared.reading.Below.{Below}
 use Rattle.report_judge.specs.declared.reading.Stage.{Stage}
 use Rattle.report_judge.specs.Channels.{channel_bytes, names_of, places_named, places_of, texts_of}
 use Rattle.report_judge.specs.Faults.{of_head}
-use Rattle.report_judge.specs.Hearings.{EndsOn, HasHeard, HearsOn, IsVerdictOn, IsVerdictText, last_time, nothing_else}
-use Rattle.report_judge.specs.Readings.{AreChanges, HasReadBelow, HasReadHead, HasReadTo, JudgedWhole, RefusedBy, RefusedFrom, begins_dump, head_of, judged_places, levels_after, said_at, said_of_lines}
+use Rattle.report_judge.specs.Forms.{begins_dump}
+use Rattle.report_judge.specs.Hearings.{EndsOn, HasHeard, HearsOn, IsVerdictText, last_time, nothing_else}
+use Rattle.report_judge.specs.Readings.{AreChanges, HasReadBelow, HasReadHead, HasReadTo, JudgedDump, RefusedBy, RefusedFrom, head_of, judged_places, levels_after, said_at, said_of_lines}
 use Rattle.report_judge.proofs.HearingLaws.{hears_more, shows_verdict}
+use Rattle.report_judge.proofs.PartLaws.{IsPart, part-text}
 
 -- ---- the head
 
@@ -119,10 +121,6 @@ refused-head names text reader head.NoTimescale h over fits more =
 
 -- ---- the levels of what is said
 
-append-nothing : {A : Type 0} (xs : List A) → xs ++ [] ≡ xs
-append-nothing [] = refl
-append-nothing (x ∷ xs) = ap (λ l. x ∷ l) (append-nothing xs)
-
 -- one more of them is the newest
 newest-level : (before : List Levels) (others : List Said) (levels : Levels)
     → levels_after before (others ++ Change levels ∷ []) ≡ levels ∷ levels_after before others
@@ -139,11 +137,11 @@ changes-more (Refused fault ∷ others) levels are = absurd are
 changes-more (Ends time ∷ others) levels are = absurd are
 
 -- when the newest of some levels came
-abbrev newest-time : List Levels → Option ℕ
+abbrev pub newest-time : List Levels → Option ℕ
 newest-time [] = None
 newest-time (levels ∷ before) = Some levels.time_ns
 
-follows-last : (before : List Levels) (time : ℕ) → Follows (newest-time before) time → last_time before ≤ time
+pub follows-last : (before : List Levels) (time : ℕ) → Follows (newest-time before) time → last_time before ≤ time
 follows-last [] time follows = omega arith
 follows-last (levels ∷ before) time follows = let later = follows.0 in omega (arith, later)
 
@@ -179,7 +177,7 @@ said-in-order names text all is = said-in-order-at (judged_places names text) te
 -- what levels, if there are some, add to what was said
 module _ (asked : Asked) (lines : ℕ) (others rest : List Said) (are : AreChanges others) where
   pub changes-by : (levels : Option Levels) → AreChanges (others ++ said levels)
-  changes-by None = subst AreChanges (sym (append-nothing others)) are
+  changes-by None = subst AreChanges (sym (append-nil others)) are
   changes-by (Some levels) = changes-more others levels are
 
   pub hears-by : (levels : Option Levels) (old new : Hearing) → HasHeard asked lines (levels_after [] others) old
@@ -187,7 +185,7 @@ module _ (asked : Asked) (lines : ℕ) (others rest : List Said) (are : AreChang
       → ((heard : Levels) → levels ≡ Some heard → HearsOn old new heard) → (levels ≡ None → new ≡ old) → new.as_json ≡ old.as_json
       → HasHeard asked lines (levels_after [] (others ++ said levels)) new
   hears-by None old new has order some none form =
-      subst (λ o. HasHeard asked lines (levels_after [] o) new) (sym (append-nothing others)) (subst (HasHeard asked lines (levels_after [] others)) (sym (none refl)) has)
+      subst (λ o. HasHeard asked lines (levels_after [] o) new) (sym (append-nil others)) (subst (HasHeard asked lines (levels_after [] others)) (sym (none refl)) has)
   hears-by (Some levels) old new has order some none form =
       subst (λ l. HasHeard asked lines l new) (sym (newest-level [] others levels))
       (hears_more asked lines (levels_after [] others) levels old new has (some levels refl) (no-sooner [] others levels rest are order) form)
@@ -212,47 +210,15 @@ module _ (asked : Asked) (text taken : List ℕ) (old new : Below) (levels : Opt
         some none form;
   }
 
--- of these bytes all but the rest was read
-pub record ReadsPart (old new : Below) (bytes rest : List ℕ) : Type 0 where
-  pub front : List ℕ
-  pub whole : front ++ rest ≡ bytes
-  pub reads : (asked : Asked) (text : List ℕ) → HasReadBelow asked text old → HasReadBelow asked (text ++ front) new
-
-pub reads-nothing : (below : Below) (bytes : List ℕ) → ReadsPart below below bytes bytes
-reads-nothing below bytes = record {
-  front = [];
-  whole = refl;
-  reads = λ asked text h. subst (λ t. HasReadBelow asked t below) (sym (append-nothing text)) h;
-}
-
-pub reads-on : (old here new : Below) (bytes rest : List ℕ) (count : ℕ) (levels : Option Levels) → ReadsPart old here bytes rest
-    → Leads here.changes (take count rest) levels new.changes
-    → ((heard : Levels) → levels ≡ Some heard → HearsOn here.hearing new.hearing heard) → (levels ≡ None → new.hearing ≡ here.hearing) → new.hearing.as_json ≡ here.hearing.as_json
-    → ReadsPart old new bytes (drop count rest)
-reads-on old here new bytes rest count levels part led some none form = record {
-  front = part.front ++ take count rest;
-  whole = append_assoc part.front (take count rest) (drop count rest) ∙ ap (λ l. part.front ++ l) (take-append-drop count rest) ∙ part.whole;
-  reads = λ asked text h.
-      subst (λ t. HasReadBelow asked t new) (append_assoc text part.front (take count rest))
-      (reads-below asked (text ++ part.front) (take count rest) here new levels (part.reads asked text h) led some none form);
-}
-
-pub reads-whole : (asked : Asked) (text : List ℕ) (old new : Below) (bytes : List ℕ) → HasReadBelow asked text old → ReadsPart old new bytes [] → HasReadBelow asked (text ++ bytes) new
-reads-whole asked text old new bytes h part =
-    subst (λ b. HasReadBelow asked (text ++ b) new) (sym (append-nothing part.front) ∙ part.whole) (part.reads asked text h)
-
 pub refuses-below : (asked : Asked) (text : List ℕ) (old here : Below) (bytes rest : List ℕ) (fault : Fault)
-    → HasReadBelow asked text old → ReadsPart old here bytes rest
+    → HasReadBelow asked text old → IsPart HasReadBelow old here bytes rest
     → ((more : List ℕ) → to_come here.changes (rest ++ more) ≡ Refused fault ∷ [])
     → RefusedFrom (channel_bytes asked.channels) (text ++ bytes) (Dump fault)
 refuses-below asked text old here bytes rest fault h part refuses more =
     let names = channel_bytes asked.channels in
     let on = part.reads asked text h in (
       on.said,
-      ap (said_of_lines names)
-          (ap (λ b. (text ++ b) ++ more) (sym part.whole)
-          ∙ ap (λ t. t ++ more) (sym (append_assoc text part.front rest))
-          ∙ append_assoc (text ++ part.front) rest more)
+      ap (said_of_lines names) (part-text text part.front rest bytes more part.whole)
           ∙ on.says (rest ++ more)
           ∙ ap (λ l. Some (on.said ++ l)) (refuses more),
     )
@@ -267,10 +233,10 @@ pub ends-below : (asked : Asked) (text : List ℕ) (below : Below) (levels : Opt
     → EndsOn heard ended → ended.as_json ≡ heard.as_json
     → (seen : List LineSeen) × IsVerdictText [] ended.as_json ended.verdict seen (string_bytes judged.text)
     → ((n : ℕ) (seconds : List RecordedSecond) → IsVerdictOf ended.verdict n seconds → judged.is_decided ≡ is_some (first_agreed seconds))
-    → JudgedWhole asked text judged
+    → JudgedDump asked text judged
 ends-below asked text below levels time heard ended judged begins h ends some none form end form_at_end shown decided =
     let names = channel_bytes asked.channels in
-    let whole = sym (append-nothing text) in
+    let whole = sym (append-nil text) in
     let says : said_of_lines names text ≡ Some (h.said ++ (said levels ++ Ends time ∷ [])) = ap (said_of_lines names) whole ∙ h.says [] ∙ ap (λ l. Some (h.said ++ l)) ends in
     let has = hears-by asked (length h.places) h.said (Ends time ∷ []) h.changes levels below.hearing heard h.heard (said-in-order names text (h.said ++ (said levels ++ Ends time ∷ [])) says) some none form in
     record {
@@ -288,7 +254,7 @@ pub refused-at-end : (asked : Asked) (text : List ℕ) (below : Below) (fault : 
     → RefusedBy (channel_bytes asked.channels) text (Dump fault)
 refused-at-end asked text below fault h refuses = (
   h.said,
-  ap (said_of_lines (channel_bytes asked.channels)) (sym (append-nothing text)) ∙ h.says [] ∙ ap (λ l. Some (h.said ++ l)) refuses,
+  ap (said_of_lines (channel_bytes asked.channels)) (sym (append-nil text)) ∙ h.says [] ∙ ap (λ l. Some (h.said ++ l)) refuses,
 )
 
 -- one byte more makes no end of a section of a word
@@ -358,11 +324,6 @@ refused-on names text bytes count fault h more =
     (sym (append_assoc (text ++ take count bytes) (drop count bytes) more) ∙ ap (λ t. t ++ more) (cut-whole text bytes count))
     (h (drop count bytes ++ more))
 
--- what begins otherwise goes on so
-pub form-stays : (bytes more : List ℕ) → length bytes ≢ 0 → IsFalse (begins_dump bytes) → IsFalse (begins_dump (bytes ++ more))
-form-stays [] more some h = absurd (some refl)
-form-stays (b ∷ bs) more some h = h
-
 -- of what was answered more is known
 pub if-ok-on : {A B : Type 0} (P Q : A → Type 0) (r : Result A B) → ((x : A) → P x → Q x) → IfOk r P → IfOk r Q
 if-ok-on P Q (Ok x) on h = on x h
@@ -397,7 +358,7 @@ pub whole-known : (P : List ℕ → Type 0) (old new : Option (List ℕ)) (text 
     → Consumes old new text → IsAtEnd new → P text → IfSome old P
 whole-known P None new text took end h = tt
 whole-known P (Some all) None text took end h = absurd took
-whole-known P (Some all) (Some left) text took end h = subst P (sym (took ∙ ap (λ l. text ++ l) end ∙ append-nothing text)) h
+whole-known P (Some all) (Some left) text took end h = subst P (sym (took ∙ ap (λ l. text ++ l) end ∙ append-nil text)) h
 
 -- of a device that had `old` left, and has `new` left, so many pieces were read
 pub record HasReadFrom (asked : Asked) (old new : Option (List ℕ)) (stage : Stage) (pieces : ℕ) : Type 0 where

@@ -1,5 +1,5 @@
 -- What is read of a disturbance record, piece by piece.
-use Rattle.std.proofs.Common.{◌≡◌, ◌≢◌, ◌≤◌, ℕ, Bool, true, false, List, [], ◌∷◌, ◌++◌, take, drop, length, Option, Some, None, Result, Ok, Err, IfSome, inl, inr, refl, append_assoc, sym, ap, ◌∙◌, subst}
+use Rattle.std.proofs.Common.{◌≡◌, ◌≤◌, ℕ, List, [], ◌∷◌, ◌++◌, take, drop, length, Option, Some, None, Result, Ok, Err, IfSome, inl, inr, refl, append_assoc, sym, ap, ◌∙◌, subst}
 use Rattle.std.specs.Prelude.{is_some, string_bytes}
 use Rattle.std.specs.Global.{Vec}
 use Rattle.std.specs.Io.KnownBytes.{Consumes}
@@ -9,7 +9,6 @@ use Rattle.record_comtrade.specs.declared.fault.ConfigFault.{ConfigFault}
 use Rattle.record_comtrade.specs.declared.fault.ConfigFault.TheVariants as config
 use Rattle.record_comtrade.specs.declared.reader.DataFault.{DataFault}
 use Rattle.record_comtrade.specs.declared.reader.DataFault.TheVariants as samples
-use Rattle.record_comtrade.specs.declared.now.SampleFault.{SampleFault}
 use Rattle.record_comtrade.specs.declared.reading.ConfigText.{ConfigText}
 use Rattle.record_comtrade.specs.Texts.{config_lines, lines_to_come}
 use Rattle.record_comtrade.specs.Configs.{ConfigValue, config_of}
@@ -28,7 +27,7 @@ use Rattle.report_verdict.specs.declared.line_seen.LineSeen.{LineSeen}
 use Rattle.report_judge.specs.declared.asked.Asked.{Asked}
 use Rattle.report_judge.specs.declared.channels.ChannelFault.{ChannelFault}
 use Rattle.report_judge.specs.declared.fault.JudgeFault.{JudgeFault}
-use Rattle.report_judge.specs.declared.fault.JudgeFault.TheVariants.{Read, ReadSamples, Sample}
+use Rattle.report_judge.specs.declared.fault.JudgeFault.TheVariants.{Read, ReadSamples}
 use Rattle.report_judge.specs.declared.hearing.Hearing.{Hearing}
 use Rattle.report_judge.specs.declared.hearing.Judged.{Judged}
 use Rattle.report_judge.specs.declared.record.Record.{Record}

@@ -1,7 +1,6 @@
 -- What is read of a recording, and why it is refused.
 -- Source: docs/irig.1, judge; the definitions of value change dumps are those of record_vcd.
-use Rattle.std.specs.Prelude.{◌≡◌, ℕ, ◌-◌, ◌^◌, ◌≤◌, ◌==◌, Bool, false, ◌||◌, IsTrue, IsFalse, List, [], ◌∷◌, ◌++◌, length, box_value, Option, Some, None, Result, Ok, Err, ⊤}
-use Rattle.std.specs.Char.{is_ascii_whitespace}
+use Rattle.std.specs.Prelude.{◌≡◌, ℕ, ◌-◌, ◌^◌, ◌≤◌, IsTrue, IsFalse, List, [], ◌∷◌, ◌++◌, length, box_value, ◌⊎◌, Option, Some, None, Result, Ok, Err, ⊤}
 use Rattle.record_text.specs.Words.{words_of}
 use Rattle.record_vcd.specs.declared.head.Head.{Head as HeadReader}
 use Rattle.record_vcd.specs.declared.changes.HeadFault.TheVariants as head
@@ -11,25 +10,22 @@ use Rattle.record_levels.specs.declared.levels.Levels.{Levels}
 use Rattle.record_vcd.specs.Changes.{Said}
 use Rattle.record_vcd.specs.Changes.Said.{Change, Refused, Ends}
 use Rattle.record_vcd.specs.Dumps.{dump_of, to_come}
+use Rattle.record_table.specs.declared.head.HeadFault.TheVariants as title
+use Rattle.record_table.specs.declared.head.Stage.TheVariants as title_stage
+use Rattle.record_table.specs.Heads.{is_over as is_titled}
+use Rattle.record_table.specs.Changes.Said.{Refused as RowRefused}
 use Rattle.report_judge.specs.declared.asked.Asked.{Asked}
 use Rattle.report_judge.specs.declared.channels.ChannelFault.{ChannelFault}
 use Rattle.report_judge.specs.declared.fault.JudgeFault.{JudgeFault}
-use Rattle.report_judge.specs.declared.fault.JudgeFault.TheVariants.{Empty, Form, Head, Channels, Dump, Endless, Memory}
+use Rattle.report_judge.specs.declared.fault.JudgeFault.TheVariants.{Empty, Head, Channels, Dump, Title, Columns, Table, Endless, Memory}
 use Rattle.report_judge.specs.declared.hearing.Judged.{Judged}
 use Rattle.report_judge.specs.declared.reading.Below.{Below}
 use Rattle.report_judge.specs.declared.reading.Stage.{Stage}
 use Rattle.report_judge.specs.declared.reading.Stage.TheVariants as stage
 use Rattle.report_judge.specs.Channels.{channel_bytes, places_of}
+use Rattle.report_judge.specs.Forms.{begins_dump, begins_table}
 use Rattle.report_judge.specs.Hearings.{HasHeard, IsVerdictOn, nothing_else}
-
--- a value change dump may begin with this byte: a $ or a blank
-abbrev pub is_of_dump : (byte : ℕ) → Bool
-is_of_dump b = b == 36 || is_ascii_whitespace b
-
--- a text begins as a value change dump
-abbrev pub begins_dump : (text : List ℕ) → Bool
-begins_dump [] = false
-begins_dump (b ∷ bs) = is_of_dump b
+use Rattle.report_judge.specs.Tables.{HasReadRows, HasReadTitle, IsUntitled, JudgedTable, columns_of, rows_say, title_of, told}
 
 -- the head of a text, and the words below it
 abbrev pub head_of : (text : List ℕ) → HeadEnd
@@ -55,7 +51,6 @@ IsUnended text = (more : List ℕ) × IsFalse (is_over (head_of (text ++ more)).
 -- a text is refused by this fault; what can't be read is none
 abbrev pub RefusedBy : (names : Option (List ℕ)) → (text : List ℕ) → JudgeFault → Type 0
 RefusedBy names text Empty = text ≡ []
-RefusedBy names text Form = IsFalse (begins_dump text)
 RefusedBy names text (Head head.Unended) = IsUnended text
 RefusedBy names text (Head head.NoTimescale) =
     IsTrue (is_over (head_of text).head.section) × ((head_of text).head.unit ≡ None)
@@ -63,6 +58,12 @@ RefusedBy names text (Head head.Memory) = ⊥
 RefusedBy names text (Channels fault there) = judged_places names text ≡ Err fault
 RefusedBy names text (Dump fault) =
     (said : List Said) × (said_of_lines names text ≡ Some (said ++ Refused fault ∷ []))
+RefusedBy names text (Title title.Unended) = IsUntitled text
+RefusedBy names text (Title (title.Refused refusal)) = (title_of text).head.stage ≡ title_stage.Refused refusal
+RefusedBy names text (Title title.Memory) = ⊥
+RefusedBy names text (Columns fault there) = columns_of names text ≡ Err fault
+RefusedBy names text (Table fault) =
+    (levels : List Levels) × (rows_say names text ≡ Some (told levels ++ RowRefused fault ∷ []))
 RefusedBy names text Endless = 2 ^ 64 - 1 ≤ length text
 RefusedBy names text Memory = ⊤
 RefusedBy names text _ = ⊥
@@ -108,12 +109,16 @@ HasReadTo asked text (stage.Head reader) =
     IsTrue (begins_dump text) × HasReadHead text reader × IsFalse (is_over reader.section)
 HasReadTo asked text (stage.Below below) =
     IsTrue (begins_dump text) × HasReadBelow asked text (box_value below)
+HasReadTo asked text (stage.Title reader) =
+    IsTrue (begins_table text) × HasReadTitle text reader × IsFalse (is_titled reader.stage)
+HasReadTo asked text (stage.Rows rows) =
+    IsTrue (begins_table text) × HasReadRows asked text (box_value rows)
 
 -- ---- at its end
 
--- this text was judged to its end: what is shown is the verdict on the lines that are judged, by all the
+-- this dump was judged to its end: what is shown is the verdict on the lines that are judged, by all the
 -- levels that it says of them
-pub record JudgedWhole (asked : Asked) (text : List ℕ) (judged : Judged) : Type 0 where
+pub record JudgedDump (asked : Asked) (text : List ℕ) (judged : Judged) : Type 0 where
   pub begins : IsTrue (begins_dump text)
   pub said : List Said
   pub end : ℕ
@@ -121,3 +126,7 @@ pub record JudgedWhole (asked : Asked) (text : List ℕ) (judged : Judged) : Typ
   pub places : List ℕ
   pub chosen : judged_places (channel_bytes asked.channels) text ≡ Ok places
   pub verdict : IsVerdictOn nothing_else asked (length places) (levels_after [] said) judged
+
+-- this text was judged to its end, as a dump or as a table
+abbrev pub JudgedWhole : Asked → (text : List ℕ) → Judged → Type 0
+JudgedWhole asked text judged = JudgedDump asked text judged ⊎ JudgedTable asked text judged

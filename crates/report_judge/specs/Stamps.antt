@@ -1,6 +1,6 @@
 -- What is said of the stamp of a record beside the verdict on its lines.
 -- Source: docs/CAPTURE.md; the words are those of record_stamp, RFC 8259 for JSON.
-use Rattle.std.specs.Prelude.{ℕ, ◌/◌, ◌*◌, ◌&&◌, Bool, true, false, if◌then◌else◌, List, [], ◌++◌, codes, Option, Some, None, Result, Ok, Err, nat_lt, ℤ, pos, neg_ℤ, int_lt, unsigned_abs}
+use Rattle.std.specs.Prelude.{ℕ, ◌/◌, ◌*◌, ◌&&◌, Bool, if◌then◌else◌, List, [], ◌++◌, codes, Option, Some, None, Result, Ok, Err, nat_lt, ℤ, pos, neg_ℤ, int_lt, unsigned_abs}
 use Rattle.std.specs.Fmt.{decimal}
 use Rattle.irig_time.specs.Seconds.{is_valid}
 use Rattle.record_comtrade.specs.Configs.{ConfigValue}

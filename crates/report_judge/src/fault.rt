@@ -1,8 +1,8 @@
 //! Why a recording is not judged.
 
 ghost use Rattle.std.specs.Prelude.{◌≡◌};
-ghost use Rattle.report_judge.specs.declared.fault.JudgeFault.TheVariants.{Dump, Memory, Read};
-ghost use Rattle.report_judge.specs.Faults.{of_config, of_head, of_samples};
+ghost use Rattle.report_judge.specs.declared.fault.JudgeFault.TheVariants.{Dump, Memory, Read, Table};
+ghost use Rattle.report_judge.specs.Faults.{of_config, of_head, of_samples, of_title};
 
 use crate::channels::ChannelFault;
 use irig_device::DeviceFault;
@@ -15,14 +15,20 @@ use std::alloc::AllocError;
 pub enum JudgeFault {
     /// Nothing is in it.
     Empty,
-    /// Its first byte is that of no form that is read.
-    Form,
     /// It is a value change dump whose head does not end, or names no unit of times.
     Head(HeadFault),
     /// The wires that are asked for can't be judged. The text has the names that are there.
     Channels(ChannelFault, String),
     /// It is a value change dump that can't be read on.
     Dump(Fault),
+    /// It does not begin as a value change dump, and what stands above its rows is no head of a
+    /// table.
+    Title(record_table::HeadFault),
+    /// The channels of a table that are asked for can't be judged. The text has the names that are
+    /// there.
+    Columns(ChannelFault, String),
+    /// It is a table that can't be read on.
+    Table(record_table::Fault),
     /// A line of the configuration of a disturbance record is at fault.
     Config(record_comtrade::Fault),
     /// The digital channels that are asked for can't be judged. The text has the names that are
@@ -72,6 +78,25 @@ impl From<Fault> for JudgeFault {
 
     fn from(fault: Fault) -> JudgeFault {
         JudgeFault::Dump(fault)
+    }
+}
+
+impl From<record_table::HeadFault> for JudgeFault {
+    ghost from_gives = { λ title fault. fault ≡ of_title title };
+
+    fn from(fault: record_table::HeadFault) -> JudgeFault {
+        match fault {
+            record_table::HeadFault::Memory => JudgeFault::Memory,
+            _ => JudgeFault::Title(fault),
+        }
+    }
+}
+
+impl From<record_table::Fault> for JudgeFault {
+    ghost from_gives = { λ table fault. fault ≡ Table table };
+
+    fn from(fault: record_table::Fault) -> JudgeFault {
+        JudgeFault::Table(fault)
     }
 }
 

@@ -1,4 +1,4 @@
-//! A recording of lines, judged: which of its wires are judged, and what is said of them.
+//! A recording of lines, judged: which of its channels are judged, and what is said of them.
 //!
 //! [`judge`] reads a recording from a device in pieces, in memory that does not grow with it, and
 //! answers its verdict, or why it is refused. [`Reading`] is the same for bytes that come by
@@ -15,6 +15,7 @@ mod reading;
 mod record;
 mod run;
 mod stamp;
+mod table;
 mod why;
 
 pub use asked::Asked;

@@ -2,11 +2,13 @@
 
 ghost use Rattle.std.specs.Prelude.{◌≡◌, ◌+◌, ◌<◌, ◌≤◌, ◌∷◌, ◌++◌, [], All, IfOk, length};
 ghost use Rattle.record_comtrade.specs.Reads.{value_of};
+ghost use Rattle.record_table.specs.Titles.{bytes_of};
 ghost use Rattle.record_vcd.specs.Sections.{wires_of};
 ghost use Rattle.report_judge.specs.Channels.{names_of, texts_of};
 ghost use Rattle.report_judge.specs.Records.{digital_names, name_or_number};
 
 use record_comtrade::Config;
+use record_table::Name;
 use record_vcd::Wire;
 use std::alloc::{AllocError, Global};
 
@@ -21,6 +23,18 @@ pub(crate) fn wire_names(alloc: Global, wires: &[Wire]) -> Result<Vec<Vec<u8>>, 
     let mut names = Vec::new(alloc);
     for wire in wires {
         keep(alloc, &mut names, wire.name.as_slice())?;
+    }
+    Ok(names)
+}
+
+/// The names of the channels of a table.
+pub(crate) fn column_names(alloc: Global, columns: &[Name]) -> Result<Vec<Vec<u8>>, AllocError>
+    ensures names { IfOk result (λ names. texts_of names.items ≡ bytes_of columns.now) }
+    ensures many { IfOk result (λ names. length names.items ≡ length columns.now) }
+{
+    let mut names = Vec::new(alloc);
+    for column in columns {
+        keep(alloc, &mut names, column.bytes.as_slice())?;
     }
     Ok(names)
 }

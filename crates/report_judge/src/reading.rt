@@ -5,13 +5,16 @@ ghost use Rattle.record_vcd.specs.Sections.{is_over};
 ghost use Rattle.report_judge.specs.declared.asked.Asked.{Asked as AskedOf};
 ghost use Rattle.report_judge.specs.declared.fault.JudgeFault.TheVariants.{Dump};
 ghost use Rattle.report_judge.specs.Channels.{channel_bytes};
-ghost use Rattle.report_judge.specs.Readings.{HasReadBelow, HasReadHead, HasReadTo, JudgedWhole, RefusedBy, RefusedFrom, begins_dump};
+ghost use Rattle.report_judge.specs.Readings.{HasReadBelow, HasReadHead, HasReadTo, JudgedDump, JudgedWhole, RefusedBy, RefusedFrom};
+ghost use Rattle.report_judge.specs.Forms.{begins_dump, begins_table};
+ghost use Rattle.report_judge.specs.Tables.{HasReadTitle};
 
 use crate::asked::Asked;
 use crate::channels::places_named;
 use crate::fault::JudgeFault;
 use crate::hearing::{Hearing, Judged};
 use crate::names::{listed, names_at, wire_names};
+use crate::table::Rows;
 use record_vcd::{Changes, Fault, Head, HeadFault};
 use std::alloc::{AllocError, Global};
 
@@ -30,6 +33,10 @@ enum Stage {
     Head(Head),
     // Below it. What the lines have heard is large, and moves with a Reading.
     Below(Box<Below>),
+    // Above the rows of a table.
+    Title(record_table::Head),
+    // In its rows.
+    Rows(Box<Rows>),
 }
 
 // A value change dump below its head.
@@ -66,6 +73,11 @@ impl Reading {
                 below.read(bytes)?;
                 Stage::Below(below)
             }
+            Stage::Title(head) => read_title(alloc, asked, head, bytes)?,
+            Stage::Rows(mut rows) => {
+                rows.read(bytes)?;
+                Stage::Rows(rows)
+            }
         };
         Ok(Reading { stage })
     }
@@ -82,6 +94,8 @@ impl Reading {
             Stage::Start => Err(JudgeFault::Empty),
             Stage::Head(_) => Err(JudgeFault::Head(HeadFault::Unended)),
             Stage::Below(below) => Box::into_inner(below).end(alloc),
+            Stage::Title(_) => Err(JudgeFault::Title(record_table::HeadFault::Unended)),
+            Stage::Rows(rows) => Box::into_inner(rows).end(alloc),
         }
     }
 }
@@ -94,10 +108,11 @@ fn start(alloc: Global, asked: &Asked<'_>, bytes: &[u8]) -> Result<Stage, JudgeF
     if bytes.is_empty() {
         return Ok(Stage::Start);
     }
-    if !begins_dump(bytes) {
-        return Err(JudgeFault::Form);
-    }
-    let stage = read_head(alloc, asked, Head::new(alloc), bytes)?;
+    let stage = if begins_dump(bytes) {
+        read_head(alloc, asked, Head::new(alloc), bytes)?
+    } else {
+        read_title(alloc, asked, record_table::Head::new(alloc), bytes)?
+    };
     Ok(stage)
 }
 
@@ -131,6 +146,30 @@ fn read_head(
     below.read(bytes.split_at(taken.count).1)?;
     match Box::new(alloc, below) {
         Ok(below) => Ok(Stage::Below(below)),
+        Err(_) => Err(JudgeFault::Memory),
+    }
+}
+
+fn read_title(
+    alloc: Global,
+    asked: &Asked<'_>,
+    mut head: record_table::Head,
+    bytes: &[u8],
+) -> Result<Stage, JudgeFault>
+    ensures reads { IfOk result (λ stage. (text : List ℕ) → HasReadTitle text head
+        → IsTrue (begins_table (text ++ bytes.now))
+        → HasReadTo asked.now (text ++ bytes.now) stage) }
+    ensures refuses { IfErr result (λ fault. (text : List ℕ) → HasReadTitle text head
+        → RefusedFrom (channel_bytes asked.now.channels) (text ++ bytes.now) fault) }
+{
+    let taken = head.read(alloc, bytes)?;
+    if !taken.is_over {
+        return Ok(Stage::Title(head));
+    }
+    let mut rows = Rows::new(alloc, asked, head)?;
+    rows.read(bytes.split_at(taken.count).1)?;
+    match Box::new(alloc, rows) {
+        Ok(rows) => Ok(Stage::Rows(rows)),
         Err(_) => Err(JudgeFault::Memory),
     }
 }
@@ -182,7 +221,7 @@ impl Below {
     fn end(self, alloc: Global) -> Result<Judged, JudgeFault>
         ensures judged { IfOk result (λ judged. (asked : AskedOf) (text : List ℕ)
             → IsTrue (begins_dump text) → HasReadBelow asked text self
-            → JudgedWhole asked text judged) }
+            → JudgedDump asked text judged) }
         ensures refuses { IfErr result (λ fault. (asked : AskedOf) (text : List ℕ)
             → HasReadBelow asked text self → RefusedBy (channel_bytes asked.channels) text fault) }
     {

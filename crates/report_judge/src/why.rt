@@ -5,6 +5,7 @@ use crate::fault::JudgeFault;
 use crate::names::push_name;
 use record_comtrade::{Field, Reason as SampleReason, RowFault, RowField, SampleFault};
 use record_levels::TimeFault;
+use record_table::{HeadReason, HeadRefusal, Reason as RowReason};
 use record_text::field_of;
 use record_vcd::{Fault, HeadFault, Reason};
 use std::alloc::{AllocError, Global};
@@ -31,7 +32,21 @@ pub fn why_refused(
                 &DIGITALS,
             )?;
         }
+        JudgeFault::Columns(fault, names) => {
+            let asked = channels.unwrap_or("");
+            push_channel_fault(
+                &mut text,
+                *fault,
+                asked.as_bytes(),
+                names.as_str(),
+                &COLUMNS,
+            )?;
+        }
         JudgeFault::Dump(fault) => push_dump_fault(&mut text, *fault)?,
+        JudgeFault::Title(record_table::HeadFault::Refused(refusal)) => {
+            push_title_fault(&mut text, *refusal)?;
+        }
+        JudgeFault::Table(fault) => push_table_fault(&mut text, *fault)?,
         JudgeFault::Config(fault) => push_config_fault(&mut text, *fault)?,
         JudgeFault::Sample(fault) => push_sample_fault(&mut text, *fault)?,
         other => text.push_str(words_of(other))?,
@@ -42,13 +57,13 @@ pub fn why_refused(
 fn words_of(fault: &JudgeFault) -> &'static str {
     match fault {
         JudgeFault::Empty => "it is empty",
-        JudgeFault::Form => {
-            "it does not begin as a value change dump (.vcd) does, with $; no other form is read"
-        }
         JudgeFault::Head(HeadFault::Unended) => {
             "it has no $enddefinitions $end, as a value change dump has"
         }
         JudgeFault::Head(_) => "it has no $timescale, as a value change dump has",
+        JudgeFault::Title(_) => {
+            "it does not begin as a value change dump (.vcd) does, with $, and ends before any row of a table"
+        }
         JudgeFault::Endless => "it does not end",
         JudgeFault::Read => "it could not be read to its end",
         JudgeFault::ReadSamples => "its samples could not be read to their end",
@@ -64,6 +79,38 @@ fn push_dump_fault(text: &mut String, fault: Fault) -> Result<(), AllocError> {
         Reason::Time(TimeFault::Gap) => "its time lies more than a day after the last level",
     };
     write!(text, "line {}: {reason}", fault.line)
+}
+
+fn push_title_fault(text: &mut String, refusal: HeadRefusal) -> Result<(), AllocError> {
+    let reason = match refusal.reason {
+        HeadReason::Rate => "the rate of samples that it says is none",
+        HeadReason::Long => "it is longer than 1,023 bytes",
+        HeadReason::Unit => "the unit of its times is none of s, ms, us, ns, ps and fs",
+        HeadReason::NoTimes => {
+            "it begins neither a value change dump (.vcd), as $ does, nor a table of levels: its first column has no times by its name, and no remark above says a rate of samples"
+        }
+        HeadReason::NoChannel => "it names no channel of a table, as where no comma parts columns",
+    };
+    write!(text, "line {}: {reason}", refusal.line)
+}
+
+fn push_table_fault(text: &mut String, fault: record_table::Fault) -> Result<(), AllocError> {
+    let line = fault.line;
+    let reason = match fault.reason {
+        RowReason::Long => "it is longer than 1,023 bytes",
+        RowReason::BadTime => "its time is no decimal number",
+        RowReason::Columns(_) => "it has fewer columns than the names above",
+        RowReason::Level(place) => {
+            let number = place.saturating_add(1);
+            return write!(text, "line {line}: its channel {number} is neither 0 nor 1");
+        }
+        RowReason::NoStep => "its time is 0, where it is to be that of one sample",
+        RowReason::Time(TimeFault::Beyond) => "its time is 1,000 hours or more",
+        RowReason::Time(TimeFault::Back) => "its time lies before the one above it",
+        RowReason::Time(TimeFault::Gap) => "its time lies more than a day after the last level",
+        RowReason::NoRow => "no row stands below it",
+    };
+    write!(text, "line {line}: {reason}")
 }
 
 fn push_config_fault(text: &mut String, fault: record_comtrade::Fault) -> Result<(), AllocError> {
@@ -129,6 +176,11 @@ struct Called {
 const WIRES: Called = Called {
     one: "wire",
     none: "it has no wire of one bit",
+};
+
+const COLUMNS: Called = Called {
+    one: "channel",
+    none: "it has no channel",
 };
 
 const DIGITALS: Called = Called {

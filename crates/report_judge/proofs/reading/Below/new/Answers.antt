@@ -1,4 +1,4 @@
-use Rattle.std.proofs.Common.{◌∙◌, Ok, [], ap, sym, subst, length, rules}
+use Rattle.std.proofs.Common.{◌∙◌, [], ap, subst, length, rules}
 use Rattle.std.proofs.lemmas.Result.{err_from_is_err_and}
 use Rattle.record_vcd.specs.Sections.{wires_of}
 use Rattle.report_judge.specs.Channels.{channel_bytes, names_of}
