@@ -13,7 +13,7 @@ from pathlib import Path
 
 from case_files import PROGRAM, ROOT
 
-# The files of a recording by their endings: a dump alone, or a configuration with its samples.
+# The files of a recording by their endings: a dump or a table alone, or a configuration with its samples.
 Recording = dict[str, bytes]
 SECONDS = 10  # 1,000 hours of silent lines take one
 MEMORY = 64 << 20  # of addresses, with the system's libraries
@@ -21,10 +21,10 @@ PARTS = [b"#99999999999999999999", b"-1", b"1e400", b"nan", b"\x1b[2J", b"\xff" 
 
 
 def recordings(folders: list[Path]) -> Iterator[Recording]:
-    """Those that stand in folders."""
+    """Those that stand in folders: dumps, tables, and records."""
     for path in sorted(path for folder in folders for path in folder.iterdir()):
         ending = path.suffix
-        if ending == ".vcd":
+        if ending in (".vcd", ".csv"):
             yield {ending: path.read_bytes()}
         elif ending.lower() == ".cfg":
             samples = path.with_suffix(".DAT" if ending == ".CFG" else ".dat")

@@ -43,10 +43,12 @@ fault_of_reading reading.Memory = Memory
 -- the fault of the program by which the reading of a recording ended
 abbrev pub fault_of_judging : JudgeFault → Fault
 fault_of_judging judging.Empty = Recording judging.Empty
-fault_of_judging judging.Form = Recording judging.Form
 fault_of_judging (judging.Head fault) = Recording (judging.Head fault)
 fault_of_judging (judging.Channels fault names) = Recording (judging.Channels fault names)
 fault_of_judging (judging.Dump fault) = Recording (judging.Dump fault)
+fault_of_judging (judging.Title fault) = Recording (judging.Title fault)
+fault_of_judging (judging.Columns fault names) = Recording (judging.Columns fault names)
+fault_of_judging (judging.Table fault) = Recording (judging.Table fault)
 fault_of_judging (judging.Config fault) = Recording (judging.Config fault)
 fault_of_judging (judging.Digitals fault names) = Recording (judging.Digitals fault names)
 fault_of_judging (judging.Sample fault) = Recording (judging.Sample fault)
