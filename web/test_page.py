@@ -530,9 +530,9 @@ class InBrowser(browser.Driven):
 
     def test_tabs_by_keys(self) -> None:
         self.press("tab-run", "ArrowRight")
-        hidden = self.page.ask("[part('panel-run').hidden, part('panel-frame').hidden]")
+        hidden = self.page.ask("[part('panel-run').hidden, part('panel-judge').hidden]")
         self.assertEqual(hidden, [True, False])
-        self.assertEqual(self.page.ask("document.activeElement.id"), "tab-frame")
+        self.assertEqual(self.page.ask("document.activeElement.id"), "tab-judge")
         self.page.press("End")
         self.assertRegex(self.text("panel-about"), r"an extra, and outside the\s+theorem")
         self.assertRegex(self.text("notices"), r"(?s)serde_json \d.*Permission is hereby granted")
@@ -540,7 +540,7 @@ class InBrowser(browser.Driven):
     def test_each_control_has_a_name(self) -> None:
         roles = {"button", "textbox", "searchbox", "combobox", "checkbox", "tab", "listbox", "application"}
         self.run_example("leap_inserted")
-        for tab in ("run", "frame", "read", "about"):
+        for tab in ("run", "judge", "frame", "read", "about"):
             self.push(f"tab-{tab}")
             nodes = self.page.call("Accessibility.getFullAXTree")["nodes"]
             seen = [node for node in nodes if not node["ignored"]]
