@@ -2,10 +2,11 @@
 
 use crate::fault::Fault;
 use crate::path::path_beside;
+use crate::refusal::why_refused as why_refused_recording;
 use cli_words::{Judging, Request, Source};
 use irig_scenario::WhyRefused;
 use irig_scene::{Refusal, RefusedLine, SceneFault};
-use report_judge::{JudgeFault, why_refused as why_refused_recording};
+use report_judge::JudgeFault;
 use std::alloc::{AllocError, Global};
 use std::io::Error;
 use text_refusal::{PlantContext, Reason, why_refused};

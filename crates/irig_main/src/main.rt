@@ -8,6 +8,7 @@ mod path;
 mod play;
 mod program;
 mod record;
+mod refusal;
 mod request;
 
 use fault::{Fault, report};

@@ -16,13 +16,12 @@ mod record;
 mod run;
 mod stamp;
 mod table;
-mod why;
 
 pub use asked::Asked;
 pub use channels::ChannelFault;
 pub use fault::JudgeFault;
 pub use hearing::Judged;
+pub use names::push_name;
 pub use reading::Reading;
 pub use record::judge_record;
 pub use run::judge;
-pub use why::why_refused;

@@ -116,8 +116,9 @@ pub(crate) fn listed(alloc: Global, names: &[Vec<u8>]) -> Result<String, AllocEr
     Ok(text)
 }
 
-/// Adds a name, as it can be printed.
-pub(crate) fn push_name(text: &mut String, name: &[u8]) -> Result<(), AllocError> {
+/// Adds a name that may be of any bytes, as it can be printed: what is no plain ASCII, and the backslash, as
+/// `\xNN`. It fails only if there is no memory.
+pub fn push_name(text: &mut String, name: &[u8]) -> Result<(), AllocError> {
     for &byte in name {
         if (0x20..0x7f).contains(&byte) && byte != b'\\' {
             text.push(char::from(byte))?;

@@ -1,17 +1,15 @@
 //! Why a recording is refused, in words.
 
-use crate::channels::ChannelFault;
-use crate::fault::JudgeFault;
-use crate::names::push_name;
 use record_comtrade::{Field, Reason as SampleReason, RowFault, RowField, SampleFault};
 use record_levels::TimeFault;
 use record_table::{HeadReason, HeadRefusal, Reason as RowReason};
 use record_text::field_of;
 use record_vcd::{Fault, HeadFault, Reason};
+use report_judge::{ChannelFault, JudgeFault, push_name};
 use std::alloc::{AllocError, Global};
 
 /// Why a recording is refused, in a line, where the lines that were asked for have these names.
-pub fn why_refused(
+pub(crate) fn why_refused(
     alloc: Global,
     fault: &JudgeFault,
     channels: Option<&str>,
