@@ -3,7 +3,7 @@
 
 # How long it takes, as messages say it: to make something unproved, and to prove it.
 time_unproved='about a minute'
-time_proved='10 to 20 minutes on four cores'
+time_proved='up to an hour on four cores'
 
 # The folder of the kit.
 find_kit() {

@@ -12,7 +12,7 @@ use Rattle.record_pulses.specs.declared.steady.Steady.{Steady}
 use Rattle.record_pulses.specs.Glitches.{AreInOrder, IsRipe, IsSteady, ripe_at, to_come, without_glitches}
 use Rattle.record_pulses.specs.Pulses.{AreInTurn, level_at, nearest_us, pulse_between, pulses_of}
 use Rattle.record_pulses.specs.Spreads.{counted, least_of, most_of, total_of}
-use Rattle.record_pulses.specs.Views.{begun_at, count_at, count_of, gap_of, gaps_in_step, gaps_of, is_on, place_now, seconds_of, whole_of, widths_of}
+use Rattle.record_pulses.specs.Views.{begun_at, count_at, count_of, ends_bare, gap_of, gaps_in_step, gaps_of, is_on, place_now, seconds_of, whole_of, widths_of}
 use Rattle.record_pulses.specs.Looks.{is_shown_high, polarity_of, told_of}
 use Rattle.record_pulses.specs.Oddities.{oddity_of}
 
@@ -135,6 +135,15 @@ ends (x ∷ rest) = x ∷ length rest ∷ []
 pub known_whole : (whole_of (line_of 99) ≡ None) × (ends (rises (whole_of (line_of 100))) ≡ 0 ∷ 99 ∷ []) × (ends (rises (whole_of (line_of 150))) ≡ 0 ∷ 99 ∷ [])
 known_whole = (refl, refl, refl)
 
+-- the same line with a one at an element of its first frame: only those of the year and of the control bits count
+abbrev one_at : (element : ℕ) → ℕ → List Pulse
+one_at element zero = []
+one_at element (suc k) = pulse (10000 * k) (if eqb k element then 5000 else width_at k) ∷ one_at element k
+
+pub known_bare : (map (λ n. count_of ends_bare (line_of n)) (99 ∷ 100 ∷ 101 ∷ []) ≡ 0 ∷ 1 ∷ 1 ∷ [])
+    × (map (λ element. count_of ends_bare (one_at element 100)) (48 ∷ 50 ∷ 58 ∷ 60 ∷ 78 ∷ 80 ∷ []) ≡ 1 ∷ 0 ∷ 0 ∷ 0 ∷ 0 ∷ 1 ∷ [])
+known_bare = (refl, refl)
+
 -- a marker, a zero 10 ms later, a one 11 ms after that, which is late, and a pulse of no symbol
 abbrev few : List Pulse
 few = pulse 31000 9500 ∷ pulse 21000 5000 ∷ pulse 10000 2000 ∷ pulse 0 8000 ∷ []
@@ -177,9 +186,9 @@ known_told = (refl, refl)
 abbrev spread : ℕ → Spread
 spread count = record { count = count; least_us = 0; most_us = 0; sum_us = 0 }
 
-abbrev seen : (pulses frames on_time begun zeros ones markers : ℕ) → Seen
-seen pulses frames on_time begun zeros ones markers = record {
-  counts = record { pulses = pulses; frames = frames; out_of_step = 0; on_time = on_time; begun = begun };
+abbrev seen : (pulses frames bare on_time begun zeros ones markers : ℕ) → Seen
+seen pulses frames bare on_time begun zeros ones markers = record {
+  counts = record { pulses = pulses; frames = frames; out_of_step = 0; on_time = on_time; begun = begun; bare = bare };
   widths = record { zero = spread zeros; one = spread ones; marker = spread markers; bad = spread 0 };
   gaps = spread 0;
   gaps_in_step = spread 0;
@@ -187,7 +196,7 @@ seen pulses frames on_time begun zeros ones markers = record {
 }
 
 -- each of them, and either side of half the gaps
-pub known_oddities : (oddity_of (seen 0 0 0 0 0 0 0) 0 0 ≡ Some Silent) × (oddity_of (seen 1 0 0 0 1 0 0) 0 0 ≡ Some Single) × (oddity_of (seen 9 0 8 1 0 5 4) 0 0 ≡ Some Filtered)
-    × (oddity_of (seen 9 0 4 1 5 2 2) 0 0 ≡ Some Uneven) × (oddity_of (seen 9 0 5 0 5 2 2) 0 0 ≡ Some NeverBegins) × (oddity_of (seen 9 0 5 1 5 2 2) 0 0 ≡ Some NeverWhole)
-    × (oddity_of (seen 100 1 99 1 80 9 11) 1 1 ≡ Some Bare) × (oddity_of (seen 200 2 199 2 160 18 22) 2 1 ≡ None) × (oddity_of (seen 100 1 99 1 80 9 11) 0 0 ≡ None)
+pub known_oddities : (oddity_of (seen 0 0 0 0 0 0 0 0) ≡ Some Silent) × (oddity_of (seen 1 0 0 0 0 1 0 0) ≡ Some Single) × (oddity_of (seen 9 0 0 8 1 0 5 4) ≡ Some Filtered)
+    × (oddity_of (seen 9 0 0 4 1 5 2 2) ≡ Some Uneven) × (oddity_of (seen 9 0 0 5 0 5 2 2) ≡ Some NeverBegins) × (oddity_of (seen 9 0 0 5 1 5 2 2) ≡ Some NeverWhole)
+    × (oddity_of (seen 100 1 1 99 1 80 9 11) ≡ Some Bare) × (oddity_of (seen 200 2 1 199 2 160 18 22) ≡ None) × (oddity_of (seen 100 1 0 99 1 80 9 11) ≡ None)
 known_oddities = (refl, refl, refl, refl, refl, refl, refl, refl, refl)

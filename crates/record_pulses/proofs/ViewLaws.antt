@@ -1,5 +1,5 @@
 -- A pulse more of a view.
-use Rattle.std.proofs.Common.{rules, ◌≡◌, ◌∙◌, ℕ, suc, ◌+◌, ◌-◌, ◌%◌, ◌^◌, ◌<◌, ◌≤◌, ◌⊎◌, Bool, true, false, nat_lt, nat_eq, List, [], ◌∷◌, ◌++◌, length, take, Option, Some, refl, sym, subst, ap, arith, inl, inr}
+use Rattle.std.proofs.Common.{rules, ◌≡◌, ◌∙◌, ℕ, suc, ◌+◌, ◌-◌, ◌%◌, ◌^◌, ◌<◌, ◌≤◌, ◌⊎◌, Bool, true, false, nat_lt, nat_eq, ◌&&◌, List, [], ◌∷◌, ◌++◌, length, take, Option, Some, refl, sym, subst, ap, arith, inl, inr}
 use Rattle.std.specs.Prelude.{slice_set, if◌then◌else◌}
 use Rattle.std.proofs.lemmas.Bool.{cases_Bool}
 use Rattle.std.proofs.lemmas.List.{length-set, take_more_set}
@@ -15,7 +15,7 @@ use Rattle.record_pulses.specs.declared.seen.Seen.{Seen}
 use Rattle.record_pulses.specs.declared.track.Step.{Step}
 use Rattle.record_pulses.specs.declared.track.Track.{Track}
 use Rattle.record_pulses.specs.Spreads.{IsSpreadOf, counted, with_time}
-use Rattle.record_pulses.specs.Views.{AreCountsOf, AreFramesOf, AreWidthsOf, IsAfter, IsSeenOf, IsTrackOf, begun_by, gap_from, gap_in_step, gap_of, gaps_in_step, gaps_of, heard, is_next, is_on, last_of, more_if, place_now, second_by, second_of, seconds_of, step_of, sync_after, with_count}
+use Rattle.record_pulses.specs.Views.{AreCountsOf, AreFramesOf, AreWidthsOf, IsAfter, IsSeenOf, IsTrackOf, begun_by, ends_bare, is_bare, gap_from, gap_in_step, gap_of, gaps_in_step, gaps_of, heard, is_next, is_on, last_of, more_if, place_now, second_by, second_of, seconds_of, step_of, sync_after, with_count}
 
 -- ---- its place
 
@@ -89,7 +89,7 @@ more : (b : Bool) (n : ℕ) → more_if b (counted n) ≡ counted ((if b then 1 
 more true n = omega arith
 more false n = ap counted (omega arith)
 
-counts_more : (c : Counts) (p : Pulse) (pulses : List Pulse) → AreCountsOf c pulses → AreCountsOf (with_count (place_now (p ∷ pulses)) (is_on (gap_of p pulses)) c) (p ∷ pulses)
+counts_more : (c : Counts) (p : Pulse) (pulses : List Pulse) → AreCountsOf c pulses → AreCountsOf (with_count (place_now (p ∷ pulses)) (is_on (gap_of p pulses)) (ends_bare p pulses) c) (p ∷ pulses)
 counts_more c p pulses h =
     let all : 1 + length pulses ≡ length (p ∷ pulses) = omega arith in
     record {
@@ -98,16 +98,18 @@ counts_more c p pulses h =
       out = ap (more_if (nat_eq (place_now (p ∷ pulses)) 0)) h.out ∙ more _ _;
       on_time = ap (more_if (is_on (gap_of p pulses))) h.on_time ∙ more _ _;
       begun = ap (more_if (nat_eq (place_now (p ∷ pulses)) 1)) h.begun ∙ more _ _;
+      bare = ap (more_if (ends_bare p pulses)) h.bare ∙ more _ _;
     }
 
-pub seen_more : (seen new : Seen) (p : Pulse) (pulses : List Pulse) (step : Step) → IsSeenOf seen pulses → step ≡ step_of p pulses
-    → new.counts ≡ with_count step.place (is_on step.gap_us) seen.counts → AreWidthsOf new.widths (p ∷ pulses)
+pub seen_more : (seen new : Seen) (p : Pulse) (pulses : List Pulse) (step : Step) (bare : Bool) → IsSeenOf seen pulses → step ≡ step_of p pulses
+    → bare ≡ ends_bare p pulses → new.counts ≡ with_count step.place (is_on step.gap_us) bare seen.counts → AreWidthsOf new.widths (p ∷ pulses)
     → IsSpreadOf new.gaps (with_time step.gap_us (gaps_of pulses))
     → IsSpreadOf new.gaps_in_step (with_time (gap_in_step step.place step.gap_us) (gaps_in_step pulses))
     → IsSpreadOf new.seconds (with_time step.second_us (seconds_of pulses)) → IsSeenOf new (p ∷ pulses)
-seen_more seen new p pulses step h e counts widths gaps in_step seconds = record {
+seen_more seen new p pulses step bare h e same counts widths gaps in_step seconds = record {
   counts =
-      let is : new.counts ≡ with_count (place_now (p ∷ pulses)) (is_on (gap_of p pulses)) seen.counts = subst (λ (x : Step). new.counts ≡ with_count x.place (is_on x.gap_us) seen.counts) e counts in
+      let by_step : new.counts ≡ with_count (place_now (p ∷ pulses)) (is_on (gap_of p pulses)) bare seen.counts = subst (λ (x : Step). new.counts ≡ with_count x.place (is_on x.gap_us) bare seen.counts) e counts in
+      let is : new.counts ≡ with_count (place_now (p ∷ pulses)) (is_on (gap_of p pulses)) (ends_bare p pulses) seen.counts = subst (λ (x : Bool). new.counts ≡ with_count (place_now (p ∷ pulses)) (is_on (gap_of p pulses)) x seen.counts) same by_step in
       subst (λ (x : Counts). AreCountsOf x (p ∷ pulses)) (sym is) (counts_more seen.counts p pulses h.counts);
   widths = widths;
   gaps = subst (λ (x : Step). IsSpreadOf new.gaps (with_time x.gap_us (gaps_of pulses))) e gaps;
@@ -187,3 +189,14 @@ keeps_whole f p pulses place long h e last =
 
 pub in_step : (pulses : List Pulse) → place_now pulses ≡ 100 → AreOnTime 100 (heard pulses)
 in_step pulses last = subst (λ (n : ℕ). AreOnTime n (heard pulses)) last (counted_on_time (heard pulses))
+
+-- ---- bare frames
+
+pub bare_more : (f : Frames) (p : Pulse) (pulses : List Pulse) (place : ℕ) → AreFramesOf f (p ∷ pulses) → place ≡ place_now (p ∷ pulses)
+    → (nat_eq place 100 && is_bare f.whole) ≡ ends_bare p pulses
+bare_more f p pulses place h e = elim (cases_Bool (nat_eq (place_now (p ∷ pulses)) 100)) [
+  | inl is ↦
+      let whole : f.whole ≡ last_of 100 (p ∷ pulses) = rw is at h.whole in
+      rw (e, is, whole) refl
+  | inr other ↦ rw (e, other) refl
+]

@@ -6,9 +6,9 @@ use Rattle.record_pulses.specs.declared.oddity.Oddity.TheVariants.{Silent, Singl
 use Rattle.record_pulses.specs.declared.seen.Seen.{Seen}
 use Rattle.record_pulses.specs.declared.seen.Widths.{Widths}
 
--- frames are odd if some are of a time, and all of these are bare
-abbrev pub oddity_of_frames : (decoded bare : ℕ) → Option Oddity
-oddity_of_frames decoded bare = if nat_lt 0 decoded && nat_eq bare decoded then Some Bare else None
+-- whole frames are odd if all of them are bare
+abbrev pub oddity_of_frames : (frames bare : ℕ) → Option Oddity
+oddity_of_frames frames bare = if nat_eq bare frames then Some Bare else None
 
 -- there are ones and markers, and no zeros
 abbrev pub is_filtered : Widths → Bool
@@ -16,10 +16,10 @@ is_filtered w = nat_eq w.zero.count 0 && nat_lt 0 w.one.count && nat_lt 0 w.mark
 
 -- the first that is so: no pulse; else by its frames, if there are any; one pulse; no zeros; at most
 -- half of the gaps are on time; no frame begins; none is whole
-abbrev pub oddity_of : Seen → (decoded bare : ℕ) → Option Oddity
-oddity_of s decoded bare =
+abbrev pub oddity_of : Seen → Option Oddity
+oddity_of s =
     if nat_eq s.counts.pulses 0 then Some Silent
-    else (if nat_lt 0 s.counts.frames then oddity_of_frames decoded bare
+    else (if nat_lt 0 s.counts.frames then oddity_of_frames s.counts.frames s.counts.bare
     else (if nat_eq s.counts.pulses 1 then Some Single
     else (if is_filtered s.widths then Some Filtered
     else (if nat_le (2 * s.counts.on_time) (s.counts.pulses - 1) then Some Uneven

@@ -2,7 +2,7 @@
 -- in microseconds.
 -- Source: IRIG Standard 200-16, format B: a frame of a hundred elements, 10 ms apart. Which element a
 -- pulse is, irig_sync says.
-use Rattle.std.specs.Prelude.{◌≡◌, ℕ, suc, ◌+◌, ◌-◌, ◌≤◌, Bool, true, false, not, ◌&&◌, nat_eq, nat_lt, if◌then◌else◌, List, [], ◌∷◌, ◌++◌, length, Option, Some, None, take, ⊤}
+use Rattle.std.specs.Prelude.{◌≡◌, ℕ, zero, suc, ◌+◌, ◌-◌, ◌%◌, ◌≤◌, Bool, true, false, not, ◌&&◌, ◌||◌, slice_get, nat_eq, nat_lt, if◌then◌else◌, List, [], ◌∷◌, ◌++◌, length, Option, Some, None, take, ⊤}
 use Rattle.irig_frame.specs.declared.symbol.Symbol.{Symbol}
 use Rattle.irig_frame.specs.declared.symbol.Symbol.TheVariants.{Zero, One, Marker, Bad}
 use Rattle.irig_frame.specs.Symbols.{symbol_of}
@@ -132,15 +132,40 @@ whole_of (p ∷ before) =
     if nat_eq (place_now (p ∷ before)) 100 then Some (last_of 100 (p ∷ before))
     else whole_of before
 
+-- an element of a frame, from 0, is a 0 or a position identifier
+abbrev pub is_clear_pulse : Option Pulse → (element : ℕ) → Bool
+is_clear_pulse None element = false
+is_clear_pulse (Some p) element = nat_eq (element % 10) 9 || same_symbol (symbol_of p.width_us) Zero
+
+-- the same by its place
+abbrev pub is_clear : List Pulse → (element : ℕ) → Bool
+is_clear frame element = is_clear_pulse (slice_get frame element) element
+
+-- so are so many elements from 50 on
+abbrev pub are_clear : List Pulse → (count : ℕ) → Bool
+are_clear frame zero = true
+are_clear frame (suc n) = are_clear frame n && is_clear frame (50 + n)
+
+-- a frame is bare if its year (elements 50 to 58) and its control bits (60 to 78) are all 0, as those of a clock
+-- without the control functions of IEEE 1344
+abbrev pub is_bare : List Pulse → Bool
+is_bare frame = are_clear frame 29
+
+-- a bare frame ends with a pulse
+abbrev pub ends_bare : Pulse → List Pulse → Bool
+ends_bare p before = nat_eq (place_now (p ∷ before)) 100 && is_bare (last_of 100 (p ∷ before))
+
 -- ---- what is kept of them
 
--- these are the counts of some pulses: how many there are, how many end a frame, have no place, are on time, and begin a frame
+-- these are the counts of some pulses: how many there are, how many end a frame, have no place, are on time, begin a frame,
+-- and end a bare one
 pub record AreCountsOf (counts : Counts) (pulses : List Pulse) : Type 0 where
   pub pulses_are : counts.pulses ≡ counted (length pulses)
   pub frames : counts.frames ≡ counted (count_at 100 pulses)
   pub out : counts.out_of_step ≡ counted (count_at 0 pulses)
   pub on_time : counts.on_time ≡ counted (count_of (λ p before. is_on (gap_of p before)) pulses)
   pub begun : counts.begun ≡ counted (count_at 1 pulses)
+  pub bare : counts.bare ≡ counted (count_of ends_bare pulses)
 
 -- these are their widths, by the symbols that they are
 pub record AreWidthsOf (widths : Widths) (pulses : List Pulse) : Type 0 where
@@ -199,13 +224,14 @@ abbrev pub more_if : Bool → ℕ → ℕ
 more_if b n = if b then counted (n + 1) else n
 
 -- the counts with a pulse more
-abbrev pub with_count : ℕ → Bool → Counts → Counts
-with_count place on_time c = record {
+abbrev pub with_count : ℕ → Bool → (bare : Bool) → Counts → Counts
+with_count place on_time bare c = record {
   pulses = more_if true c.pulses;
   frames = more_if (nat_eq place 100) c.frames;
   out_of_step = more_if (nat_eq place 0) c.out_of_step;
   on_time = more_if on_time c.on_time;
   begun = more_if (nat_eq place 1) c.begun;
+  bare = more_if bare c.bare;
 }
 
 -- a gap is so long that a line is idle

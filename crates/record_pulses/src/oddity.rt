@@ -28,16 +28,15 @@ pub enum Oddity {
 }
 
 impl Seen {
-    /// What is odd about the line, if anything is. Of its frames `decoded` are of a time, and `bare` of
-    /// these have a year and control bits of 0.
-    pub fn oddity(&self, decoded: u64, bare: u64) -> Option<Oddity>
-        ensures { result ≡ oddity_of self.now decoded bare }
+    /// What is odd about the line, if anything is.
+    pub fn oddity(&self) -> Option<Oddity>
+        ensures { result ≡ oddity_of self.now }
     {
         let counts = &self.counts;
         if counts.pulses == 0 {
             Some(Oddity::Silent)
         } else if counts.frames > 0 {
-            oddity_of_frames(decoded, bare)
+            oddity_of_frames(counts.frames, counts.bare)
         } else if counts.pulses == 1 {
             Some(Oddity::Single)
         } else if is_filtered(&self.widths) {
@@ -52,10 +51,10 @@ impl Seen {
     }
 }
 
-fn oddity_of_frames(decoded: u64, bare: u64) -> Option<Oddity>
-    ensures { result ≡ oddity_of_frames decoded bare }
+fn oddity_of_frames(frames: u64, bare: u64) -> Option<Oddity>
+    ensures { result ≡ oddity_of_frames frames bare }
 {
-    if decoded > 0 && bare == decoded {
+    if bare == frames {
         Some(Oddity::Bare)
     } else {
         None

@@ -1,7 +1,7 @@
 //! What is counted of a line's pulses.
 
 ghost use Rattle.std.specs.Prelude.{◌≡◌, ◌∷◌, [], List};
-ghost use Rattle.record_pulses.specs.Views.{AreCountsOf, AreWidthsOf, IsSeenOf, gap_in_step, more_if, step_of, with_count};
+ghost use Rattle.record_pulses.specs.Views.{AreCountsOf, AreWidthsOf, IsSeenOf, ends_bare, gap_in_step, more_if, step_of, with_count};
 
 use crate::edge::Pulse;
 use crate::spread::Spread;
@@ -21,6 +21,8 @@ pub struct Counts {
     pub on_time: u64,
     /// Frames that began.
     pub begun: u64,
+    /// Whole frames whose year and control bits are all 0.
+    pub bare: u64,
 }
 
 impl Counts {
@@ -33,11 +35,12 @@ impl Counts {
             out_of_step: 0,
             on_time: 0,
             begun: 0,
+            bare: 0,
         }
     }
 
-    fn count(&mut self, place: u8, is_on_time: bool)
-        ensures { self.new ≡ with_count place is_on_time self.old }
+    fn count(&mut self, place: u8, is_on_time: bool, is_bare: bool)
+        ensures { self.new ≡ with_count place is_on_time is_bare self.old }
     {
         *self = Counts {
             pulses: more_if(true, self.pulses),
@@ -45,6 +48,7 @@ impl Counts {
             out_of_step: more_if(place == 0, self.out_of_step),
             on_time: more_if(is_on_time, self.on_time),
             begun: more_if(place == 1, self.begun),
+            bare: more_if(is_bare, self.bare),
         };
     }
 }
@@ -126,12 +130,13 @@ impl Seen {
         }
     }
 
-    /// Another pulse, and what it is after those before it.
-    pub(crate) fn note(&mut self, pulse: Pulse, step: Step)
+    /// Another pulse, what it is after those before it, and whether a bare frame ends with it.
+    pub(crate) fn note(&mut self, pulse: Pulse, step: Step, is_bare: bool)
         ensures { (pulses : List Pulse) → IsSeenOf self.old pulses → step ≡ step_of pulse pulses
-            → IsSeenOf self.new (pulse ∷ pulses) }
+            → is_bare ≡ ends_bare pulse pulses → IsSeenOf self.new (pulse ∷ pulses) }
     {
-        self.counts.count(step.place, is_on_time(step.gap_us));
+        self.counts
+            .count(step.place, is_on_time(step.gap_us), is_bare);
         self.widths.add(pulse);
         self.gaps.note(step.gap_us);
         self.gaps_in_step.note(gap_in_step(step.place, step.gap_us));

@@ -39,8 +39,9 @@ impl View {
             → IsViewOf self.new (pulse ∷ pulses) }
     {
         let step = self.track.step(pulse);
-        self.seen.note(pulse, step);
         self.frames.keep(step.place, pulse);
+        let is_bare = self.frames.end_bare(step.place);
+        self.seen.note(pulse, step, is_bare);
         step.place
     }
 

@@ -22,6 +22,7 @@ use Rattle.record_stamp.specs.Codes.{leap_said, quality_of, zone_of}
 use Rattle.record_stamp.specs.Instants.{order_of, stamp_in}
 use Rattle.record_stamp.specs.Stamps.{exchanged, meaning}
 use Rattle.record_stamp.specs.Late.{late_ns}
+use Rattle.record_stamp.specs.Notes.{between_note, moment_after, quality_words, unlocked_words, zone_as, zone_note}
 use Rattle.record_stamp.specs.Word.{step_ns, zone_reading}
 use Rattle.record_stamp.specs.WordText.{amount_text, escaped, fraction_text, length_text, off_text, seconds_text, three, unit_text, within_text, zone_text}
 use Rattle.record_stamp.proofs.LateLaws.{days_after, days_before, plain_days}
@@ -142,3 +143,30 @@ pub known_texts : (zone_text (neg_ℤ (pos 330)) ≡ codes "-5:30") × (zone_tex
     × (fraction_text 250000000 ≡ codes "250") × (fraction_text 1000 ≡ codes "000001") × (fraction_text 1 ≡ codes "000000001")
 unfolding zone_text escaped fraction_text three digits
 known_texts = (refl, refl, refl, refl, refl, refl)
+
+-- ---- what a record says of its clock
+
+-- a time code as -0500 is none, and x says that there is none
+pub known_notes : (zone_note None (codes "x") ≡ codes "the stamp is read as UTC, since the record names no zone\n") × (zone_note None [] ≡ zone_note None (codes "x"))
+    × (zone_note None (codes "-0500") ≡ codes "the stamp is read as UTC, since the record's time code, -0500, is no zone\n")
+    × (zone_note None (codes "0") ≡ codes "the stamp is read as UTC, as the record says\n")
+unfolding between_note escaped
+known_notes = (refl, refl, refl, refl)
+
+pub a_zone_of_the_record : zone_note None (codes "-5h30") ≡ codes "the stamp is read as local time of UTC-5:30, as the record says\n"
+unfolding zone_as zone_text digits
+a_zone_of_the_record = refl
+
+pub known_quality : (quality_words 0 ≡ codes "the record says that its clock was locked\n") × (quality_words 15 ≡ codes "the record says that its clock was out of order\n")
+    × (quality_words 1 ≡ codes "the record says that its clock was not locked, and right to 1 ns\n") × (quality_words 11 ≡ codes "the record says that its clock was not locked, and right to 10 s\n")
+    × (quality_words 6 ≡ codes "the record says that its clock was not locked, and right to 100 us\n")
+unfolding unlocked_words
+known_quality = (refl, refl, refl, refl, refl)
+
+-- 0.1 s after 09:30:00.250, and on another day it is not told
+abbrev morning : Moment
+morning = record { at = record { day = 9824; sod = 34200 }; nanoseconds = 250000000 }
+
+pub known_trigger : (moment_after (pos 100000000) morning ≡ Some (record { at = record { day = 9824; sod = 34200 }; nanoseconds = 350000000 })) × (moment_after (pos 0) morning ≡ None)
+    × (moment_after (neg_ℤ (pos 1250000000)) morning ≡ Some (record { at = record { day = 9824; sod = 34199 }; nanoseconds = 0 })) × (moment_after (pos 86400000000000) morning ≡ None)
+known_trigger = (refl, refl, refl, refl)

@@ -6,3 +6,4 @@ pub mod Records
 pub mod Late
 pub mod Word
 pub mod WordText
+pub mod Notes

@@ -12,7 +12,7 @@ use Rattle.record_stamp.specs.declared.word.Word.{Word}
 use Rattle.record_stamp.specs.Codes.{zone_of}
 use Rattle.record_stamp.specs.Stamps.{exchanged, meaning}
 use Rattle.record_stamp.specs.Word.{step_ns, word_on}
-use Rattle.record_stamp.specs.WordText.{stamp_fault_text, stamp_text, stamp_word_text}
+use Rattle.record_stamp.specs.WordText.{stamp_text}
 
 -- a field of a line from the first stamp on, by their places from 0
 abbrev pub below : ConfigValue → (line at : ℕ) → List ℕ
@@ -42,16 +42,6 @@ word_if (Err fault) word = Err fault
 abbrev pub word_of : ConfigValue → Option ℤ → List (ℕ × Leap) → (truth : Moment) → Result Word StampFault
 word_of config zone leaps truth =
     word_if (stamp_of config 0 zone) (λ stamp. word_on leaps stamp (exchanged_of config zone) truth (step_ns config.rates))
-
--- its lines, of a stamp that stands so in the record
-abbrev pub word_text : Result Word StampFault → (date clock : List ℕ) → (truth : Moment) → List ℕ
-word_text (Ok word) date clock truth = stamp_word_text word date clock truth
-word_text (Err fault) date clock truth = stamp_fault_text fault date clock
-
--- the lines of the word on the stamp of a record, or why the stamp is no time
-abbrev pub record_word_text : ConfigValue → Option ℤ → List (ℕ × Leap) → (truth : Moment) → List ℕ
-record_word_text config zone leaps truth =
-    word_text (word_of config zone leaps truth) (below config 0 0) (below config 0 1) truth
 
 -- the line that the stamp of a record is not judged
 unfoldable pub unjudged_text : ConfigValue → List ℕ

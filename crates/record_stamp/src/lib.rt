@@ -6,6 +6,7 @@ mod code;
 mod instant;
 mod late;
 mod laws;
+mod notes;
 mod parts;
 mod record;
 mod stamp;

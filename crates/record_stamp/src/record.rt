@@ -6,11 +6,13 @@ ghost use Rattle.record_stamp.specs.Codes.{IsZoneOf, leap_said, quality_of};
 ghost use Rattle.record_stamp.specs.Instants.{IsStamp, IsStampOf};
 ghost use Rattle.record_stamp.specs.Late.{IsMoment, leaps_of};
 ghost use Rattle.record_stamp.specs.Word.{IsWord};
-ghost use Rattle.record_stamp.specs.Records.{below, exchanged_of, record_word_text, stamp_of, unjudged_text, word_of, zone_in};
+ghost use Rattle.record_stamp.specs.Notes.{record_word_text};
+ghost use Rattle.record_stamp.specs.Records.{below, exchanged_of, stamp_of, unjudged_text, word_of, zone_in};
 
 use crate::code::{LeapSaid, leap_said, quality_of, zone_of};
 use crate::instant::{Stamp, StampFault};
 use crate::late::Moment;
+use crate::notes::push_notes;
 use crate::stamp::{exchanged, meaning};
 use crate::text::{push_stamp_between, push_stamp_fault, push_stamp_word};
 use crate::word::{Word, step_ns, word_on};
@@ -113,7 +115,8 @@ pub fn word_of(
     }
 }
 
-/// Adds the lines of that word, or why the stamp is no time. It fails only if there is no memory.
+/// Adds the lines of that word, and beside it by which zone the stamp is read, when the trigger was, and what the
+/// record says of its clock; or why the stamp is no time. It fails only if there is no memory.
 pub fn push_record_word(
     text: &mut String,
     config: &Config,
@@ -128,7 +131,10 @@ pub fn push_record_word(
 {
     let (date, clock) = (config.field_below(0, 0), config.field_below(0, 1));
     match word_of(config, zone, leap, truth) {
-        Ok(word) => push_stamp_word(text, &word, date, clock, truth),
+        Ok(word) => {
+            push_stamp_word(text, &word, date, clock, truth)?;
+            push_notes(text, config, zone, truth)
+        }
         Err(fault) => push_stamp_fault(text, fault, date, clock),
     }
 }

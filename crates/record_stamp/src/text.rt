@@ -183,7 +183,7 @@ fn push_off_between(
 
 // Adds a zone as +5:30.
 #[tactic(auto, unfolding(crate::specs::WordText::zone_text))]
-fn push_zone(text: &mut String, minutes: i16) -> Result<(), AllocError>
+pub(crate) fn push_zone(text: &mut String, minutes: i16) -> Result<(), AllocError>
     ensures { OnOk result (string_bytes text.new
         ≡ string_bytes text.old ++ zone_text minutes) }
 {
@@ -340,7 +340,7 @@ fn push_stamp(text: &mut String, date: &[u8], clock: &[u8]) -> Result<(), AllocE
 }
 
 #[tactic(auto, unfolding(crate::specs::WordText::escaped))]
-fn push_escaped(text: &mut String, bytes: &[u8]) -> Result<(), AllocError>
+pub(crate) fn push_escaped(text: &mut String, bytes: &[u8]) -> Result<(), AllocError>
     ensures { OnOk result (string_bytes text.new
         ≡ string_bytes text.old ++ escaped bytes.now) }
 {

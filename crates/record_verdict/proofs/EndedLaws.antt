@@ -4,6 +4,7 @@ use Rattle.std.specs.Prelude.{option_to_list}
 use Rattle.std.proofs.lemmas.List.{append_assoc, length-append, length-take, take-append-le, take_all}
 use Rattle.record_pulses.specs.Spreads.{counted}
 use Rattle.record_verdict.specs.declared.ended.Ended.{Ended}
+use Rattle.record_verdict.specs.declared.stretch.AgreedSecond.{AgreedSecond}
 use Rattle.record_verdict.specs.declared.stretch.Stretch.{Stretch}
 use Rattle.record_verdict.specs.declared.ended.Unended.{Unended}
 use Rattle.record_verdict.specs.declared.tales.Tales.{Tales}
@@ -36,9 +37,9 @@ five all a b c d e =
     append_assoc (((all ++ a) ++ b) ++ c) d e ∙ append_assoc ((all ++ a) ++ b) c (d ++ e) ∙ append_assoc (all ++ a) b (c ++ (d ++ e)) ∙ append_assoc all a (b ++ (c ++ (d ++ e)))
 
 -- those that end of the five lines
-pub all_five : (f : Ended) (u : Unended) (t : Tales) (all : List Stretch) (a b c d e : Option Stretch)
-    → a ≡ ended_by u.a t.a → b ≡ ended_by u.b t.b → c ≡ ended_by u.c t.c → d ≡ ended_by u.d t.d → e ≡ ended_by u.e t.e
+pub all_five : (f : Ended) (u : Unended) (second : AgreedSecond) (t : Tales) (all : List Stretch) (a b c d e : Option Stretch)
+    → a ≡ ended_by u.a second t.a → b ≡ ended_by u.b second t.b → c ≡ ended_by u.c second t.c → d ≡ ended_by u.d second t.d → e ≡ ended_by u.e second t.e
     → AreEnded f (((((all ++ option_to_list a) ++ option_to_list b) ++ option_to_list c) ++ option_to_list d) ++ option_to_list e)
-    → AreEnded f (all ++ ended_at u t)
-all_five f u t all a b c d e ea eb ec ed ee h =
+    → AreEnded f (all ++ ended_at u second t)
+all_five f u second t all a b c d e ea eb ec ed ee h =
     rw (sym ea, sym eb, sym ec, sym ed, sym ee) (subst (AreEnded f) (five all (option_to_list a) (option_to_list b) (option_to_list c) (option_to_list d) (option_to_list e)) h)

@@ -15,7 +15,7 @@ use Rattle.record_verdict.specs.declared.tales.Tales.{Tales}
 use Rattle.record_verdict.specs.Ended.{unended_after}
 use Rattle.record_verdict.specs.Lines.{tales_of}
 use Rattle.record_verdict.specs.Naming.{Names, SaysOf, tale_in, unended_in}
-use Rattle.record_verdict.specs.Stretches.{begun, stretch_after, stretch_past}
+use Rattle.record_verdict.specs.Stretches.{begun, stretch_after, stretch_past, turns_late}
 use Rattle.record_verdict.specs.Tales.{goes_on, kind_of, offset_of, same_kind}
 use Rattle.record_verdict.specs.Verdicts.{agreed_second, unended_by, unended_of}
 
@@ -54,7 +54,10 @@ past_says (Some s) line second tale of wrong = elim (cases_Bool (goes_on s.tale 
   | inl goes ↦
       let parts = and_parts (same_kind (kind_of s.tale) (kind_of tale)) (same_offset (offset_of s.tale) (offset_of tale)) goes in
       rw goes (record { wrong = wrong; of_line = of; last = refl; same = parts.0 })
-  | inr ends ↦ rw ends (new_says line second tale wrong)
+  | inr ends ↦ elim (cases_Bool (turns_late s second tale)) [
+    | inl late ↦ rw (ends, late) (record { wrong = wrong; of_line = of; last = refl; same = same_self (kind_of tale) })
+    | inr other ↦ rw (ends, other) (new_says line second tale wrong)
+  ]
 ]
 
 pub after_names : (before : Option Stretch) (line : ℕ) (second : AgreedSecond) (tale : Tale) → IsOf line before → Names line second tale (stretch_after before line second tale)

@@ -6,8 +6,11 @@ use Rattle.irig_time.specs.Days.{four_years, is_month_end}
 use Rattle.irig_time.specs.declared.mark.Mark.{Mark}
 use Rattle.irig_time.specs.declared.mark.Mark.TheVariants.{Unspoken, NoLeap, Insert}
 use Rattle.record_verdict.specs.declared.stretch.AgreedSecond.{AgreedSecond}
+use Rattle.record_verdict.specs.declared.stretch.Stretch.{Stretch}
 use Rattle.record_verdict.specs.declared.tale.Tale.TheVariants.{Agreed, AnotherSecond, AnotherMark, Late, Early, Silent}
 use Rattle.record_verdict.specs.declared.zero.Zero.TheVariants.{At, Undecided, OutOfYears}
+use Rattle.record_verdict.specs.Jumps.{follows}
+use Rattle.record_verdict.specs.Stretches.{begun, ended_by, stretch_past, turns_late}
 use Rattle.record_verdict.specs.Tales.{goes_on, tale}
 use Rattle.record_verdict.specs.Zeros.{zero_at}
 
@@ -63,6 +66,30 @@ still_late = refl
 
 pub late_then_early : goes_on (Late 3200) (Early 3300) ≡ false
 late_then_early = refl
+
+-- silent at 5.05 s, and 3.2 ms late a second later: late in both; a second after that one it is not
+abbrev silent_at : ℕ → Stretch
+silent_at lines = begun 1 (ends_at (morning 4) lines) Silent
+
+pub late_from_the_first : (stretch_past (Some (silent_at 5050000)) 1 (ends_at (morning 5) 6050000) (Late 3200)
+    ≡ record { line = 1; tale = Late 3200; first = ends_at (morning 4) 5050000; last = ends_at (morning 5) 6050000; seconds = 2; least_us = 3200; most_us = 3200 })
+    × (turns_late (silent_at 5050000) (ends_at (morning 6) 7050000) (Late 3200) ≡ false) × (turns_late (silent_at 5050000) (ends_at (morning 5) 6050000) (Early 3200) ≡ false)
+    × (ended_by (Some (silent_at 5050000)) (ends_at (morning 5) 6050000) (Late 3200) ≡ None)
+late_from_the_first = (refl, refl, refl, refl)
+
+-- ---- where most lines contradict themselves
+
+-- a second that is one later, a second later; one that is 17 s back; three seconds later, one that is three later, and one that is two later
+pub known_jumps : (follows (ends_at (morning 4) 5050000) (ends_at (morning 5) 6050300) ≡ true) × (follows (ends_at (morning 22) 5050000) (ends_at (morning 5) 6050000) ≡ false)
+    × (follows (ends_at (morning 4) 5050000) (ends_at (morning 7) 8050000) ≡ true) × (follows (ends_at (morning 4) 5050000) (ends_at (morning 6) 8050000) ≡ false)
+known_jumps = (refl, refl, refl, refl)
+
+-- 23:59:59, 23:59:60 and 00:00:00 of 2017 follow each other, and without a leap second the first and the last do; no second is left out
+pub leaps_are_no_jumps : (follows (ends_at (claimed 6209 86399 Insert) 5050000) (ends_at (claimed 6209 86400 Unspoken) 6050000) ≡ true)
+    × (follows (ends_at (claimed 6209 86400 Unspoken) 6050000) (ends_at (claimed 6210 0 Unspoken) 7050000) ≡ true)
+    × (follows (ends_at (claimed 6209 86399 NoLeap) 5050000) (ends_at (claimed 6210 0 Unspoken) 6050000) ≡ true)
+    × (follows (ends_at (claimed 6209 86399 NoLeap) 5050000) (ends_at (claimed 6210 2 Unspoken) 6050000) ≡ false)
+leaps_are_no_jumps = (refl, refl, refl, refl)
 
 -- ---- when a recording begins
 

@@ -28,9 +28,9 @@ unended_after u second t = record {
   e = stretch_after u.e 4 second t.e;
 }
 
--- those of them that end where lines say this, in the lines' order
-abbrev pub ended_at : Unended → Tales → List Stretch
-ended_at u t =
-    option_to_list (ended_by u.a t.a) ++ (option_to_list (ended_by u.b t.b)
-    ++ (option_to_list (ended_by u.c t.c) ++ (option_to_list (ended_by u.d t.d)
-    ++ option_to_list (ended_by u.e t.e))))
+-- those of them that end where lines say this of a second, in the lines' order
+abbrev pub ended_at : Unended → AgreedSecond → Tales → List Stretch
+ended_at u second t =
+    option_to_list (ended_by u.a second t.a) ++ (option_to_list (ended_by u.b second t.b)
+    ++ (option_to_list (ended_by u.c second t.c) ++ (option_to_list (ended_by u.d second t.d)
+    ++ option_to_list (ended_by u.e second t.e))))

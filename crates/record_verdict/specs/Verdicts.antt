@@ -6,10 +6,12 @@ use Rattle.irig_time.specs.declared.claim.Claim.{Claim}
 use Rattle.record_lines.specs.declared.second.RecordedSecond.{RecordedSecond}
 use Rattle.record_pulses.specs.Spreads.{counted}
 use Rattle.record_verdict.specs.declared.ended.Unended.{Unended}
+use Rattle.record_verdict.specs.declared.jump.Jumps.{Jumps}
 use Rattle.record_verdict.specs.declared.stretch.AgreedSecond.{AgreedSecond}
 use Rattle.record_verdict.specs.declared.stretch.Stretch.{Stretch}
 use Rattle.record_verdict.specs.declared.verdict.Verdict.{Verdict}
 use Rattle.record_verdict.specs.Ended.{AreEnded, ended_at, none_unended, unended_after}
+use Rattle.record_verdict.specs.Jumps.{jump_between, jumps_after, no_jumps}
 use Rattle.record_verdict.specs.Lines.{apart_at, tales_of}
 
 -- a second whose claim most lines agree on
@@ -45,7 +47,8 @@ unended_of lines (s ∷ ss) = unended_by lines (unended_of lines ss) s s.vote
 -- those of them that one more second ends
 abbrev pub ended_by_second : ℕ → Unended → RecordedSecond → Option Claim → List Stretch
 ended_by_second lines before s None = []
-ended_by_second lines before s (Some claim) = ended_at before (tales_of lines claim s)
+ended_by_second lines before s (Some claim) =
+    ended_at before (agreed_second s claim) (tales_of lines claim s)
 
 -- the stretches that ended, in the order in which they did
 abbrev pub ended_of : ℕ → List RecordedSecond → List Stretch
@@ -71,6 +74,26 @@ agreed_count ss = count_by (λ s. is_some s.vote) ss
 abbrev pub other_count : List RecordedSecond → ℕ
 other_count ss = count_by (λ s. not (is_some s.vote)) ss
 
+-- the jumps of what most lines claim, after one more second, which is none without a vote
+abbrev pub jumps_by : Jumps → (before : Option AgreedSecond) → RecordedSecond → Option Claim → Jumps
+jumps_by jumps before s None = jumps
+jumps_by jumps before s (Some claim) = jumps_after jumps (jump_between before (agreed_second s claim))
+
+-- after some seconds
+abbrev pub jumps_of : List RecordedSecond → Jumps
+jumps_of [] = no_jumps
+jumps_of (s ∷ ss) = jumps_by (jumps_of ss) (last_agreed ss) s s.vote
+
+-- when a second ends that has no vote
+abbrev pub end_without : RecordedSecond → Option Claim → Option ℕ
+end_without s None = Some s.edge_us
+end_without s (Some claim) = None
+
+-- when the first of them ends
+abbrev pub first_without : List RecordedSecond → Option ℕ
+first_without [] = None
+first_without (s ∷ ss) = option_or (first_without ss) (end_without s s.vote)
+
 -- this is what these seconds of so many lines come to
 pub record IsVerdictOf (v : Verdict) (n : ℕ) (ss : List RecordedSecond) : Type 0 where
   pub lines : v.lines ≡ n
@@ -78,6 +101,8 @@ pub record IsVerdictOf (v : Verdict) (n : ℕ) (ss : List RecordedSecond) : Type
   pub unended : v.unended ≡ unended_of n ss
   pub agreed : v.agreed ≡ counted (agreed_count ss)
   pub others : v.without_vote ≡ counted (other_count ss)
+  pub first_other : v.first_without_us ≡ first_without ss
   pub first : v.first ≡ first_agreed ss
   pub last : v.last ≡ last_agreed ss
   pub apart : v.apart_us ≡ apart_of n ss
+  pub jumps : v.jumps ≡ jumps_of ss

@@ -47,16 +47,16 @@ impl Ended {
         }
     }
 
-    /// Those end that end where lines say this, in the lines' order.
-    pub(crate) fn note_all(&mut self, unended: &Unended, tales: &Tales)
+    /// Those end that end where lines say this of a second, in the lines' order.
+    pub(crate) fn note_all(&mut self, unended: &Unended, second: AgreedSecond, tales: &Tales)
         ensures { (all : List StretchOf) → AreEnded self.old all
-            → AreEnded self.new (all ++ ended_at unended.now tales.now) }
+            → AreEnded self.new (all ++ ended_at unended.now second tales.now) }
     {
-        self.note(ended_by(unended.a, tales.a));
-        self.note(ended_by(unended.b, tales.b));
-        self.note(ended_by(unended.c, tales.c));
-        self.note(ended_by(unended.d, tales.d));
-        self.note(ended_by(unended.e, tales.e));
+        self.note(ended_by(unended.a, second, tales.a));
+        self.note(ended_by(unended.b, second, tales.b));
+        self.note(ended_by(unended.c, second, tales.c));
+        self.note(ended_by(unended.d, second, tales.d));
+        self.note(ended_by(unended.e, second, tales.e));
     }
 }
 

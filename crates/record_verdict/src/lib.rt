@@ -7,6 +7,7 @@
 #![tactic(auto)]
 
 mod ended;
+mod jump;
 mod laws;
 mod stretch;
 mod tale;
@@ -15,6 +16,7 @@ mod verdict;
 mod zero;
 
 pub use ended::{Ended, Unended};
+pub use jump::{Jump, Jumps};
 pub use laws::wrong_lines_are_named;
 pub use stretch::{AgreedSecond, Stretch};
 pub use tale::{Kind, Tale};

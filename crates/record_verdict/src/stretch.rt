@@ -1,7 +1,7 @@
 //! Stretches of agreed seconds at which a line said one wrong thing.
 
 ghost use Rattle.std.specs.Prelude.{◌≡◌};
-ghost use Rattle.record_verdict.specs.Stretches.{begun, ended_by, more, stretch_after};
+ghost use Rattle.record_verdict.specs.Stretches.{begun, ended_by, late_since, more, stretch_after, turns_late};
 
 use crate::tale::{Kind, Tale};
 use irig_time::{Claim, Mark, UtcSecond};
@@ -79,7 +79,36 @@ impl Stretch {
             ..self
         }
     }
+
+    // Whether the line was silent in the second before this one, and is late in it: the frame of the
+    // one before had not ended then.
+    fn turns_late(self, second: AgreedSecond, tale: Tale) -> bool
+        ensures { result ≡ turns_late self second tale }
+    {
+        self.seconds == 1
+            && second.lines_us.saturating_sub(self.last.lines_us) < NEXT_US
+            && self.tale.kind().is(Kind::Silent)
+            && tale.kind().is(Kind::Late)
+    }
+
+    // So it is late in both.
+    fn late_since(self, second: AgreedSecond, tale: Tale) -> Stretch
+        ensures { result ≡ late_since self second tale }
+    {
+        let off_us = tale.off_us();
+        Stretch {
+            tale,
+            last: second,
+            seconds: 2,
+            least_us: off_us,
+            most_us: off_us,
+            ..self
+        }
+    }
 }
+
+// A frame that is late ends after the edge of its second.
+const NEXT_US: u64 = 1_500_000;
 
 /// The open stretch of a line after an agreed second.
 pub(crate) fn stretch_after(
@@ -95,16 +124,19 @@ pub(crate) fn stretch_after(
     }
     match before {
         Some(stretch) if stretch.tale.goes_on(tale) => Some(stretch.more(second, tale)),
+        Some(stretch) if stretch.turns_late(second, tale) => {
+            Some(stretch.late_since(second, tale))
+        }
         _ => Some(Stretch::begun(line, second, tale)),
     }
 }
 
-/// The stretch that ends where a line says this.
-pub(crate) fn ended_by(before: Option<Stretch>, tale: Tale) -> Option<Stretch>
-    ensures { result ≡ ended_by before tale }
+/// The stretch that ends where a line says this of a second.
+pub(crate) fn ended_by(before: Option<Stretch>, second: AgreedSecond, tale: Tale) -> Option<Stretch>
+    ensures { result ≡ ended_by before second tale }
 {
     match before {
-        Some(stretch) if stretch.tale.goes_on(tale) => None,
+        Some(stretch) if stretch.tale.goes_on(tale) || stretch.turns_late(second, tale) => None,
         _ => before,
     }
 }

@@ -6,6 +6,7 @@ ghost use Rattle.record_verdict.specs.Verdicts.{IsVerdictOf, first_agreed, last_
 ghost use Rattle.record_verdict.specs.Zeros.{zero_of};
 
 use crate::ended::{Ended, Unended};
+use crate::jump::{Jumps, jump_between};
 use crate::stretch::AgreedSecond;
 use crate::tales::Tales;
 use crate::zero::{Zero, zero_by};
@@ -26,12 +27,16 @@ pub struct Verdict {
     pub agreed: u64,
     /// On how many they do not. It stays at 2^64 - 1 if it comes to it.
     pub without_vote: u64,
+    /// When the first of these ends, in microseconds of the recording.
+    pub first_without_us: Option<u64>,
     /// The first second on which they agree.
     pub first: Option<AgreedSecond>,
     /// The last one.
     pub last: Option<AgreedSecond>,
     /// How far apart the frames of lines that agree end at most, in microseconds.
     pub apart_us: u64,
+    /// Where what they claim contradicts itself.
+    pub jumps: Jumps,
 }
 
 impl Verdict {
@@ -45,9 +50,11 @@ impl Verdict {
             unended: Unended::none(),
             agreed: 0,
             without_vote: 0,
+            first_without_us: None,
             first: None,
             last: None,
             apart_us: 0,
+            jumps: Jumps::none(),
         }
     }
 
@@ -59,7 +66,10 @@ impl Verdict {
     {
         match second.vote {
             Some(claim) => self.agree(claim, second),
-            None => self.without_vote = self.without_vote.saturating_add(1),
+            None => {
+                self.without_vote = self.without_vote.saturating_add(1);
+                self.first_without_us = self.first_without_us.or(Some(second.edge_us));
+            }
         }
     }
 
@@ -75,9 +85,10 @@ impl Verdict {
         };
         let tales = Tales::of(self.lines, claim, second);
         let unended = self.unended;
-        self.ended.note_all(&unended, &tales);
+        self.ended.note_all(&unended, at, &tales);
         self.unended = unended.after(at, &tales);
         self.agreed = self.agreed.saturating_add(1);
+        self.jumps = self.jumps.after(jump_between(self.last, at));
         self.first = self.first.or(Some(at));
         self.last = Some(at);
         self.apart_us = self.apart_us.max(tales.apart_us(self.lines, second));

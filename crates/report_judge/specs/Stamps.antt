@@ -8,7 +8,8 @@ use Rattle.record_stamp.specs.declared.instant.Stamp.{Stamp}
 use Rattle.record_stamp.specs.declared.instant.StampFault.{StampFault}
 use Rattle.record_stamp.specs.declared.late.Moment.{Moment}
 use Rattle.record_stamp.specs.declared.word.Word.{Word}
-use Rattle.record_stamp.specs.Records.{below, record_word_text, stamp_of, unjudged_text, word_of}
+use Rattle.record_stamp.specs.Notes.{record_word_text}
+use Rattle.record_stamp.specs.Records.{below, stamp_of, unjudged_text, word_of}
 use Rattle.record_stamp.specs.Word.{agrees, moment_of as moment_said}
 use Rattle.record_stamp.specs.WordText.{moment_text}
 use Rattle.record_verdict.specs.declared.zero.Zero.{Zero}

@@ -143,8 +143,6 @@ impl Hearing {
             lines.push(LineSeen {
                 name: name.as_slice(),
                 is_inverted: !looks.is_shown_high(),
-                decoded: 0,
-                bare: 0,
                 seen: looks.view().seen(),
             })?;
         }

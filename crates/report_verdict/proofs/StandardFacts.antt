@@ -1,10 +1,10 @@
 -- Known values of the definitions, worked by hand.
-use Rattle.std.proofs.Common.{◌≡◌, [], refl}
+use Rattle.std.proofs.Common.{◌≡◌, [], Some, None, refl}
 use Rattle.std.specs.Prelude.{codes}
 use Rattle.std.specs.Fmt.{digits}
 use Rattle.report_verdict.specs.LineText.{byte_text, tenths_ppm}
 use Rattle.report_verdict.specs.NumberText.{nearest, thousandths_text}
-use Rattle.report_verdict.specs.VerdictText.{more_line, others_line}
+use Rattle.report_verdict.specs.VerdictText.{jumps_more, more_line, others_line}
 
 pub known_time : thousandths_text (nearest 5050499) ≡ codes "5.050"
 unfolding thousandths_text digits
@@ -31,6 +31,17 @@ pub known_more : more_line 3 ≡ codes ".. and 3 more\n"
 unfolding more_line digits
 known_more = refl
 
-pub no_others : others_line 0 ≡ []
-unfolding others_line
+pub no_others : others_line 0 None ≡ []
 no_others = refl
+
+pub one_other : others_line 1 (Some 7050000) ≡ codes "1 more second has no vote, at 7.050 s\n"
+unfolding others_from thousandths_text digits
+one_other = refl
+
+pub some_others : others_line 3 (Some 7050000) ≡ codes "3 more seconds have no vote, the first at 7.050 s\n"
+unfolding others_from thousandths_text digits
+some_others = refl
+
+pub more_jumps : jumps_more 2 ≡ codes ", the first of 2 jumps\n"
+unfolding jumps_more digits
+more_jumps = refl

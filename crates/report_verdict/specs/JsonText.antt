@@ -175,11 +175,11 @@ unfoldable pub json_decided : Bool → List ℕ
 json_decided true = codes "{\"decided\":true"
 json_decided false = codes "{\"decided\":false"
 
--- how many seconds they do not agree on, and how far apart lines are that agree
+-- how many seconds they do not agree on, how often they contradict themselves, and how far apart lines are that agree
 unfoldable pub json_others : Verdict → List ℕ
 json_others v =
-    codes ",\"without_vote\":" ++ (decimal v.without_vote ++ (codes ",\"apart_us\":"
-    ++ decimal v.apart_us))
+    codes ",\"without_vote\":" ++ (decimal v.without_vote ++ (codes ",\"jumps\":"
+    ++ (decimal v.jumps.count ++ (codes ",\"apart_us\":" ++ decimal v.apart_us))))
 
 -- the first and the last, and when the recording begins
 unfoldable pub json_times : Verdict → List ℕ

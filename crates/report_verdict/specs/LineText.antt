@@ -147,4 +147,4 @@ abbrev pub line_text : LineSeen → List ℕ
 line_text l =
     count_line l ++ (widths_text l.seen.now.widths
     ++ (spread_line (codes "gap ") l.seen.now.gaps_in_step ++ (drift_text l.seen.now
-    ++ oddity_line (oddity_of l.seen.now l.decoded l.bare))))
+    ++ oddity_line (oddity_of l.seen.now))))

@@ -9,6 +9,8 @@ use Rattle.report_log.specs.declared.offset.Offset.{Offset}
 use Rattle.report_log.specs.Whens.{offset_text}
 use Rattle.text_faults.specs.PortFaults.{fault_text}
 use Rattle.record_verdict.specs.declared.ended.Unended.{Unended}
+use Rattle.record_verdict.specs.declared.jump.Jump.{Jump}
+use Rattle.record_verdict.specs.declared.jump.Jumps.{Jumps}
 use Rattle.report_verdict.specs.declared.line_seen.LineSeen.{LineSeen}
 use Rattle.record_verdict.specs.declared.stretch.AgreedSecond.{AgreedSecond}
 use Rattle.record_verdict.specs.declared.stretch.Stretch.{Stretch}
@@ -18,8 +20,35 @@ use Rattle.record_verdict.specs.declared.verdict.Verdict.{Verdict}
 use Rattle.record_verdict.specs.declared.zero.Zero.{Zero}
 use Rattle.record_verdict.specs.declared.zero.Zero.TheVariants.{At, Undecided, OutOfYears}
 use Rattle.report_verdict.specs.LineText.{line_name, line_text}
-use Rattle.report_verdict.specs.NumberText.{instant_text, seconds_text, thousandths_text, utc_text}
+use Rattle.report_verdict.specs.NumberText.{instant_text, moment_text, nearest, seconds_text, thousandths_text, utc_text}
 use Rattle.record_verdict.specs.Zeros.{zero_at}
+
+-- ---- where most lines contradict themselves
+
+-- as many lines as there are
+abbrev pub contradict_words : ℕ → List ℕ
+contradict_words lines =
+    if lines == 1 then codes "the line contradicts itself: " else codes "most lines contradict themselves: "
+
+-- how many jumps there are, where the first was said
+unfoldable pub jumps_more : ℕ → List ℕ
+jumps_more count =
+    if count == 1 then codes "\n" else codes ", the first of " ++ (decimal count ++ codes " jumps\n")
+
+-- the first of so many jumps
+unfoldable pub jump_line : (lines : ℕ) → Jump → (count : ℕ) → List ℕ
+jump_line lines jump count =
+    contradict_words lines ++ (moment_text jump.before ++ (codes " is followed by "
+    ++ (moment_text jump.after ++ jumps_more count)))
+
+-- the same, if there is one
+abbrev pub jumps_by : (lines count : ℕ) → Option Jump → List ℕ
+jumps_by lines count None = []
+jumps_by lines count (Some jump) = jump_line lines jump count
+
+-- the same of all jumps
+abbrev pub jumps_line : (lines : ℕ) → Jumps → List ℕ
+jumps_line lines jumps = jumps_by lines jumps.count jumps.first
 
 -- ---- what is wrong
 
@@ -113,12 +142,17 @@ unfoldable pub agreed_line : Verdict → AgreedSecond → AgreedSecond → List 
 agreed_line v first last =
     agreed_words v.lines ++ (seconds_text v.agreed first last ++ codes "\n")
 
--- how many other seconds there are
-unfoldable pub others_line : ℕ → List ℕ
-others_line n =
-    if n == 0 then []
-    else (if n == 1 then codes "1 more second has no vote\n"
-    else decimal n ++ codes " more seconds have no vote\n")
+-- how many other seconds there are, and where the first of them ends
+unfoldable pub others_from : (seconds first : ℕ) → List ℕ
+others_from n first =
+    (if n == 1 then codes "1 more second has no vote, at "
+    else decimal n ++ codes " more seconds have no vote, the first at ")
+    ++ (thousandths_text (nearest first) ++ codes " s\n")
+
+-- the same, if there are some
+abbrev pub others_line : (seconds : ℕ) → (first : Option ℕ) → List ℕ
+others_line n None = []
+others_line n (Some first) = others_from n first
 
 -- how far apart lines are that agree, if there are several
 unfoldable pub apart_line : Verdict → List ℕ
@@ -157,8 +191,8 @@ undecided_line lines =
 -- by the first and the last second on which most lines agree, if they do
 abbrev pub decided_by : Verdict → List LineSeen → Option AgreedSecond → Option AgreedSecond → List ℕ
 decided_by v lines (Some first) (Some last) =
-    wrong_text v lines ++ (agreed_line v first last ++ (others_line v.without_vote
-    ++ (apart_line v ++ zero_line (zero_at first))))
+    jumps_line v.lines v.jumps ++ (wrong_text v lines ++ (agreed_line v first last ++ (others_line v.without_vote v.first_without_us
+    ++ (apart_line v ++ zero_line (zero_at first)))))
 decided_by v lines (Some first) None = undecided_line v.lines
 decided_by v lines None last = undecided_line v.lines
 

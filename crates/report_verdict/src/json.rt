@@ -49,7 +49,7 @@ use std::alloc::AllocError;
 use text_faults::number_of;
 
 /// Pushes a verdict as one object of JSON on one line, with times in whole microseconds. It has the
-/// keys `decided`, `seconds`, `without_vote`, `apart_us`, `first` and `last` (`utc` and `edge_us`,
+/// keys `decided`, `seconds`, `without_vote`, `jumps`, `apart_us`, `first` and `last` (`utc` and `edge_us`,
 /// or null), `zero` (null if it is not known), `stretches` (those that ended), `more` (how many
 /// more did), `open` (by line 0 to 4, or null) and `lines`, and then further keys with their
 /// values, which are given, each behind a comma. It fails only if there is no memory.
@@ -106,10 +106,11 @@ fn push_others(text: &mut String, verdict: &Verdict) -> Result<(), AllocError>
         ≡ string_bytes text.old ++ json_others verdict.now) }
 {
     let without_vote = verdict.without_vote;
+    let jumps = verdict.jumps.count;
     let apart_us = verdict.apart_us;
     write!(
         text,
-        ",\"without_vote\":{without_vote},\"apart_us\":{apart_us}"
+        ",\"without_vote\":{without_vote},\"jumps\":{jumps},\"apart_us\":{apart_us}"
     )
 }
 

@@ -16,10 +16,6 @@ pub struct LineSeen<'a> {
     pub name: &'a [u8],
     /// Whether its pulses are low.
     pub is_inverted: bool,
-    /// How many of its frames are of a time.
-    pub decoded: u64,
-    /// How many of these have a year and control bits of 0.
-    pub bare: u64,
     /// What its pulses are.
     pub seen: &'a Seen,
 }
@@ -104,7 +100,7 @@ pub(crate) fn push_line(text: &mut String, line: &LineSeen<'_>) -> Result<(), Al
     push_widths(text, &line.seen.widths)?;
     push_spread(text, "gap ", &line.seen.gaps_in_step)?;
     push_drift(text, line.seen)?;
-    push_oddity(text, line.seen.oddity(line.decoded, line.bare))
+    push_oddity(text, line.seen.oddity())
 }
 
 #[tactic(auto, unfolding(crate::specs::LineText::count_line))]

@@ -38,8 +38,8 @@ fn push_six_digits(text: &mut String, number: u32) -> Result<(), AllocError>
     write!(text, "{number:06}")
 }
 
-// In two parts, since the sum may not fit.
-fn nearest(number: u64) -> u64
+/// A number to the nearest thousand. It is added in two parts, since the sum may not fit.
+pub(crate) fn nearest(number: u64) -> u64
     ensures { result ≡ nearest number }
 {
     number / 1_000 + (number % 1_000 + 500) / 1_000
@@ -113,7 +113,8 @@ pub(crate) fn push_seconds(
     push_moment(text, last)
 }
 
-fn push_moment(text: &mut String, second: &AgreedSecond) -> Result<(), AllocError>
+/// Pushes an agreed second, and when it ends.
+pub(crate) fn push_moment(text: &mut String, second: &AgreedSecond) -> Result<(), AllocError>
     ensures { OnOk result (string_bytes text.new
         ≡ string_bytes text.old ++ moment_text second.now) }
 {

@@ -6,11 +6,16 @@ ghost use Rattle.report_verdict.specs.VerdictText.{
   agreed_words,
   apart_line,
   begins_line,
+  contradict_words,
   decided_text,
   differs,
+  jump_line,
+  jumps_line,
+  jumps_more,
   lines_text,
   month_line,
   month_words,
+  others_from,
   others_line,
   same_line,
   undecided_line,
@@ -20,13 +25,15 @@ ghost use Rattle.report_verdict.specs.VerdictText.{
 };
 
 use crate::line_seen::{LineSeen, push_line};
-use crate::number_text::{push_instant, push_seconds, push_utc};
+use crate::number_text::{
+    nearest, push_instant, push_moment, push_seconds, push_thousandths, push_utc,
+};
 use crate::stretch_text::{push_more, push_stretches, push_unended};
 use irig_time::UtcSecond;
-use record_verdict::{AgreedSecond, Verdict, Zero, zero_at};
+use record_verdict::{AgreedSecond, Jump, Jumps, Verdict, Zero, zero_at};
 use std::alloc::AllocError;
 
-/// Pushes the text of a verdict: which line is wrong, since when and by how much; on which seconds most
+/// Pushes the text of a verdict: where most lines contradict themselves; which line is wrong, since when and by how much; on which seconds most
 /// lines agree; when the recording begins; and what was seen on each line. It fails only if there is no
 /// memory.
 pub fn push_verdict(
@@ -51,14 +58,58 @@ fn push_judgement(
 {
     match (&verdict.first, &verdict.last) {
         (Some(first), Some(last)) => {
+            push_jumps(text, verdict.lines, &verdict.jumps)?;
             push_wrong(text, verdict, lines)?;
             push_agreed(text, verdict, first, last)?;
-            push_others(text, verdict.without_vote)?;
+            push_others(text, verdict.without_vote, verdict.first_without_us)?;
             push_apart(text, verdict)?;
             push_zero(text, zero_at(first))
         }
         _ => text.push_str(undecided_line(verdict.lines)),
     }
+}
+
+// Where what most lines claim contradicts itself.
+fn push_jumps(text: &mut String, lines: u8, jumps: &Jumps) -> Result<(), AllocError>
+    ensures { OnOk result (string_bytes text.new
+        ≡ string_bytes text.old ++ jumps_line lines jumps.now) }
+{
+    match &jumps.first {
+        Some(jump) => push_jump(text, lines, jump, jumps.count),
+        None => Ok(()),
+    }
+}
+
+#[tactic(auto, unfolding(crate::specs::VerdictText::jump_line))]
+fn push_jump(text: &mut String, lines: u8, jump: &Jump, count: u64) -> Result<(), AllocError>
+    ensures { OnOk result (string_bytes text.new
+        ≡ string_bytes text.old ++ jump_line lines jump.now count) }
+{
+    text.push_str(contradict_words(lines))?;
+    push_moment(text, &jump.before)?;
+    text.push_str(" is followed by ")?;
+    push_moment(text, &jump.after)?;
+    push_count_of_jumps(text, count)
+}
+
+fn contradict_words(lines: u8) -> &'static str
+    ensures { result.now ≡ contradict_words lines }
+{
+    if lines == 1 {
+        "the line contradicts itself: "
+    } else {
+        "most lines contradict themselves: "
+    }
+}
+
+#[tactic(auto, unfolding(crate::specs::VerdictText::jumps_more))]
+fn push_count_of_jumps(text: &mut String, count: u64) -> Result<(), AllocError>
+    ensures { OnOk result (string_bytes text.new ≡ string_bytes text.old ++ jumps_more count) }
+{
+    if count == 1 {
+        return text.push_str("\n");
+    }
+    write!(text, ", the first of {count} jumps\n")
 }
 
 // What is wrong with lines.
@@ -135,16 +186,29 @@ fn agreed_words(lines: u8) -> &'static str
     }
 }
 
-// How many seconds were counted on which they do not agree.
-#[tactic(auto, unfolding(crate::specs::VerdictText::others_line))]
-fn push_others(text: &mut String, seconds: u64) -> Result<(), AllocError>
-    ensures { OnOk result (string_bytes text.new ≡ string_bytes text.old ++ others_line seconds) }
+// How many seconds were counted on which they do not agree, and where the first of them ends.
+fn push_others(text: &mut String, seconds: u64, first_us: Option<u64>) -> Result<(), AllocError>
+    ensures { OnOk result (string_bytes text.new
+        ≡ string_bytes text.old ++ others_line seconds first_us) }
 {
-    match seconds {
-        0 => Ok(()),
-        1 => text.push_str("1 more second has no vote\n"),
-        _ => write!(text, "{seconds} more seconds have no vote\n"),
+    match first_us {
+        Some(first_us) => push_others_from(text, seconds, first_us),
+        None => Ok(()),
     }
+}
+
+#[tactic(auto, unfolding(crate::specs::VerdictText::others_from))]
+fn push_others_from(text: &mut String, seconds: u64, first_us: u64) -> Result<(), AllocError>
+    ensures { OnOk result (string_bytes text.new
+        ≡ string_bytes text.old ++ others_from seconds first_us) }
+{
+    if seconds == 1 {
+        text.push_str("1 more second has no vote, at ")?;
+    } else {
+        write!(text, "{seconds} more seconds have no vote, the first at ")?;
+    }
+    push_thousandths(text, nearest(first_us))?;
+    text.push_str(" s\n")
 }
 
 #[tactic(auto, unfolding(crate::specs::VerdictText::apart_line))]

@@ -144,6 +144,55 @@ the lines that agree are at most 300 us apart
     Ok(())
 }
 
+/// G1 is 3.2 ms late: its first frame had not ended when its second was told.
+#[test]
+fn a_line_is_late_from_its_first_frame(rt: HostRuntime) -> Result<(), Fail> {
+    let mut verdict = Verdict::new(3);
+    let first = claim(DAY, MORNING);
+    let next = claim(DAY, MORNING + 1);
+    let mut early = second(first, 1_050_000, Told::Silence, 0);
+    early.ends_us = [Some(1_050_000), None, Some(1_050_300), None, None];
+    verdict.take(&early);
+    verdict.take(&second(next, 2_050_000, Told::Silence, 1_053_200));
+    let mut text = String::new(rt.alloc());
+    push_verdict(&mut text, &verdict, &[])?;
+    assert!(rt;
+        text.as_str()
+            == "line 1 is 3.200 ms late in 2 seconds, 2026-11-24T09:30:00Z at 1.050 s to 2026-11-24T09:30:01Z at 2.050 s
+most lines agree on 2 seconds, 2026-11-24T09:30:00Z at 1.050 s to 2026-11-24T09:30:01Z at 2.050 s
+the lines that agree are at most 300 us apart
+0.000 s of the recording is 2026-11-24T09:29:59.950000Z
+"
+    );
+    Ok(())
+}
+
+/// G0 and G2 are 18 s ahead at first, and a second without a vote comes last.
+#[test]
+fn most_lines_contradict_themselves(rt: HostRuntime) -> Result<(), Fail> {
+    let mut verdict = Verdict::new(3);
+    let wrong = claim(DAY, MORNING + 22);
+    let right = claim(DAY, MORNING + 4);
+    verdict.take(&second(wrong, 5_050_000, Told::Claim(right), 5_050_000));
+    verdict.take(&ahead_by(5, 0));
+    let mut last = ahead_by(6, 0);
+    last.vote = None;
+    verdict.take(&last);
+    let mut text = String::new(rt.alloc());
+    push_verdict(&mut text, &verdict, &[])?;
+    assert!(rt;
+        text.as_str()
+            == "most lines contradict themselves: 2026-11-24T09:30:22Z at 5.050 s is followed by 2026-11-24T09:30:05Z at 6.050 s
+line 1 differs: 18 s behind in 1 second, 2026-11-24T09:30:22Z at 5.050 s
+most lines agree on 2 seconds, 2026-11-24T09:30:22Z at 5.050 s to 2026-11-24T09:30:05Z at 6.050 s
+1 more second has no vote, at 7.050 s
+the lines that agree are at most 300 us apart
+0.000 s of the recording is 2026-11-24T09:30:17.950000Z
+"
+    );
+    Ok(())
+}
+
 /// 23:59:60 ends at 5.000 s: the recording began 4 s before it did.
 #[test]
 fn a_leap_second_counts(rt: HostRuntime) -> Result<(), Fail> {
@@ -197,6 +246,7 @@ const SEEN: Seen = Seen {
         out_of_step: 0,
         on_time: 699,
         begun: 7,
+        bare: 7,
     },
     widths: Widths {
         zero: Spread {
@@ -223,8 +273,6 @@ const SEEN: Seen = Seen {
 const LINE: LineSeen<'static> = LineSeen {
     name: b"G \x1b[2J\\",
     is_inverted: true,
-    decoded: 7,
-    bare: 7,
     seen: &SEEN,
 };
 
@@ -255,7 +303,7 @@ fn a_verdict_is_an_object(rt: HostRuntime) -> Result<(), Fail> {
     )?;
     assert!(rt;
         text.as_str()
-            == "{\"decided\":true,\"seconds\":3,\"without_vote\":0,\"apart_us\":300,\"first\":{\"utc\":\"2026-11-24T09:30:00Z\",\"edge_us\":1050000},\"last\":{\"utc\":\"2026-11-24T09:30:02Z\",\"edge_us\":3050000},\"zero\":\"2026-11-24T09:29:59.950000Z\",\"stretches\":[{\"line\":1,\"kind\":\"late\",\"least_us\":3200,\"most_us\":3250,\"seconds\":2,\"first\":{\"utc\":\"2026-11-24T09:30:00Z\",\"edge_us\":1050000},\"last\":{\"utc\":\"2026-11-24T09:30:01Z\",\"edge_us\":2050000}}],\"more\":0,\"open\":[null,{\"line\":1,\"kind\":\"faulty\",\"fault\":17,\"seconds\":1,\"first\":{\"utc\":\"2026-11-24T09:30:02Z\",\"edge_us\":3050000},\"last\":{\"utc\":\"2026-11-24T09:30:02Z\",\"edge_us\":3050000}},null,null,null],\"lines\":[{\"name\":\"G \\u001b[2J\\u005c\",\"inverted\":true,\"pulses\":700,\"frames\":7,\"out_of_step\":0},{\"name\":\"G \\u001b[2J\\u005c\",\"inverted\":true,\"pulses\":700,\"frames\":7,\"out_of_step\":0}],\"stamp\":null}\n"
+            == "{\"decided\":true,\"seconds\":3,\"without_vote\":0,\"jumps\":0,\"apart_us\":300,\"first\":{\"utc\":\"2026-11-24T09:30:00Z\",\"edge_us\":1050000},\"last\":{\"utc\":\"2026-11-24T09:30:02Z\",\"edge_us\":3050000},\"zero\":\"2026-11-24T09:29:59.950000Z\",\"stretches\":[{\"line\":1,\"kind\":\"late\",\"least_us\":3200,\"most_us\":3250,\"seconds\":2,\"first\":{\"utc\":\"2026-11-24T09:30:00Z\",\"edge_us\":1050000},\"last\":{\"utc\":\"2026-11-24T09:30:01Z\",\"edge_us\":2050000}}],\"more\":0,\"open\":[null,{\"line\":1,\"kind\":\"faulty\",\"fault\":17,\"seconds\":1,\"first\":{\"utc\":\"2026-11-24T09:30:02Z\",\"edge_us\":3050000},\"last\":{\"utc\":\"2026-11-24T09:30:02Z\",\"edge_us\":3050000}},null,null,null],\"lines\":[{\"name\":\"G \\u001b[2J\\u005c\",\"inverted\":true,\"pulses\":700,\"frames\":7,\"out_of_step\":0},{\"name\":\"G \\u001b[2J\\u005c\",\"inverted\":true,\"pulses\":700,\"frames\":7,\"out_of_step\":0}],\"stamp\":null}\n"
     );
     Ok(())
 }
