@@ -289,7 +289,6 @@ def from_first_vote(log: list[str]) -> list[str]:
 
 class Scenarios(InAFolder):
     def test_by_the_word_of_the_ports(self) -> None:
-        """With what is true, test_roundtrip.py tries them."""
         for name in scenarios():
             with self.subTest(name):
                 as_table(wave_of(name), self.folder / "lines.csv")
@@ -305,8 +304,7 @@ class Scenarios(InAFolder):
 
 class Forms(InAFolder):
     def test_examples(self) -> None:
-        """In the forms that test_roundtrip.py does not try. A list of pulses does not say how long nothing
-        comes behind the last."""
+        """A list of pulses does not say how long nothing comes behind the last."""
         path = self.folder / "lines.csv"
         for name in set(examples()) - set(UNLIKE):
             lines = wave_of(name)
