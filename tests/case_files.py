@@ -1,8 +1,8 @@
 """The one reader of cases and examples: what the program is asked, and what it has to answer. And what it does.
 
 A case is a folder of cases/: `args` (one word a line, SCENARIO standing for its `scenario.jsonl`,
-RECORDING for its `recording.vcd` or `recording.csv` and RECORD for its `record.cfg`, beside which `record.dat` may
-be), `stdin` where it reads any, `stdout` (each byte), `stderr` where anything is written there, and
+RECORDING for its `recording.vcd` or `recording.csv`, RECORD for its `record.cfg`, beside which `record.dat` may be,
+and SINGLE for its `record.cff`), `stdin` where it reads any, `stdout` (each byte), `stderr` where anything is written there, and
 `status`. A `note`, which nothing reads, may say what to look at. Of a text that `clap`, a library or the system wrote `stderr` has the first words, and then
 `..`; of a refusal it may be missing: then the line of the log that says so stands for it, with any
 reason behind it. An example is NAME.jsonl of examples/ with its log NAME.log, and NAME.args has the
@@ -73,7 +73,8 @@ def case_in(folder: Path) -> Case:
     scenario = f"{name}/scenario.jsonl"
     table = (folder / "recording.csv").exists()
     recording = f"{name}/recording.csv" if table else f"{name}/recording.vcd"
-    others = {b"RECORDING": recording.encode(), b"RECORD": f"{name}/record.cfg".encode()}
+    others = {b"RECORDING": recording.encode(), b"RECORD": f"{name}/record.cfg".encode(),
+              b"SINGLE": f"{name}/record.cff".encode()}
     files = {b"SCENARIO": scenario.encode(), **others}
     words = [files.get(word, word) for word in words_in(folder / "args")]
     status, stdout = int((folder / "status").read_text()), (folder / "stdout").read_bytes()

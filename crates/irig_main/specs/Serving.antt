@@ -22,6 +22,7 @@ use Rattle.report_judge.specs.declared.asked.Asked.{Asked}
 use Rattle.report_judge.specs.Channels.{channel_bytes}
 use Rattle.report_judge.specs.Readings.{JudgedWhole, RefusedBy}
 use Rattle.report_judge.specs.Records.{JudgedRecord, RecordRefused}
+use Rattle.report_judge.specs.Singles.{JudgedSingle, SingleRefused}
 use Rattle.cli_words.specs.declared.request.Judging.{Judging}
 use Rattle.cli_words.specs.declared.request.Request.{Request}
 use Rattle.cli_words.specs.declared.request.Request.TheVariants.{Plain, Play, Judge, Frame, Read, Explain}
@@ -34,7 +35,7 @@ use Rattle.cli_words.specs.declared.request.NoRequest.TheVariants as none
 use Rattle.irig_main.specs.declared.fault.Fault.{Fault}
 use Rattle.irig_main.specs.declared.fault.Fault.TheVariants as fault
 use Rattle.irig_main.specs.declared.path.Ending.{Ending}
-use Rattle.irig_main.specs.declared.path.Ending.TheVariants.{Configuration, Samples, Other}
+use Rattle.irig_main.specs.declared.path.Ending.TheVariants.{Configuration, Samples, Single, Other}
 use Rattle.irig_main.specs.Paths.{ending_of}
 use Rattle.irig_main.specs.Status.{ended, fault_of_judging, result_of, status_of_answer}
 
@@ -155,7 +156,7 @@ JudgedPair asked (Ok judged) text left samples rest =
     × IfSome samples (λ s. IsAtEnd rest)
 JudgedPair asked (Err f) text left samples rest =
     f ≢ judging.Read → f ≢ judging.ReadSamples
-    → RecordRefused (channel_bytes asked.channels) text samples f
+    → RecordRefused asked text samples f
 
 -- a record was judged so
 pub record JudgesPair (asked : Judging) (answer : Answer) (text samples old new : Bytes) : Type 0 where
@@ -179,11 +180,30 @@ JudgesFiles remaining asked answer old new =
     ⊎ (((error : Error) × Refuses (fault.Open error) answer old new)
     ⊎ Refuses fault.Memory answer old new)
 
--- a configuration is judged with the samples beside it, samples are not without it, and all else is
--- a recording
+-- a single file was judged to the end of its samples, or refused for what it says
+abbrev pub JudgedFile : Asked → Result Judged JudgeFault → Bytes → Type 0
+JudgedFile asked (Ok judged) input = IfSome input (λ file. JudgedSingle asked file judged)
+JudgedFile asked (Err f) input = f ≢ judging.Read → IfSome input (λ file. SingleRefused asked file f)
+
+-- a single file was judged so
+pub record JudgesSingle (asked : Judging) (answer : Answer) (input old new : Bytes) : Type 0 where
+  pub result : Result Judged JudgeFault
+  pub judged : JudgedFile (asked_of asked) result input
+  pub shown : ShowsJudging result answer old new
+
+-- so of what a file gives; or it can't be opened, or there is no memory for it
+abbrev pub JudgesSingleFile : {F : Type 0} → (F → Bytes) → Judging → Answer → Bytes → Bytes → Type 0
+JudgesSingleFile remaining asked answer old new =
+    ((input : Bytes) × AreOfFile remaining input × JudgesSingle asked answer input old new)
+    ⊎ (((error : Error) × Refuses (fault.Open error) answer old new)
+    ⊎ Refuses fault.Memory answer old new)
+
+-- a configuration is judged with the samples beside it, samples are not without it, a single file has
+-- both, and all else is a recording
 abbrev pub JudgesPath : {F : Type 0} → (F → Bytes) → Ending → Judging → Answer → Bytes → Bytes → Type 0
 JudgesPath remaining Configuration asked answer old new = JudgesFiles remaining asked answer old new
 JudgesPath remaining Samples asked answer old new = Refuses fault.Samples answer old new
+JudgesPath remaining Single asked answer old new = JudgesSingleFile remaining asked answer old new
 JudgesPath remaining Other asked answer old new = JudgesFile remaining asked answer old new
 
 -- so of the recording on the input or in a file

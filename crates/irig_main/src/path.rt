@@ -12,6 +12,8 @@ pub(crate) enum Ending {
     Configuration,
     /// With .dat: these are the samples of one.
     Samples,
+    /// With .cff: it is both.
+    Single,
     /// Otherwise.
     Other,
 }
@@ -26,6 +28,8 @@ pub(crate) fn ending_of(path: &str) -> Ending
         Ending::Configuration
     } else if last.eq_ignore_ascii_case(b".dat") {
         Ending::Samples
+    } else if last.eq_ignore_ascii_case(b".cff") {
+        Ending::Single
     } else {
         Ending::Other
     }

@@ -3,7 +3,7 @@
 ghost use Rattle.std.specs.Prelude.{◌≡◌, ◌≢◌, ◌↔◌, Err, false, true};
 ghost use Rattle.cli_words.specs.Requests.{IsJudging};
 ghost use Rattle.irig_device.specs.Watched.{device_of, has_failed};
-ghost use Rattle.irig_main.specs.Serving.{JudgesBeside, JudgesFiles, JudgesPair};
+ghost use Rattle.irig_main.specs.Serving.{JudgesBeside, JudgesFiles, JudgesPair, JudgesSingle, JudgesSingleFile};
 
 use crate::fault::Fault;
 use crate::judge::{asked_of, show};
@@ -11,7 +11,7 @@ use crate::path::path_beside;
 use crate::request::open;
 use cli_words::Judging;
 use irig_device::Watched;
-use report_judge::judge_record;
+use report_judge::{judge_record, judge_single};
 use std::alloc::Global;
 use std::io;
 use std::io::{BufRead, Write};
@@ -91,6 +91,52 @@ fn judge_pair<C: BufRead, D: BufRead, O: Write>(
     ensures frame { result ≢ Err Fault.BadFrameText }
 {
     match judge_record(alloc, config, data, &asked_of(judging)) {
+        Ok(judged) => show(&judged, output),
+        Err(fault) => Err(Fault::from(fault)),
+    }
+}
+
+/// The same of the record that is a single file.
+pub(crate) fn judge_single_file<R: Files + AllocGlobal, O: Write>(
+    rt: &R,
+    judging: Judging<'_>,
+    path: &str,
+    output: &mut Watched<O>,
+) -> Result<(), Fault>
+    requires in_range { IsJudging judging }
+    requires output_whole { has_failed output.old ≡ false }
+    ensures judged { JudgesSingleFile R.File.remaining judging.entry result
+        (O.contents (device_of output.old)) (O.contents (device_of output.new)) }
+    ensures write { (result ≡ Err Fault.Write) ↔ (has_failed output.new ≡ true) }
+    ensures time { result ≢ Err Fault.BadTime }
+    ensures frame { result ≢ Err Fault.BadFrameText }
+{
+    match open(rt, path) {
+        Ok(mut input) => judge_whole(rt.alloc(), judging, &mut input, output),
+        Err(error) if error.kind() == io::ErrorKind::OutOfMemory => Err(Fault::Memory),
+        Err(error) => Err(Fault::Open(error)),
+    }
+}
+
+// That this device gives.
+#[inline(never)]
+fn judge_whole<I: BufRead, O: Write>(
+    alloc: Global,
+    judging: Judging<'_>,
+    input: &mut Watched<I>,
+    output: &mut Watched<O>,
+) -> Result<(), Fault>
+    requires in_range { IsJudging judging }
+    requires input_whole { has_failed input.old ≡ false }
+    requires output_whole { has_failed output.old ≡ false }
+    ensures judged { JudgesSingle judging.entry result
+        (I.remaining (device_of input.old))
+        (O.contents (device_of output.old)) (O.contents (device_of output.new)) }
+    ensures write { (result ≡ Err Fault.Write) ↔ (has_failed output.new ≡ true) }
+    ensures time { result ≢ Err Fault.BadTime }
+    ensures frame { result ≢ Err Fault.BadFrameText }
+{
+    match judge_single(alloc, input, &asked_of(judging)) {
         Ok(judged) => show(&judged, output),
         Err(fault) => Err(Fault::from(fault)),
     }

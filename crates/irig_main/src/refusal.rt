@@ -46,6 +46,9 @@ pub(crate) fn why_refused(
         }
         JudgeFault::Table(fault) => push_table_fault(&mut text, *fault)?,
         JudgeFault::Config(fault) => push_config_fault(&mut text, *fault)?,
+        JudgeFault::NoThreshold(place, name, unit) => {
+            push_no_threshold(&mut text, *place, name.as_str(), unit.as_str())?;
+        }
         JudgeFault::Sample(fault) => push_sample_fault(&mut text, *fault)?,
         other => text.push_str(words_of(other))?,
     }
@@ -62,6 +65,10 @@ fn words_of(fault: &JudgeFault) -> &'static str {
         JudgeFault::Title(_) => {
             "it does not begin as a value change dump (.vcd) does, with $, and ends before any row of a table"
         }
+        JudgeFault::NoSamples => {
+            "no line --- file type: DAT ASCII ---, or BINARY, stands above its samples"
+        }
+        JudgeFault::LongLine => "a line above its samples is longer than 64 MB",
         JudgeFault::Endless => "it does not end",
         JudgeFault::Read => "it could not be read to its end",
         JudgeFault::ReadSamples => "its samples could not be read to their end",
@@ -119,6 +126,10 @@ fn push_config_fault(text: &mut String, fault: record_comtrade::Fault) -> Result
         Field::Edition => "its edition is no year up to 9,999",
         Field::AnalogCount => "its number of analog channels is none up to 999,999, as 4A",
         Field::DigitalCount => "its number of digital channels is none up to 999,999, as 2D",
+        Field::Factor => {
+            "its factor is no decimal number other than 0 and less than 1,000,000,000 off it"
+        }
+        Field::Addend => "its addend is no decimal number less than 1,000,000,000 off 0",
         Field::RateCount => "its number of rates is none up to 999",
         Field::Rate => "its rate is no number",
         Field::LastSample =>
@@ -127,6 +138,26 @@ fn push_config_fault(text: &mut String, fault: record_comtrade::Fault) -> Result
         Field::Multiple => "its multiple of times is no number",
     };
     write!(text, "line {line} of its configuration: {reason}")
+}
+
+// An analog channel without a name has the letter A and its number, and one without a unit is in volts.
+fn push_no_threshold(
+    text: &mut String,
+    place: usize,
+    name: &str,
+    unit: &str,
+) -> Result<(), AllocError> {
+    if name.is_empty() {
+        let number = place.saturating_add(1);
+        write!(text, "A{number}")?;
+    } else {
+        text.push_str(name)?;
+    }
+    let unit = if unit.is_empty() { "V" } else { unit };
+    write!(
+        text,
+        " is an analog channel: --threshold says above how many {unit} it is high"
+    )
 }
 
 fn push_sample_fault(text: &mut String, fault: SampleFault) -> Result<(), AllocError> {
@@ -159,6 +190,13 @@ fn push_row_fault(text: &mut String, fault: RowFault) -> Result<(), AllocError> 
             return write!(
                 text,
                 "line {line} of its samples: digital channel {number} is neither 0 nor 1"
+            );
+        }
+        RowField::Value(place) => {
+            let number = place.saturating_add(1);
+            return write!(
+                text,
+                "line {line} of its samples: analog channel {number} is no decimal number less than 1,000,000,000 off 0"
             );
         }
     };

@@ -25,7 +25,7 @@ use crate::fault::Fault;
 use crate::judge::{judge_file, judge_input};
 use crate::path::{Ending, ending_of};
 use crate::play::{play_file, play_input};
-use crate::record::judge_files;
+use crate::record::{judge_files, judge_single_file};
 use cli_words::{Judging, Request, Source, Wanted};
 use irig_device::Watched;
 use irig_time::Rules;
@@ -151,6 +151,7 @@ fn judge_path<R: Files + AllocGlobal, O: Write>(
     match ending_of(path) {
         Ending::Configuration => judge_files(rt, judging, path, output),
         Ending::Samples => Err(Fault::Samples),
+        Ending::Single => judge_single_file(rt, judging, path, output),
         Ending::Other => judge_file(rt, judging, path, output),
     }
 }

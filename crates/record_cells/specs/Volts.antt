@@ -28,6 +28,14 @@ abbrev pub place_of : (text : List ℕ) → Option ℕ
 place_of text = place_scaled (decimal text)
 
 -- the threshold at a place
+abbrev pub at_place : (place : ℕ) → Threshold
+at_place place = record { place = place }
+
+-- the place of a threshold
+abbrev pub place_at : Threshold → ℕ
+place_at threshold = threshold.place
+
+-- the threshold at a place, if there is one
 abbrev pub threshold_at : Option ℕ → Option Threshold
 threshold_at (Some place) = Some (record { place = place })
 threshold_at None = None

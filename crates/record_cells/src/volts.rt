@@ -1,7 +1,7 @@
 //! Voltages, and the levels that they say by a threshold.
 
 ghost use Rattle.std.specs.Prelude.{◌≡◌, ◌<◌, IfSome};
-ghost use Rattle.record_cells.specs.Volts.{distance, greater, place_by, place_of, swung, threshold_of};
+ghost use Rattle.record_cells.specs.Volts.{at_place, distance, greater, place_at, place_by, place_of, swung, threshold_of};
 
 use crate::scale::scaled_below;
 use record_text::decimal_of;
@@ -25,6 +25,20 @@ impl Threshold {
             Some(place) => Some(Threshold { place }),
             None => None,
         }
+    }
+
+    /// The threshold at a place, of so many billionths above -1,000,000,000 or another beginning.
+    pub fn at(place: u64) -> Threshold
+        ensures { result ≡ at_place place }
+    {
+        Threshold { place }
+    }
+
+    /// Its place: so many billionths above -1,000,000,000.
+    pub fn place(self) -> u64
+        ensures { result ≡ place_at self }
+    {
+        self.place
     }
 }
 
@@ -56,7 +70,8 @@ impl Swing {
 
 /// The place of the voltage that a text spells.
 pub fn place_of(text: &[u8]) -> Option<u64>
-    ensures { result ≡ place_of text.now }
+    ensures place { result ≡ place_of text.now }
+    ensures few { IfSome result (λ place. place < 2000000000000000000) }
 {
     match decimal_of(text) {
         Some(decimal) => place_by(
@@ -69,7 +84,8 @@ pub fn place_of(text: &[u8]) -> Option<u64>
 
 fn place_by(is_minus: bool, billionths: Option<u64>) -> Option<u64>
     requires { IfSome billionths (λ n. n < 1000000000000000000) }
-    ensures { result ≡ place_by is_minus billionths }
+    ensures place { result ≡ place_by is_minus billionths }
+    ensures few { IfSome result (λ place. place < 2000000000000000000) }
 {
     match billionths {
         Some(billionths) if is_minus => Some(MIDDLE - billionths),

@@ -61,6 +61,9 @@ pub enum RowField {
     Few,
     /// The field of the digital channel at this place among them, from 0, is neither 0 nor 1.
     Level(usize),
+    /// The field of the analog channel at this place among them, from 0, is neither missing nor a
+    /// decimal number less than 1,000,000,000 off 0.
+    Value(usize),
 }
 
 /// When a sample was, in nanoseconds after the first; or that it has no time, or an earlier one.

@@ -17,6 +17,11 @@ pub enum Field {
     AnalogCount,
     /// The number of digital channels is none up to 999,999, as `2D`.
     DigitalCount,
+    /// The factor of an analog channel is neither empty nor a decimal number from 10^-18 on, and below
+    /// 1,000,000,000, above 0 or below it.
+    Factor,
+    /// The addend of an analog channel is neither empty nor a decimal number less than 1,000,000,000 off 0.
+    Addend,
     /// The number of rates is none up to 999.
     RateCount,
     /// The rate is no decimal number of samples a second: digits, and maybe a point and digits, of which

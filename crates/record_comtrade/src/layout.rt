@@ -29,8 +29,8 @@ fn width_of(form: Form) -> usize
     }
 }
 
-/// Where the digital channels begin.
-pub(crate) fn offset_of(config: &Config) -> usize
+/// Where the digital channels of a sample begin, in bytes.
+pub fn offset_of(config: &Config) -> usize
     ensures offset { result ≡ offset_of (value_of config.now) }
     ensures few { result ≤ 8000000 }
 {
@@ -46,8 +46,8 @@ fn scaled(count: usize, width: usize) -> usize
     count * width
 }
 
-/// How many bytes a sample has.
-pub(crate) fn size_of(config: &Config) -> usize
+/// How many bytes a sample has, if samples are numbers.
+pub fn size_of(config: &Config) -> usize
     ensures size { result ≡ size_of (value_of config.now) }
     ensures some { 8 ≤ result }
     ensures inside { offset_of (value_of config.now) ≤ result }

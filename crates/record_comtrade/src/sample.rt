@@ -5,8 +5,8 @@ ghost use Rattle.record_comtrade.specs.Samples.{bit_by, bit_in, byte_at, high_of
 
 use crate::clock::Mark;
 
-/// The number and the time of a sample.
-pub(crate) fn mark_of(sample: &[u8]) -> Mark
+/// The number and the time of a sample, if samples are numbers.
+pub fn mark_of(sample: &[u8]) -> Mark
     ensures { result ≡ mark_of sample.now }
 {
     match sample {
@@ -42,7 +42,8 @@ fn bit_of(chosen: &[usize], at: usize, digital: &[u8]) -> u8
     }
 }
 
-fn bit_in(digital: &[u8], place: usize) -> u8
+/// The level of the digital channel at a place among them, from 0, in their bytes.
+pub fn bit_in(digital: &[u8], place: usize) -> u8
     ensures bit { result ≡ bit_in digital.now place }
     ensures few { result ≤ 1 }
 {

@@ -4,3 +4,4 @@ pub mod ReadLaws
 pub mod RecordLaws
 pub mod StandardFacts
 pub mod OrderLaws
+pub mod MixedLaws

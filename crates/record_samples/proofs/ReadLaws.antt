@@ -14,43 +14,44 @@ use Rattle.record_comtrade.specs.Samples.{Plan, next_count}
 use Rattle.record_comtrade.specs.Samples.Said.{Refused}
 use Rattle.record_comtrade.specs.Data.{said, unless_refused}
 use Rattle.record_samples.specs.declared.course.Course.{Course}
+use Rattle.record_samples.specs.declared.lines.Lines.{Lines}
 use Rattle.record_samples.specs.declared.row.Row.{Row}
 use Rattle.record_samples.specs.declared.rows.Rows.{Rows}
-use Rattle.record_samples.specs.Rows.{begins_rest, end_in, ends_row, is_blank, line_says, row_fault, row_of, rows_by, rows_from, rows_say, said_of, some_row}
-use Rattle.record_samples.specs.Readers.{RowsLead, closed_says, course_says, open_line, plan_of, row_says, rows_to_come}
+use Rattle.record_samples.specs.Rows.{begins_rest, end_in, ends_row, is_blank, line_says, lines_after, row_fault, row_of, rows_by, rows_from, rows_say, said_of, some_row}
+use Rattle.record_samples.specs.Readers.{IsAfter, RowsLead, closed_says, course_says, open_line, plan_of, row_says, rows_to_come}
 use Rattle.record_samples.proofs.RowLaws.{closes, opens}
 
 -- ---- a line that is too long
 
-long_line : (plan : Plan) (fields : ℕ) (now : Now) (high : ℕ) (number : ℕ) (text : List ℕ) (lines : List Line) → 67108864 < length text
-    → rows_say plan fields now high (record { text = text; number = number } ∷ lines) ≡ Refused (row_fault now number TooLong) ∷ []
-long_line plan fields now high number text lines h =
-    ap (λ v. said_of plan now high number (if v then Err TooLong else (if is_blank text then Ok None else with_ok (row_of plan fields (next_count now) text) some_row))
-    (λ next levels. rows_say plan fields next levels lines)) (lt-ltb 67108864 (length text) h)
+long_line : (plan : Plan) (fields : ℕ) (now : Now) (high : ℕ) (mixed : Option Lines) (number : ℕ) (text : List ℕ) (lines : List Line) → 67108864 < length text
+    → rows_say plan fields now high mixed (record { text = text; number = number } ∷ lines) ≡ Refused (row_fault now number TooLong) ∷ []
+long_line plan fields now high mixed number text lines h =
+    ap (λ v. said_of plan now high mixed (record { text = text; number = number }) (if v then Err TooLong else (if is_blank text then Ok None else with_ok (row_of plan fields (next_count now) mixed text) some_row))
+    (λ next levels after. rows_say plan fields next levels after lines)) (lt-ltb 67108864 (length text) h)
 
-long_last : (plan : Plan) (fields : ℕ) (now : Now) (high : ℕ) (number : ℕ) (text : List ℕ) → 67108864 < length text
-    → rows_say plan fields now high (line_on number text) ≡ Refused (row_fault now number TooLong) ∷ []
-long_last plan fields now high number [] h = absurd (omega (arith, h))
-long_last plan fields now high number (b ∷ bs) h = long_line plan fields now high number (b ∷ bs) [] h
+long_last : (plan : Plan) (fields : ℕ) (now : Now) (high : ℕ) (mixed : Option Lines) (number : ℕ) (text : List ℕ) → 67108864 < length text
+    → rows_say plan fields now high mixed (line_on number text) ≡ Refused (row_fault now number TooLong) ∷ []
+long_last plan fields now high mixed number [] h = absurd (omega (arith, h))
+long_last plan fields now high mixed number (b ∷ bs) h = long_line plan fields now high mixed number (b ∷ bs) [] h
 
 -- it is refused, whatever follows
-long : (plan : Plan) (fields : ℕ) (now : Now) (high : ℕ) (after_cr : Bool) (number : ℕ) (text more : List ℕ) → 67108864 < length text
-    → rows_say plan fields now high (rows_from after_cr number text more) ≡ Refused (row_fault now number TooLong) ∷ []
-long plan fields now high after_cr number text [] h = long_last plan fields now high number text h
-long plan fields now high after_cr number text (b ∷ bs) h =
-    elim (is_rest after_cr b) as (λ r. rows_say plan fields now high (rows_by r (ends_row b) number text b (λ n t. rows_from (is_cr b) n t bs)) ≡ Refused (row_fault now number TooLong) ∷ []) [
-      | true ↦ long plan fields now high (is_cr b) number text bs h
-      | false ↦ elim (ends_row b) as (λ e. rows_say plan fields now high (rows_by false e number text b (λ n t. rows_from (is_cr b) n t bs)) ≡ Refused (row_fault now number TooLong) ∷ []) [
-        | true ↦ long_line plan fields now high number text (rows_from (is_cr b) (next_number number) [] bs) h
-        | false ↦ long plan fields now high (is_cr b) number (text ++ b ∷ []) bs (omega (arith, h, length-append text (b ∷ [])))
+long : (plan : Plan) (fields : ℕ) (now : Now) (high : ℕ) (mixed : Option Lines) (after_cr : Bool) (number : ℕ) (text more : List ℕ) → 67108864 < length text
+    → rows_say plan fields now high mixed (rows_from after_cr number text more) ≡ Refused (row_fault now number TooLong) ∷ []
+long plan fields now high mixed after_cr number text [] h = long_last plan fields now high mixed number text h
+long plan fields now high mixed after_cr number text (b ∷ bs) h =
+    elim (is_rest after_cr b) as (λ r. rows_say plan fields now high mixed (rows_by r (ends_row b) number text b (λ n t. rows_from (is_cr b) n t bs)) ≡ Refused (row_fault now number TooLong) ∷ []) [
+      | true ↦ long plan fields now high mixed (is_cr b) number text bs h
+      | false ↦ elim (ends_row b) as (λ e. rows_say plan fields now high mixed (rows_by false e number text b (λ n t. rows_from (is_cr b) n t bs)) ≡ Refused (row_fault now number TooLong) ∷ []) [
+        | true ↦ long_line plan fields now high mixed number text (rows_from (is_cr b) (next_number number) [] bs) h
+        | false ↦ long plan fields now high mixed (is_cr b) number (text ++ b ∷ []) bs (omega (arith, h, length-append text (b ∷ [])))
       ]
     ]
 
 pub refuses_line : (rows : Rows) (front : List ℕ) (lines : List Line) → rows.course.refusal ≡ None → 67108864 < length rows.begun.items + length front
     → course_says rows.course (open_line rows front ∷ lines) ≡ Refused (row_fault rows.course.here rows.number TooLong) ∷ []
 refuses_line rows front lines goes h =
-    ap (λ r. unless_refused r (rows_say (plan_of rows.course) rows.course.fields rows.course.here rows.course.channels.high (open_line rows front ∷ lines))) goes
-    ∙ long_line (plan_of rows.course) rows.course.fields rows.course.here rows.course.channels.high rows.number (rows.begun.items ++ front) lines
+    ap (λ r. unless_refused r (rows_say (plan_of rows.course) rows.course.fields rows.course.here rows.course.channels.high rows.course.mixed (open_line rows front ∷ lines))) goes
+    ∙ long_line (plan_of rows.course) rows.course.fields rows.course.here rows.course.channels.high rows.course.mixed rows.number (rows.begun.items ++ front) lines
     (omega (arith, h, length-append rows.begun.items front))
 
 pub refuses_long : (rows : Rows) (bytes more : List ℕ) → rows.course.refusal ≡ None → end_in bytes ≡ length bytes → 0 < length bytes
@@ -58,8 +59,8 @@ pub refuses_long : (rows : Rows) (bytes more : List ℕ) → rows.course.refusal
     → rows_to_come rows (bytes ++ more) ≡ Refused (row_fault rows.course.here rows.number TooLong) ∷ []
 refuses_long rows bytes more goes within some h =
     ap (course_says rows.course) (opens rows.is_after_cr rows.number rows.begun.items bytes more within some)
-    ∙ ap (λ r. unless_refused r (rows_say (plan_of rows.course) rows.course.fields rows.course.here rows.course.channels.high (rows_from false rows.number (rows.begun.items ++ bytes) more))) goes
-    ∙ long (plan_of rows.course) rows.course.fields rows.course.here rows.course.channels.high false rows.number (rows.begun.items ++ bytes) more (omega (arith, h, length-append rows.begun.items bytes))
+    ∙ ap (λ r. unless_refused r (rows_say (plan_of rows.course) rows.course.fields rows.course.here rows.course.channels.high rows.course.mixed (rows_from false rows.number (rows.begun.items ++ bytes) more))) goes
+    ∙ long (plan_of rows.course) rows.course.fields rows.course.here rows.course.channels.high rows.course.mixed false rows.number (rows.begun.items ++ bytes) more (omega (arith, h, length-append rows.begun.items bytes))
 
 -- ---- the line that is open
 
@@ -94,11 +95,22 @@ closes_whole rows bytes front more count after_cr is less no_rest front_is cr_is
 
 -- a sample, and what is said after it
 pub hears : (course : Course) (row : Row) (line : List ℕ) (number : ℕ) (lines : List Line) → course.refusal ≡ None
-    → line_says (plan_of course) course.fields (next_count course.here) line ≡ Ok (Some row)
-    → course_says course (record { text = line; number = number } ∷ lines) ≡ row_says course row lines
+    → line_says (plan_of course) course.fields (next_count course.here) course.mixed line ≡ Ok (Some row)
+    → course_says course (record { text = line; number = number } ∷ lines) ≡ row_says course row (lines_after (plan_of course) course.mixed line) lines
 hears course row line number lines goes says =
-    ap (λ r. unless_refused r (rows_say (plan_of course) course.fields course.here course.channels.high (record { text = line; number = number } ∷ lines))) goes
-    ∙ ap (λ s. said_of (plan_of course) course.here course.channels.high number s (λ next levels. rows_say (plan_of course) course.fields next levels lines)) says
+    ap (λ r. unless_refused r (rows_say (plan_of course) course.fields course.here course.channels.high course.mixed (record { text = line; number = number } ∷ lines))) goes
+    ∙ ap (λ s. said_of (plan_of course) course.here course.channels.high course.mixed (record { text = line; number = number }) s (λ next levels after. rows_say (plan_of course) course.fields next levels after lines)) says
+
+-- a reader that has heard a sample
+pub takes : (old new : Course) (now : Now) (high : ℕ) (after : Option Lines) (lines : List Line) → old.refusal ≡ None → IsAfter old new
+    → new.channels.high ≡ high → new.mixed ≡ after
+    → rows_say (plan_of old) old.fields now high after lines ≡ course_says (record new { here = now }) lines
+takes old new now high after lines goes same high_is after_is =
+    ap (λ p. rows_say p old.fields now high after lines) (sym same.plan)
+    ∙ ap (λ n. rows_say (plan_of new) n now high after lines) (sym same.fields)
+    ∙ ap (λ n. rows_say (plan_of new) new.fields now n after lines) (sym high_is)
+    ∙ ap (λ m. rows_say (plan_of new) new.fields now new.channels.high m lines) (sym after_is)
+    ∙ ap (λ r. unless_refused r (rows_say (plan_of new) new.fields now new.channels.high new.mixed lines)) (sym (same.refusal ∙ goes))
 
 empty : (xs : List ℕ) → nat_eq (length xs) 0 ≡ true → xs ≡ []
 empty [] e = refl

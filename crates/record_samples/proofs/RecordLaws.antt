@@ -11,7 +11,7 @@ use Rattle.record_comtrade.specs.Records.{ArePieces, Piece, bytes_of, text_after
 use Rattle.record_comtrade.proofs.RecordLaws.{pieces_lead}
 use Rattle.record_samples.specs.declared.samples.Samples.{Samples}
 use Rattle.record_samples.specs.Readers.{to_come}
-use Rattle.record_samples.specs.Records.{AreCalls, Call, IsSamplesOf, record_of, said_in, samples_after, samples_say, taken_by}
+use Rattle.record_samples.specs.Records.{AreCalls, Call, Chosen, IsSamplesOf, record_of, said_in, samples_after, samples_say, taken_by}
 
 pub calls_lead : (reader : Samples) (calls : List Call) (more : List ℕ) → AreCalls reader calls
     → to_come reader (taken_by calls ++ more) ≡ said_in calls ++ to_come (samples_after reader calls) more
@@ -22,7 +22,7 @@ calls_lead reader (call ∷ calls) more h =
     ∙ ap (λ l. said call.levels ++ l) (calls_lead call.next calls more h.1)
     ∙ sym (append_assoc (said call.levels) (said_in calls) (to_come (samples_after call.next calls) more))
 
-pub file_says : (first : ConfigText) (pieces : List Piece) (config : Config) (chosen : List ℕ) (reader : Samples) (calls : List Call) (more : List ℕ)
+pub file_says : (first : ConfigText) (pieces : List Piece) (config : Config) (chosen : Chosen) (reader : Samples) (calls : List Call) (more : List ℕ)
     → ((text : List ℕ) → lines_to_come first text ≡ config_lines text) → ArePieces first pieces
     → config_of (lines_to_come (text_after first pieces) []) ≡ Ok (value_of config)
     → IsSamplesOf config chosen reader → AreCalls reader calls

@@ -6,18 +6,21 @@ use Rattle.record_levels.specs.declared.levels.Levels.{Levels}
 use Rattle.record_comtrade.specs.declared.reader.DataFault.{DataFault}
 use Rattle.record_comtrade.specs.declared.reader.DataFault.TheVariants.{Memory}
 use Rattle.record_comtrade.specs.declared.reader.DataFault.TheVariants.{Refused as IsRefused}
-use Rattle.record_comtrade.specs.Samples.{Plan, Said, said_by}
+use Rattle.record_comtrade.specs.Samples.{Plan, Said, said_by, samples_from}
 use Rattle.record_comtrade.specs.Samples.Said.{Ends, Refused}
 use Rattle.record_comtrade.specs.Data.{said, unless_refused}
 use Rattle.record_comtrade.specs.Data.{to_come as numbers_to_come}
 use Rattle.record_samples.specs.declared.row.Row.{Row}
+use Rattle.record_samples.specs.declared.lines.Lines.{Lines}
+use Rattle.record_samples.specs.declared.mixed.Mixed.{Mixed}
 use Rattle.record_samples.specs.declared.course.Course.{Course}
 use Rattle.record_samples.specs.declared.rows.Rows.{Rows}
 use Rattle.record_samples.specs.declared.samples.End.{End}
 use Rattle.record_samples.specs.declared.samples.Kind.{Kind}
-use Rattle.record_samples.specs.declared.samples.Kind.TheVariants.{OfNumbers, OfRows}
+use Rattle.record_samples.specs.declared.samples.Kind.TheVariants.{OfMixed, OfNumbers, OfRows}
 use Rattle.record_samples.specs.declared.samples.Samples.{Samples}
 use Rattle.record_samples.specs.Rows.{rows_from, rows_say, step_of}
+use Rattle.record_samples.specs.Mixed.{mixed_from}
 
 -- ---- rows
 
@@ -27,12 +30,19 @@ plan_of course = record { rates = course.rates.items; clock = course.clock; offs
 
 -- what lines say to it as it stands
 abbrev pub course_says : Course → (lines : List Line) → List Said
-course_says course lines = unless_refused course.refusal (rows_say (plan_of course) course.fields course.here course.channels.high lines)
+course_says course lines = unless_refused course.refusal (rows_say (plan_of course) course.fields course.here course.channels.high course.mixed lines)
 
--- what a sample and the lines after it say to it
-abbrev pub row_says : Course → Row → (lines : List Line) → List Said
-row_says course row lines =
-    said_by (step_of (plan_of course) course.here course.channels.high row) (λ next. rows_say (plan_of course) course.fields next row.high lines)
+-- a reader is another only in the levels and the lines that it has heard
+pub record IsAfter (old new : Course) : Type 0 where
+  pub plan : plan_of new ≡ plan_of old
+  pub fields : new.fields ≡ old.fields
+  pub here : new.here ≡ old.here
+  pub refusal : new.refusal ≡ old.refusal
+
+-- what a sample, which leaves these lines, and the text after it say to it
+abbrev pub row_says : Course → Row → Option Lines → (lines : List Line) → List Said
+row_says course row after lines =
+    said_by (step_of (plan_of course) course.here course.channels.high row) (λ next. rows_say (plan_of course) course.fields next row.high after lines)
 
 -- what a reader of rows has to say yet, if these are the bytes that follow, up to the end of the text
 abbrev pub rows_to_come : Rows → (more : List ℕ) → List Said
@@ -51,11 +61,31 @@ abbrev pub closed_says : Rows → (front : List ℕ) → (after_cr : Bool) → (
 closed_says rows front after_cr more =
     course_says rows.course (open_line rows front ∷ rows_from after_cr (next_number rows.number) [] more)
 
+-- ---- numbers, of which analog ones are chosen
+
+-- what a reader reads of them
+abbrev pub numbers_plan : Mixed → Plan
+numbers_plan mixed = record { rates = mixed.rates.items; clock = mixed.clock; offset = mixed.offset; chosen = [] }
+
+-- what these samples say to it as it stands
+abbrev pub mixed_says : Mixed → (samples : List (List ℕ)) → List Said
+mixed_says mixed samples =
+    unless_refused mixed.refusal (mixed_from (numbers_plan mixed) mixed.form mixed.here mixed.lines samples)
+
+-- what it has to say yet, if these are the bytes that follow, up to the end of the samples
+abbrev pub mixed_to_come : Mixed → (more : List ℕ) → List Said
+mixed_to_come mixed more = mixed_says mixed (samples_from mixed.size mixed.begun.items more)
+
+-- a reader of them that takes these bytes says these levels, if any, and is then the next one: so whatever follows
+abbrev pub MixedLead : Mixed → (taken : List ℕ) → Option Levels → Mixed → Type 0
+MixedLead mixed taken levels next = (more : List ℕ) → mixed_to_come mixed (taken ++ more) ≡ said levels ++ mixed_to_come next more
+
 -- ---- samples in either form
 
 -- what a reader of either form has to say yet
 abbrev pub kind_to_come : Kind → (more : List ℕ) → List Said
 kind_to_come (OfNumbers numbers) more = numbers_to_come numbers more
+kind_to_come (OfMixed mixed) more = mixed_to_come mixed more
 kind_to_come (OfRows rows) more = rows_to_come rows more
 
 -- what a reader has to say yet, if these are the bytes that follow, up to the end of the samples

@@ -2,7 +2,7 @@
 -- Source: IEEE C37.111-2013, 6.4 (ASCII data): a sample is a line of fields, which commas part: its number, its time,
 -- the analog channels, and the digital ones, which are 0 or 1. The 1A at the end of a file is that of C37.111-1991.
 -- Which fields may be empty, which numbers are too large, and that there are levels where a channel that was chosen
--- changes, is this project's profile. Analog channels, and digital ones that are not chosen, may be anything.
+-- changes, is this project's profile. Channels that are not chosen may be anything.
 use Rattle.std.specs.Prelude.{ℕ, zero, suc, ◌+◌, ◌*◌, Bool, true, false, ◌||◌, if◌then◌else◌, List, [], ◌∷◌, ◌++◌, length, slice_get, Option, Some, None, Result, Ok, Err, nat_eq, nat_lt}
 use Rattle.record_text.specs.Numbers.{number}
 use Rattle.record_text.specs.Fields.{after_comma, field, trimmed}
@@ -16,7 +16,9 @@ use Rattle.record_comtrade.specs.declared.now.Step.{Step}
 use Rattle.record_comtrade.specs.Configs.{at_most, with_ok}
 use Rattle.record_comtrade.specs.Samples.{Plan, Said, counted, ended, next_count, said_by, start, stays, step_by}
 use Rattle.record_comtrade.specs.Samples.Said.{Refused}
+use Rattle.record_samples.specs.declared.lines.Lines.{Lines}
 use Rattle.record_samples.specs.declared.row.Row.{Row}
+use Rattle.record_samples.specs.Lines.{heard_row, level_of, levels}
 
 -- ---- lines
 
@@ -70,12 +72,6 @@ abbrev pub time_by : (text : List ℕ) → Option ℕ
 time_by [] = Some 4294967295
 time_by (b ∷ bs) = at_most 4294967294 (number (b ∷ bs))
 
--- the level of a digital channel
-abbrev pub level_of : (text : List ℕ) → Option ℕ
-level_of [] = None
-level_of (b ∷ []) = if nat_eq b 48 then Some 0 else (if nat_eq b 49 then Some 1 else None)
-level_of (b ∷ c ∷ rest) = None
-
 -- ---- a sample
 
 -- what a field has to say
@@ -102,12 +98,33 @@ levels_of chosen digital =
 abbrev pub levels_if : (count fields : ℕ) → (chosen : List ℕ) → (digital : List ℕ) → Result ℕ RowField
 levels_if count fields chosen digital = if nat_lt count fields then Err Few else levels_of chosen digital
 
+-- the levels of some lines
+abbrev pub levels_read : Result Lines RowField → Result ℕ RowField
+levels_read (Ok lines) = Ok (levels lines)
+levels_read (Err field) = Err field
+
+-- the levels of digital channels, or of lines on channels of either kind if that is what they are
+abbrev pub levels_in : Plan → (fields : ℕ) → Option Lines → (line : List ℕ) → Result ℕ RowField
+levels_in plan fields None line = levels_if (fields_in line) fields plan.chosen (from_field plan.offset line)
+levels_in plan fields (Some lines) line =
+    if nat_lt (fields_in line) fields then Err Few else levels_read (heard_row plan.offset lines line)
+
+-- the lines that were heard, or those before
+abbrev pub lines_read : Lines → Result Lines RowField → Lines
+lines_read before (Ok lines) = lines
+lines_read before (Err field) = before
+
+-- lines on channels of either kind with a row more
+abbrev pub lines_after : Plan → Option Lines → (line : List ℕ) → Option Lines
+lines_after plan None line = None
+lines_after plan (Some lines) line = Some (lines_read lines (heard_row plan.offset lines line))
+
 -- the sample on a line, where there are so many samples up to it
-abbrev pub row_of : Plan → (fields : ℕ) → (count : ℕ) → (line : List ℕ) → Result Row RowField
-row_of plan fields count line =
+abbrev pub row_of : Plan → (fields : ℕ) → (count : ℕ) → Option Lines → (line : List ℕ) → Result Row RowField
+row_of plan fields count mixed line =
     with_ok (needed (number_by count (field 0 line)) Number) (λ number.
     with_ok (needed (time_by (field 1 line)) Time) (λ time.
-    with_ok (levels_if (fields_in line) fields plan.chosen (from_field plan.offset line)) (λ high.
+    with_ok (levels_in plan fields mixed line) (λ high.
     Ok (record { mark = record { number = number; time = time }; high = high }))))
 
 -- a line has nothing but blanks
@@ -119,10 +136,10 @@ abbrev pub some_row : Row → Result (Option Row) RowField
 some_row row = Ok (Some row)
 
 -- what a line says: it is no sample if it is blank, and is refused if it is too long, or by its first fault
-abbrev pub line_says : Plan → (fields : ℕ) → (count : ℕ) → (line : List ℕ) → Result (Option Row) RowField
-line_says plan fields count line =
+abbrev pub line_says : Plan → (fields : ℕ) → (count : ℕ) → Option Lines → (line : List ℕ) → Result (Option Row) RowField
+line_says plan fields count mixed line =
     if nat_lt 67108864 (length line) then Err TooLong
-    else (if is_blank line then Ok None else with_ok (row_of plan fields count line) some_row)
+    else (if is_blank line then Ok None else with_ok (row_of plan fields count mixed line) some_row)
 
 -- ---- one after another
 
@@ -134,20 +151,21 @@ row_fault now number field = record { sample = next_count now; reason = OfRow (r
 abbrev pub step_of : Plan → Now → (high : ℕ) → Row → Step
 step_of plan now high row = step_by (stays now.count high row.high) plan (counted now row.mark) row.high
 
--- what is said of a line, and then from there on, after the samples so far and their last levels
-abbrev pub said_of : Plan → Now → (high : ℕ) → (number : ℕ) → Result (Option Row) RowField
-    → (others : Now → (high : ℕ) → List Said) → List Said
-said_of plan now high number (Err field) others = Refused (row_fault now number field) ∷ []
-said_of plan now high number (Ok None) others = others now high
-said_of plan now high number (Ok (Some row)) others =
-    said_by (step_of plan now high row) (λ next. others next row.high)
+-- what is said of a line, and then from there on, after the samples so far with their last levels and lines
+abbrev pub said_of : Plan → Now → (high : ℕ) → Option Lines → (line : Line) → Result (Option Row) RowField
+    → (others : Now → (high : ℕ) → Option Lines → List Said) → List Said
+said_of plan now high mixed line (Err field) others = Refused (row_fault now line.number field) ∷ []
+said_of plan now high mixed line (Ok None) others = others now high mixed
+said_of plan now high mixed line (Ok (Some row)) others =
+    said_by (step_of plan now high row) (λ next. others next row.high (lines_after plan mixed line.text))
 
--- what lines say, of which each sample has so many fields or more
-abbrev pub rows_say : Plan → (fields : ℕ) → Now → (high : ℕ) → (lines : List Line) → List Said
-rows_say plan fields now high [] = ended plan now ∷ []
-rows_say plan fields now high (line ∷ lines) =
-    said_of plan now high line.number (line_says plan fields (next_count now) line.text) (λ next levels. rows_say plan fields next levels lines)
+-- what lines of text say, of which each sample has so many fields or more
+abbrev pub rows_say : Plan → (fields : ℕ) → Now → (high : ℕ) → Option Lines → (lines : List Line) → List Said
+rows_say plan fields now high mixed [] = ended plan now ∷ []
+rows_say plan fields now high mixed (line ∷ lines) =
+    said_of plan now high mixed line (line_says plan fields (next_count now) mixed line.text)
+    (λ next levels after. rows_say plan fields next levels after lines)
 
 -- what the bytes of a text say
-abbrev pub changes_of_text : Plan → (fields : ℕ) → (bytes : List ℕ) → List Said
-changes_of_text plan fields bytes = rows_say plan fields start 0 (rows_from false 1 [] bytes)
+abbrev pub changes_of_text : Plan → (fields : ℕ) → Option Lines → (bytes : List ℕ) → List Said
+changes_of_text plan fields mixed bytes = rows_say plan fields start 0 mixed (rows_from false 1 [] bytes)

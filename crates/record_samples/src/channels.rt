@@ -91,6 +91,15 @@ impl Channels {
         Ok(())
     }
 
+    /// The last sample has these levels, by other channels too.
+    pub(crate) fn set(&mut self, high: u8)
+        ensures chosen { self.new.chosen ≡ self.old.chosen }
+        ensures high { self.new.high ≡ high }
+    {
+        self.is_known = false;
+        self.high = high;
+    }
+
     fn knows(&self, text: &[u8]) -> bool
         ensures { IsTrue result → IsTrue self.now.is_known × (text.now ≡ self.now.text.items) }
     {

@@ -1,15 +1,16 @@
 //! Rows, one after another.
 
-ghost use Rattle.std.specs.Prelude.{◌≡◌, ◌+◌, ◌∷◌, ◌++◌, ◌≤◌, [], IfOk, IfSome, IfErr, List, MatchResult, None, length};
+ghost use Rattle.std.specs.Prelude.{◌≡◌, ◌+◌, ◌∷◌, ◌++◌, ◌≤◌, [], IfNone, IfOk, IfSome, IfErr, List, MatchResult, None, length};
 ghost use Rattle.record_text.specs.Lines.{Line};
 ghost use Rattle.record_comtrade.specs.Data.{FaultSays, said};
 ghost use Rattle.record_comtrade.specs.declared.reader.DataFault.TheVariants.{Refused as IsRefused};
 ghost use Rattle.record_comtrade.specs.Samples.{next_count};
 ghost use Rattle.record_comtrade.specs.Samples.Said.{Ends, Refused};
-ghost use Rattle.record_samples.specs.Rows.{fields_in, from_field, is_blank, levels_of, line_says, row_fault, row_of, step_of};
+ghost use Rattle.record_samples.specs.Rows.{fields_in, from_field, is_blank, levels_in, levels_of, line_says, lines_after, row_fault, row_of, step_of};
 
 use crate::channels::Channels;
-use crate::fields::cut;
+use crate::fields::{cut, fields_in};
+use crate::lines::Lines;
 use crate::row::{Row, number_by, time_by};
 use record_comtrade::{
     Clock, Config, DataFault, Mark, Now, Rate, Reason, RowFault, RowField, SampleFault, Step,
@@ -32,6 +33,8 @@ pub(crate) struct Course {
     /// How many fields a row has at least.
     pub(crate) fields: usize,
     pub(crate) channels: Channels,
+    /// The lines, if some of them are on analog channels.
+    pub(crate) mixed: Option<Lines>,
     pub(crate) here: Now,
     pub(crate) refusal: Option<SampleFault>,
     ghost few: { length rates.items ≤ 999 },
@@ -40,15 +43,16 @@ pub(crate) struct Course {
 
 impl Course {
     ghost use Rattle.record_samples.specs.Records.{IsCourseOf};
-    ghost use Rattle.record_samples.specs.Readers.{course_says, plan_of, row_says};
+    ghost use Rattle.record_samples.specs.Readers.{IsAfter, course_says, plan_of, row_says};
 
     /// Those of a configuration, of which nothing was read.
     pub(crate) fn new(
         alloc: Global,
         config: &Config,
         chosen: &[usize],
+        mixed: Option<Lines>,
     ) -> Result<Course, AllocError>
-        ensures { IfOk result (λ course. IsCourseOf config.now chosen.now course) }
+        ensures { IfOk result (λ course. IsCourseOf config.now chosen.now mixed course) }
     {
         let counts = config.counts();
         let mut rates = Vec::new(alloc);
@@ -60,6 +64,7 @@ impl Course {
             offset,
             fields: offset + counts.digitals as usize,
             channels: Channels::new(alloc, chosen)?,
+            mixed,
             here: Now::start(),
             refusal: None,
         })
@@ -77,7 +82,7 @@ impl Course {
     {
         let (before, digital) = cut(line, self.offset);
         match self.says(line, before, digital) {
-            Ok(Some(row)) => match self.take(row, digital) {
+            Ok(Some(row)) => match self.take(row, line, digital) {
                 Ok(levels) => Ok(levels),
                 Err(fault) => Err(fault),
             },
@@ -128,9 +133,9 @@ impl Course {
         requires count { before + fields_in digital.now ≡ fields_in line.now }
         requires few { before ≤ 2000000 }
         ensures says { result ≡ line_says (plan_of self.now) self.now.fields
-            (next_count self.now.here) line.now }
-        ensures levels { IfOk result (λ row. IfSome row (λ row.
-            levels_of self.now.channels.chosen.items digital.now ≡ Ok row.high)) }
+            (next_count self.now.here) self.now.mixed line.now }
+        ensures levels { IfOk result (λ row. IfSome row (λ row. IfNone self.now.mixed
+            (levels_of self.now.channels.chosen.items digital.now ≡ Ok row.high))) }
     {
         if line.len() > LONGEST_ROW {
             return Err(RowField::Line);
@@ -149,9 +154,9 @@ impl Course {
         requires count { before + fields_in digital.now ≡ fields_in line.now }
         requires few { before ≤ 2000000 }
         ensures row { result ≡ row_of (plan_of self.now) self.now.fields
-            (next_count self.now.here) line.now }
-        ensures levels { IfOk result (λ row.
-            levels_of self.now.channels.chosen.items digital.now ≡ Ok row.high) }
+            (next_count self.now.here) self.now.mixed line.now }
+        ensures levels { IfOk result (λ row. IfNone self.now.mixed
+            (levels_of self.now.channels.chosen.items digital.now ≡ Ok row.high)) }
     {
         let Some(number) = number_by(self.here.next_count(), field_of(line, 0)) else {
             return Err(RowField::Number);
@@ -159,7 +164,7 @@ impl Course {
         let Some(time) = time_by(field_of(line, 1)) else {
             return Err(RowField::Time);
         };
-        match self.channels.levels_in(before, digital, self.fields) {
+        match self.levels_in(line, before, digital) {
             Ok(high) => Ok(Row {
                 mark: Mark { number, time },
                 high,
@@ -168,18 +173,42 @@ impl Course {
         }
     }
 
-    // A sample that has these digital fields.
-    fn take(&mut self, row: Row, digital: &[u8]) -> Result<Option<Levels>, DataFault>
+    // The levels on a line, whose digital fields are these.
+    fn levels_in(&self, line: &[u8], before: usize, digital: &[u8]) -> Result<u8, RowField>
+        requires text { digital.now ≡ from_field self.now.offset line.now }
+        requires count { before + fields_in digital.now ≡ fields_in line.now }
+        requires few { before ≤ 2000000 }
+        ensures levels { result ≡ levels_in (plan_of self.now) self.now.fields
+            self.now.mixed line.now }
+        ensures digital { IfOk result (λ high. IfNone self.now.mixed
+            (levels_of self.now.channels.chosen.items digital.now ≡ Ok high)) }
+    {
+        let Some(lines) = &self.mixed else {
+            return self.channels.levels_in(before, digital, self.fields);
+        };
+        if before + fields_in(digital) < self.fields {
+            return Err(RowField::Few);
+        }
+        match lines.heard_row(self.offset, line) {
+            Ok(lines) => Ok(lines.levels()),
+            Err(field) => Err(field),
+        }
+    }
+
+    // A sample of this line, which has these digital fields.
+    fn take(&mut self, row: Row, line: &[u8], digital: &[u8]) -> Result<Option<Levels>, DataFault>
         requires goes { self.old.refusal ≡ None }
-        requires levels { levels_of self.old.channels.chosen.items digital.now ≡ Ok row.high }
+        requires levels { IfNone self.old.mixed
+            (levels_of self.old.channels.chosen.items digital.now ≡ Ok row.high) }
         ensures goes { IfOk result (λ levels. self.new.refusal ≡ None) }
         ensures says { IfOk result (λ levels. (lines : List Line)
-            → row_says self.old row lines ≡ said levels ++ course_says self.new lines) }
-        ensures refuses { IfErr result (λ fault. (lines : List Line)
-            → FaultSays fault (row_says self.old row lines)) }
+            → row_says self.old row (lines_after (plan_of self.old) self.old.mixed line.now) lines
+            ≡ said levels ++ course_says self.new lines) }
+        ensures refuses { IfErr result (λ fault. (lines : List Line) → FaultSays fault
+            (row_says self.old row (lines_after (plan_of self.old) self.old.mixed line.now) lines)) }
     {
         let step = self.step(row);
-        self.channels.learn(digital, row.high)?;
+        self.learn(row.high, line, digital)?;
         match step {
             Step::Goes(now) => {
                 self.here = now;
@@ -194,6 +223,25 @@ impl Course {
                 Err(DataFault::Refused(fault))
             }
         }
+    }
+
+    // The last sample has these levels, and is on this line with these digital fields.
+    fn learn(&mut self, high: u8, line: &[u8], digital: &[u8]) -> Result<(), AllocError>
+        requires { IfNone self.old.mixed
+            (levels_of self.old.channels.chosen.items digital.now ≡ Ok high) }
+        ensures mixed { IfOk result (λ _. self.new.mixed
+            ≡ lines_after (plan_of self.old) self.old.mixed line.now) }
+        ensures high { IfOk result (λ _. self.new.channels.high ≡ high) }
+        ensures same { IsAfter self.old self.new }
+    {
+        let Some(lines) = self.mixed else {
+            return self.channels.learn(digital, high);
+        };
+        if let Ok(after) = lines.heard_row(self.offset, line) {
+            self.mixed = Some(after);
+        }
+        self.channels.set(high);
+        Ok(())
     }
 
     // What it makes of the levels.

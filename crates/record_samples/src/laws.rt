@@ -9,7 +9,7 @@ ghost use Rattle.record_comtrade.specs.Reads.{value_of};
 ghost use Rattle.record_comtrade.specs.Records.{ArePieces, Piece, bytes_of, text_after};
 ghost use Rattle.record_samples.specs.Readers.{to_come};
 ghost use Rattle.record_samples.specs.Order.{AreLater};
-ghost use Rattle.record_samples.specs.Records.{AreCalls, Call, IsSamplesOf, record_of, said_in, samples_after, samples_say, taken_by};
+ghost use Rattle.record_samples.specs.Records.{AreCalls, Call, Chosen, IsSamplesOf, record_of, said_in, samples_after, samples_say, taken_by};
 
 use crate::samples::Samples;
 
@@ -22,12 +22,12 @@ pub fn pieces_do_not_matter()
         ≡ said_in calls ++ to_come (samples_after reader calls) more }
 {}
 
-/// What is said of the digital channels that were chosen is what the record says of them by its
+/// What is said of the channels that were chosen is what the record says of them by its
 /// definition: `record_of` of all bytes of the configuration, of all the bytes of samples that the
 /// calls took, and of whatever follows. At the end of the samples that is what [`Samples::end`]
 /// says.
 pub fn changes_are_those_of_the_file()
-    ensures { (first : ConfigText) (pieces : List Piece) (config : Config) (chosen : List ℕ)
+    ensures { (first : ConfigText) (pieces : List Piece) (config : Config) (chosen : Chosen)
         (reader : Samples) (calls : List Call) (more : List ℕ)
         → ((text : List ℕ) → lines_to_come first text ≡ config_lines text)
         → ArePieces first pieces
@@ -39,6 +39,6 @@ pub fn changes_are_those_of_the_file()
 
 /// Levels are said in the order of their times, whatever the samples are.
 pub fn levels_are_in_order()
-    ensures { (config : ConfigValue) (chosen samples : List ℕ)
+    ensures { (config : ConfigValue) (chosen : Chosen) (samples : List ℕ)
         → AreLater 0 (samples_say chosen samples config) }
 {}

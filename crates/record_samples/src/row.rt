@@ -2,7 +2,8 @@
 
 ghost use Rattle.std.specs.Prelude.{◌≡◌, ◌≤◌, IfOk, IfSome, slice_get};
 ghost use Rattle.record_comtrade.specs.Configs.{at_most};
-ghost use Rattle.record_samples.specs.Rows.{level_at, level_of, levels_of, number_by, time_by};
+ghost use Rattle.record_samples.specs.Lines.{level_of};
+ghost use Rattle.record_samples.specs.Rows.{level_at, levels_of, number_by, time_by};
 
 use record_comtrade::{Mark, RowField};
 use record_text::{field_of, number_of};
@@ -69,7 +70,8 @@ fn level_at(chosen: &[usize], at: usize, digital: &[u8]) -> Result<u8, RowField>
     }
 }
 
-fn level_of(text: &[u8]) -> Option<u8>
+/// The level of a digital channel by its field.
+pub(crate) fn level_of(text: &[u8]) -> Option<u8>
     ensures level { result ≡ level_of text.now }
     ensures few { IfSome result (λ level. level ≤ 1) }
 {

@@ -7,6 +7,7 @@ ghost use Rattle.record_samples.specs.Rows.{begins_rest, end_in};
 
 use crate::course::{Course, LONGEST_ROW};
 use crate::fields::end_in;
+use crate::lines::Lines;
 use crate::samples::End;
 use record_comtrade::{Config, DataFault, RowField, SampleFault, Taken};
 use record_levels::Levels;
@@ -28,10 +29,15 @@ impl Rows {
     ghost use Rattle.record_samples.specs.Records.{IsRowsOf};
 
     /// The samples of a configuration, of which nothing was read.
-    pub(crate) fn new(alloc: Global, config: &Config, chosen: &[usize]) -> Result<Rows, AllocError>
-        ensures { IfOk result (λ rows. IsRowsOf config.now chosen.now rows) }
+    pub(crate) fn new(
+        alloc: Global,
+        config: &Config,
+        chosen: &[usize],
+        mixed: Option<Lines>,
+    ) -> Result<Rows, AllocError>
+        ensures { IfOk result (λ rows. IsRowsOf config.now chosen.now mixed rows) }
     {
-        let course = Course::new(alloc, config, chosen)?;
+        let course = Course::new(alloc, config, chosen, mixed)?;
         Ok(Rows {
             begun: Vec::new(alloc),
             number: 1,

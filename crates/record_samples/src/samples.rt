@@ -4,7 +4,10 @@ ghost use Rattle.std.specs.Prelude.{◌≡◌, ◌++◌, ◌<◌, ◌≤◌, ℕ
 ghost use Rattle.record_comtrade.specs.Data.{FaultSays};
 ghost use Rattle.record_samples.specs.Readers.{IsEnd, Leads, to_come};
 ghost use Rattle.record_samples.specs.Records.{IsSamplesOf};
+ghost use Rattle.record_samples.specs.Records.Chosen.{OfDigitals, OfLines};
 
+use crate::lines::Lines;
+use crate::mixed::Mixed;
 use crate::rows::Rows;
 use record_comtrade::{Config, Data, DataFault, Taken};
 use record_levels::Levels;
@@ -30,6 +33,7 @@ pub struct Samples {
 #[derive(Drop)]
 enum Kind {
     OfNumbers(Data),
+    OfMixed(Mixed),
     OfRows(Rows),
 }
 
@@ -39,12 +43,25 @@ impl Samples {
     pub fn new(alloc: Global, config: &Config, chosen: &[usize]) -> Result<Samples, AllocError>
         requires few { length chosen.now ≤ 5 }
         requires places { All (λ place. place < config.now.counts.digitals) chosen.now }
-        ensures { IfOk result (λ samples. IsSamplesOf config.now chosen.now samples) }
+        ensures { IfOk result (λ samples. IsSamplesOf config.now (OfDigitals chosen.now) samples) }
     {
         let kind = if config.tail().form.are_numbers() {
             Kind::OfNumbers(Data::new(alloc, config, chosen)?)
         } else {
-            Kind::OfRows(Rows::new(alloc, config, chosen)?)
+            Kind::OfRows(Rows::new(alloc, config, chosen, None)?)
+        };
+        Ok(Samples { kind })
+    }
+
+    /// The samples of a configuration, of which these lines are read, which may be on analog
+    /// channels. Digital channels alone are read faster by [`Samples::new`].
+    pub fn of_lines(alloc: Global, config: &Config, lines: Lines) -> Result<Samples, AllocError>
+        ensures { IfOk result (λ samples. IsSamplesOf config.now (OfLines lines) samples) }
+    {
+        let kind = if config.tail().form.are_numbers() {
+            Kind::OfMixed(Mixed::new(alloc, config, lines)?)
+        } else {
+            Kind::OfRows(Rows::new(alloc, config, &[], Some(lines))?)
         };
         Ok(Samples { kind })
     }
@@ -62,6 +79,7 @@ impl Samples {
     {
         match &mut self.kind {
             Kind::OfNumbers(numbers) => numbers.read(bytes),
+            Kind::OfMixed(mixed) => mixed.read(bytes),
             Kind::OfRows(rows) => rows.read(bytes),
         }
     }
@@ -73,6 +91,13 @@ impl Samples {
     {
         match self.kind {
             Kind::OfNumbers(numbers) => match numbers.end() {
+                Ok(time_ns) => Ok(End {
+                    levels: None,
+                    time_ns,
+                }),
+                Err(fault) => Err(DataFault::Refused(fault)),
+            },
+            Kind::OfMixed(mixed) => match mixed.end() {
                 Ok(time_ns) => Ok(End {
                     levels: None,
                     time_ns,

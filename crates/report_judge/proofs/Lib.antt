@@ -3,3 +3,4 @@ pub mod PartLaws
 pub mod TableLaws
 pub mod RecordLaws
 pub mod HearingLaws
+pub mod SingleLaws

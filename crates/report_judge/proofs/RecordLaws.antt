@@ -1,6 +1,7 @@
 -- What is read of a disturbance record, piece by piece.
-use Rattle.std.proofs.Common.{◌≡◌, ◌≤◌, ℕ, List, [], ◌∷◌, ◌++◌, take, drop, length, Option, Some, None, Result, Ok, Err, IfSome, inl, inr, refl, append_assoc, sym, ap, ◌∙◌, subst}
-use Rattle.std.specs.Prelude.{is_some, string_bytes}
+use Rattle.std.proofs.Common.{◌≡◌, ◌≤◌, ◌<◌, ℕ, zero, suc, All, Bool, true, false, List, [], ◌∷◌, ◌++◌, take, drop, length, Option, Some, None, Result, Ok, Err, IfSome, inl, inr, refl, append_assoc, sym, ap, ◌∙◌, subst, arith}
+use Rattle.std.specs.Prelude.{◌&&◌, is_some, nat_lt, string_bytes}
+use Rattle.std.proofs.lemmas.Bool.{ltb-true}
 use Rattle.std.specs.Global.{Vec}
 use Rattle.std.specs.Io.KnownBytes.{Consumes}
 use Rattle.std.proofs.lemmas.List.{append-nil, take-append-drop}
@@ -19,7 +20,7 @@ use Rattle.record_comtrade.specs.Data.{FaultSays, said}
 use Rattle.record_samples.specs.declared.samples.End.{End}
 use Rattle.record_samples.specs.Readers.{IsEnd, Leads, to_come}
 use Rattle.record_samples.specs.Order.{AreLater}
-use Rattle.record_samples.specs.Records.{samples_say}
+use Rattle.record_samples.specs.Records.{Chosen, samples_say}
 use Rattle.record_samples.proofs.OrderLaws.{in-order}
 use Rattle.record_lines.specs.declared.second.RecordedSecond.{RecordedSecond}
 use Rattle.record_verdict.specs.Verdicts.{IsVerdictOf, first_agreed}
@@ -34,7 +35,7 @@ use Rattle.report_judge.specs.declared.record.Record.{Record}
 use Rattle.report_judge.specs.Channels.{channel_bytes, places_named, texts_of}
 use Rattle.report_judge.specs.Faults.{of_config, of_samples}
 use Rattle.report_judge.specs.Hearings.{EndsOn, HasHeard, HearsOn, IsVerdictText, last_time}
-use Rattle.report_judge.specs.Records.{AreLevels, ConfigRefused, HasReadSamples, JudgedRecord, JudgedSamples, RecordRefused, SamplesRefused, SamplesRefusedFrom, SamplesSay, TextRefused, configured, digital_names, digital_places, levels_in, said_beside}
+use Rattle.report_judge.specs.Records.{AreLevels, ConfigRefused, HasReadSamples, JudgedRecord, JudgedSamples, RecordRefused, SamplesRefused, SamplesRefusedFrom, SamplesSay, TextRefused, are_digital, chosen_by, configured, levels_in, record_names, record_places, said_beside}
 use Rattle.report_judge.proofs.HearingLaws.{hears_more, shows_verdict}
 
 -- of a device that had `old` left, and has `new` left, bytes of which this holds were read in so many pieces
@@ -62,10 +63,22 @@ config-refused reader text (config.Refused fault) h fits = config-whole reader t
 
 -- ---- channels
 
--- digital channels are chosen by their names
-pub digital-by-name : (names : Option (List ℕ)) (config : ConfigValue) (all : List (Vec ℕ)) (found : Result (List ℕ) ChannelFault)
-    → texts_of all ≡ digital_names config → places_named (texts_of all) names ≡ found → digital_places names config ≡ found
-digital-by-name names config all found same is = ap (λ l. places_named l names) (sym same) ∙ is
+-- channels are chosen by their names
+pub channels-by-name : (asked : Asked) (config : ConfigValue) (all : List (Vec ℕ)) (found : Result (List ℕ) ChannelFault)
+    → texts_of all ≡ record_names (channel_bytes asked.channels) config → places_named (texts_of all) (channel_bytes asked.channels) ≡ found
+    → record_places asked config ≡ found
+channels-by-name asked config all found same is = ap (λ l. places_named l (channel_bytes asked.channels)) (sym same) ∙ is
+
+both : (b c : Bool) → (b && c) ≡ true → (b ≡ true) × (c ≡ true)
+both true c e = (refl, e)
+both false c e = absurd (let p : false ≡ true = e in cc)
+
+-- where all places are of digital channels, each is
+pub all_digital : (digitals : ℕ) (places : List ℕ) → are_digital digitals places ≡ true → All (λ place. place < digitals) places
+all_digital digitals [] e k d h = absurd (omega (arith, h))
+all_digital digitals (place ∷ places) e zero d h = ltb-true place digitals (both (nat_lt place digitals) (are_digital digitals places) e).0
+all_digital digitals (place ∷ places) e (suc k) d h =
+    all_digital digitals places (both (nat_lt place digitals) (are_digital digitals places) e).1 k d (omega (arith, h))
 
 -- ---- the order of levels
 
@@ -79,9 +92,9 @@ no-sooner before (Refused fault ∷ others) levels rest are order = absurd are
 no-sooner before (Ends time ∷ others) levels rest are order = absurd are
 
 -- all that samples say of lines is in order
-said-in-order : (names : Option (List ℕ)) (config : ConfigValue) (bytes : List ℕ) (places : List ℕ) (all : List Said)
-    → SamplesSay names config bytes places all → AreLater 0 all
-said-in-order names config bytes places all h = subst (AreLater 0) h.says (in-order config places bytes)
+said-in-order : (asked : Asked) (config : ConfigValue) (bytes : List ℕ) (places : List ℕ) (all : List Said)
+    → SamplesSay asked config bytes places all → AreLater 0 all
+said-in-order asked config bytes places all h = subst (AreLater 0) h.says (in-order config h.channels bytes)
 
 -- ---- samples
 
@@ -116,29 +129,29 @@ module _ (asked : Asked) (lines : ℕ) (others rest : List Said) (are : AreLevel
       (hears_more asked lines (levels_in [] others) levels old new has (some levels refl) (no-sooner [] others levels rest are order) form)
 
 -- what is said may be said in another way
-says-so : (names : Option (List ℕ)) (config : ConfigValue) (one other : List ℕ) (places : List ℕ) (all same : List Said)
-    → one ≡ other → all ≡ same → SamplesSay names config one places all → SamplesSay names config other places same
-says-so names config one other places all same is is_said h =
-    subst (λ s. SamplesSay names config s places same) is (subst (SamplesSay names config one places) is_said h)
+says-so : (asked : Asked) (config : ConfigValue) (one other : List ℕ) (places : List ℕ) (all same : List Said)
+    → one ≡ other → all ≡ same → SamplesSay asked config one places all → SamplesSay asked config other places same
+says-so asked config one other places all same is is_said h =
+    subst (λ s. SamplesSay asked config s places same) is (subst (SamplesSay asked config one places) is_said h)
 
-pub begins-samples : (asked : Asked) (config : ConfigValue) (reader : Record) (places : List ℕ)
-    → value_of reader.config ≡ config → digital_places (channel_bytes asked.channels) config ≡ Ok places
-    → ((more : List ℕ) → to_come reader.samples more ≡ samples_say places more config)
+pub begins-samples : (asked : Asked) (config : ConfigValue) (reader : Record) (places : List ℕ) (channels : Chosen)
+    → value_of reader.config ≡ config → record_places asked config ≡ Ok places → chosen_by asked.threshold config places ≡ Ok channels
+    → ((more : List ℕ) → to_come reader.samples more ≡ samples_say channels more config)
     → HasHeard asked (length places) [] reader.hearing
     → HasReadSamples asked config [] reader
-begins-samples asked config reader places is chosen says heard = record {
+begins-samples asked config reader places channels is judged chosen says heard = record {
   is = is;
   places = places;
   said = [];
-  says = λ more. record { chosen = chosen; says = sym (says more) };
+  says = λ more. record { judged = judged; channels = channels; chosen = chosen; says = sym (says more) };
   levels = tt;
   heard = heard;
 }
 
 -- samples were read, and the levels that they say were heard
 module _ (asked : Asked) (config : ConfigValue) (bytes taken : List ℕ) (old new : Record) (levels : Option Levels) (h : HasReadSamples asked config bytes old) (led : Leads old.samples taken levels new.samples) where
-  says-more : (more : List ℕ) → SamplesSay (channel_bytes asked.channels) config ((bytes ++ taken) ++ more) h.places (h.said ++ (said levels ++ to_come new.samples more))
-  says-more more = says-so (channel_bytes asked.channels) config (bytes ++ (taken ++ more)) ((bytes ++ taken) ++ more) h.places _ _
+  says-more : (more : List ℕ) → SamplesSay asked config ((bytes ++ taken) ++ more) h.places (h.said ++ (said levels ++ to_come new.samples more))
+  says-more more = says-so asked config (bytes ++ (taken ++ more)) ((bytes ++ taken) ++ more) h.places _ _
       (sym (append_assoc bytes taken more)) (ap (λ l. h.said ++ l) (led more)) (h.says (taken ++ more))
 
   reads-samples : new.config ≡ old.config → ((heard : Levels) → levels ≡ Some heard → HearsOn old.hearing new.hearing heard) → (levels ≡ None → new.hearing ≡ old.hearing) → new.hearing.as_json ≡ old.hearing.as_json
@@ -147,11 +160,11 @@ module _ (asked : Asked) (config : ConfigValue) (bytes taken : List ℕ) (old ne
     is = ap value_of same ∙ h.is;
     places = h.places;
     said = h.said ++ said levels;
-    says = λ more. says-so (channel_bytes asked.channels) config ((bytes ++ taken) ++ more) ((bytes ++ taken) ++ more) h.places _ _
+    says = λ more. says-so asked config ((bytes ++ taken) ++ more) ((bytes ++ taken) ++ more) h.places _ _
         refl (sym (append_assoc h.said (said levels) (to_come new.samples more))) (says-more more);
     levels = levels-by asked (length h.places) h.said (to_come new.samples []) h.levels levels;
     heard = hears-by asked (length h.places) h.said (to_come new.samples []) h.levels levels old.hearing new.hearing h.heard
-        (said-in-order (channel_bytes asked.channels) config ((bytes ++ taken) ++ []) h.places _ (says-more []))
+        (said-in-order asked config ((bytes ++ taken) ++ []) h.places _ (says-more []))
         some none form;
   }
 
@@ -188,13 +201,13 @@ part-whole asked config before old new bytes h part =
 pub part-refuses : (asked : Asked) (config : ConfigValue) (before : List ℕ) (old here : Record) (bytes rest : List ℕ) (fault : DataFault)
     → HasReadSamples asked config before old → ReadsPart old here bytes rest
     → ((more : List ℕ) → FaultSays fault (to_come here.samples (rest ++ more)))
-    → SamplesRefusedFrom (channel_bytes asked.channels) config (before ++ bytes) (of_samples fault)
+    → SamplesRefusedFrom asked config (before ++ bytes) (of_samples fault)
 part-refuses asked config before old here bytes rest samples.Memory h part refuses more = tt
 part-refuses asked config before old here bytes rest (samples.Refused fault) h part refuses more =
     let on = part.reads asked config before h in (
       on.places,
       on.said,
-      says-so (channel_bytes asked.channels) config ((before ++ part.front) ++ (rest ++ more)) ((before ++ bytes) ++ more) on.places _ _
+      says-so asked config ((before ++ part.front) ++ (rest ++ more)) ((before ++ bytes) ++ more) on.places _ _
           (sym (append_assoc (before ++ part.front) rest more) ∙ ap (λ t. t ++ more) (append_assoc before part.front rest ∙ ap (λ b. before ++ b) part.whole))
           (ap (λ l. on.said ++ l) (refuses more)) (on.says (rest ++ more)),
     )
@@ -213,24 +226,24 @@ pub ends-samples : (asked : Asked) (config : ConfigValue) (bytes : List ℕ) (re
     → ((n : ℕ) (seconds : List RecordedSecond) → IsVerdictOf ended.verdict n seconds → judged.is_decided ≡ is_some (first_agreed seconds))
     → JudgedSamples asked config bytes judged
 ends-samples asked config bytes reader end heard ended judged h ends some none form ends_on form_at_end shown decided =
-    let says = says-so (channel_bytes asked.channels) config (bytes ++ []) bytes h.places _ _ (append-nil bytes) (ap (λ l. h.said ++ l) ends) (h.says []) in
+    let says = says-so asked config (bytes ++ []) bytes h.places _ _ (append-nil bytes) (ap (λ l. h.said ++ l) ends) (h.says []) in
     let has = hears-by asked (length h.places) h.said (Ends end.time_ns ∷ []) h.levels end.levels reader.hearing heard h.heard
-    (said-in-order (channel_bytes asked.channels) config bytes h.places _ says) some none form in
+    (said-in-order asked config bytes h.places _ says) some none form in
     record {
       places = h.places;
       said = h.said ++ said end.levels;
       end = end.time_ns;
-      says = says-so (channel_bytes asked.channels) config bytes bytes h.places _ _ refl (sym (append_assoc h.said (said end.levels) (Ends end.time_ns ∷ []))) says;
+      says = says-so asked config bytes bytes h.places _ _ refl (sym (append_assoc h.said (said end.levels) (Ends end.time_ns ∷ []))) says;
       verdict = shows_verdict (said_beside asked config) asked (length h.places) (levels_in [] (h.said ++ said end.levels)) heard ended judged has ends_on form_at_end shown decided;
     }
 
 pub refused-at-last : (asked : Asked) (config : ConfigValue) (bytes : List ℕ) (reader : Record) (fault : DataFault)
-    → HasReadSamples asked config bytes reader → IsEnd (Err fault) (to_come reader.samples []) → SamplesRefused (channel_bytes asked.channels) config bytes (of_samples fault)
+    → HasReadSamples asked config bytes reader → IsEnd (Err fault) (to_come reader.samples []) → SamplesRefused asked config bytes (of_samples fault)
 refused-at-last asked config bytes reader samples.Memory h refuses = tt
 refused-at-last asked config bytes reader (samples.Refused fault) h refuses = (
   h.places,
   h.said ++ said refuses.0,
-  says-so (channel_bytes asked.channels) config (bytes ++ []) bytes h.places _ _ (append-nil bytes)
+  says-so asked config (bytes ++ []) bytes h.places _ _ (append-nil bytes)
       (ap (λ l. h.said ++ l) refuses.1 ∙ sym (append_assoc h.said (said refuses.0) (Refused fault ∷ []))) (h.says []),
 )
 
@@ -258,23 +271,23 @@ no-read-samples (samples.Refused fault) e = absurd cc
 -- ---- of two devices
 
 -- what is refused by a front is refused by all
-pub samples-known : (names : Option (List ℕ)) (config : ConfigValue) (old new : Option (List ℕ)) (bytes : List ℕ) (fault : JudgeFault)
-    → Consumes old new bytes → SamplesRefusedFrom names config bytes fault → IfSome old (λ all. SamplesRefused names config all fault)
-samples-known names config None new bytes fault took refused = tt
-samples-known names config (Some all) None bytes fault took refused = absurd took
-samples-known names config (Some all) (Some left) bytes fault took refused =
-    subst (λ s. SamplesRefused names config s fault) (sym took) (refused left)
+pub samples-known : (asked : Asked) (config : ConfigValue) (old new : Option (List ℕ)) (bytes : List ℕ) (fault : JudgeFault)
+    → Consumes old new bytes → SamplesRefusedFrom asked config bytes fault → IfSome old (λ all. SamplesRefused asked config all fault)
+samples-known asked config None new bytes fault took refused = tt
+samples-known asked config (Some all) None bytes fault took refused = absurd took
+samples-known asked config (Some all) (Some left) bytes fault took refused =
+    subst (λ s. SamplesRefused asked config s fault) (sym took) (refused left)
 
-pub by-config : (names : Option (List ℕ)) (config : ConfigValue) (text bytes : Option (List ℕ)) (fault : JudgeFault)
-    → IfSome text (λ t. configured t ≡ Ok config) → ConfigRefused names config fault → RecordRefused names text bytes fault
-by-config names config None bytes fault is refused = inl tt
-by-config names config (Some t) bytes fault is refused = inr (inl (config, is, refused))
+pub by-config : (asked : Asked) (config : ConfigValue) (text bytes : Option (List ℕ)) (fault : JudgeFault)
+    → IfSome text (λ t. configured t ≡ Ok config) → ConfigRefused asked config fault → RecordRefused asked text bytes fault
+by-config asked config None bytes fault is refused = inl tt
+by-config asked config (Some t) bytes fault is refused = inr (inl (config, is, refused))
 
-pub by-samples : (names : Option (List ℕ)) (config : ConfigValue) (text bytes : Option (List ℕ)) (fault : JudgeFault)
-    → IfSome text (λ t. configured t ≡ Ok config) → IfSome bytes (λ s. SamplesRefused names config s fault) → RecordRefused names text bytes fault
-by-samples names config None bytes fault is refused = inl tt
-by-samples names config (Some t) None fault is refused = inr (inr tt)
-by-samples names config (Some t) (Some s) fault is refused = inr (inr (config, is, refused))
+pub by-samples : (asked : Asked) (config : ConfigValue) (text bytes : Option (List ℕ)) (fault : JudgeFault)
+    → IfSome text (λ t. configured t ≡ Ok config) → IfSome bytes (λ s. SamplesRefused asked config s fault) → RecordRefused asked text bytes fault
+by-samples asked config None bytes fault is refused = inl tt
+by-samples asked config (Some t) None fault is refused = inr (inr tt)
+by-samples asked config (Some t) (Some s) fault is refused = inr (inr (config, is, refused))
 
 pub judged-both : (asked : Asked) (config : ConfigValue) (text bytes : Option (List ℕ)) (judged : Judged)
     → IfSome text (λ t. configured t ≡ Ok config) → IfSome bytes (λ s. JudgedSamples asked config s judged)

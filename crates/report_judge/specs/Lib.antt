@@ -6,3 +6,4 @@ pub mod Hearings
 pub mod Records
 pub mod Stamps
 pub mod Tables
+pub mod Singles

@@ -2,7 +2,7 @@
 
 ghost use Rattle.std.specs.Prelude.{◌≡◌};
 ghost use Rattle.report_judge.specs.declared.fault.JudgeFault.TheVariants.{Dump, Memory, Read, Table};
-ghost use Rattle.report_judge.specs.Faults.{of_config, of_head, of_samples, of_title};
+ghost use Rattle.report_judge.specs.Faults.{of_config, of_head, of_samples, of_single, of_title};
 
 use crate::channels::ChannelFault;
 use irig_device::DeviceFault;
@@ -31,11 +31,18 @@ pub enum JudgeFault {
     Table(record_table::Fault),
     /// A line of the configuration of a disturbance record is at fault.
     Config(record_comtrade::Fault),
-    /// The digital channels that are asked for can't be judged. The text has the names that are
+    /// The channels of a record that are asked for can't be judged. The text has the names that are
     /// there.
     Digitals(ChannelFault, String),
+    /// The analog channel at this place among them, from 0, is asked for, and has no threshold. The
+    /// texts are its name and its unit.
+    NoThreshold(usize, String, String),
     /// A sample of a record is at fault, or the samples end too early.
     Sample(SampleFault),
+    /// It is a single file of a disturbance record, and no section of it has samples.
+    NoSamples,
+    /// It is a single file, and a line above its samples is longer than 67,108,864 bytes.
+    LongLine,
     /// It has 2^64 bytes or more.
     Endless,
     /// It can't be read to its end; of a record its configuration can't.
@@ -107,6 +114,17 @@ impl From<ConfigFault> for JudgeFault {
         match fault {
             ConfigFault::Memory => JudgeFault::Memory,
             ConfigFault::Refused(fault) => JudgeFault::Config(fault),
+        }
+    }
+}
+
+impl From<record_single::HeadFault> for JudgeFault {
+    ghost from_gives = { λ single fault. fault ≡ of_single single };
+
+    fn from(fault: record_single::HeadFault) -> JudgeFault {
+        match fault {
+            record_single::HeadFault::Memory => JudgeFault::Memory,
+            record_single::HeadFault::Long => JudgeFault::LongLine,
         }
     }
 }

@@ -2,8 +2,8 @@
 //!
 //! [`judge`] reads a recording from a device in pieces, in memory that does not grow with it, and
 //! answers its verdict, or why it is refused. [`Reading`] is the same for bytes that come by
-//! themselves, and [`judge_record`] reads a disturbance record from two devices, and judges its
-//! stamp too.
+//! themselves, [`judge_record`] reads a disturbance record from two devices, and judges its stamp
+//! too, and [`judge_single`] reads one that is a single file.
 #![tactic(auto)]
 
 mod asked;
@@ -14,6 +14,7 @@ mod names;
 mod reading;
 mod record;
 mod run;
+mod single;
 mod stamp;
 mod table;
 
@@ -25,3 +26,4 @@ pub use names::push_name;
 pub use reading::Reading;
 pub use record::judge_record;
 pub use run::judge;
+pub use single::judge_single;

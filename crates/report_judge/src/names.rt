@@ -5,7 +5,7 @@ ghost use Rattle.record_comtrade.specs.Reads.{value_of};
 ghost use Rattle.record_table.specs.Titles.{bytes_of};
 ghost use Rattle.record_vcd.specs.Sections.{wires_of};
 ghost use Rattle.report_judge.specs.Channels.{names_of, texts_of};
-ghost use Rattle.report_judge.specs.Records.{digital_names, name_or_number};
+ghost use Rattle.report_judge.specs.Records.{channel_names, digital_names, name_or_number};
 
 use record_comtrade::Config;
 use record_table::Name;
@@ -48,28 +48,44 @@ pub(crate) fn digital_names(alloc: Global, config: &Config) -> Result<Vec<Vec<u8
 {
     let mut names = Vec::new(alloc);
     for place in 0..config.counts().digitals as usize {
-        keep_digital(alloc, &mut names, place, config.digital_name(place))?;
+        keep_named(alloc, &mut names, "D", place, config.digital_name(place))?;
     }
     Ok(names)
 }
 
-// Adds the name of the digital channel at a place.
-fn keep_digital(
+/// The names of all channels of a record, digital ones first: A and its number, from 1, where an
+/// analog channel has none.
+pub(crate) fn channel_names(alloc: Global, config: &Config) -> Result<Vec<Vec<u8>>, AllocError>
+    ensures names { IfOk result (λ names.
+        texts_of names.items ≡ channel_names (value_of config.now)) }
+    ensures many { IfOk result (λ names.
+        length names.items ≡ config.now.counts.digitals + config.now.counts.analogs) }
+{
+    let mut names = digital_names(alloc, config)?;
+    for place in 0..config.counts().analogs as usize {
+        keep_named(alloc, &mut names, "A", place, config.analog_field(place, 1))?;
+    }
+    Ok(names)
+}
+
+// Adds the name of the channel at a place, or this letter and its number.
+fn keep_named(
     alloc: Global,
     names: &mut Vec<Vec<u8>>,
+    letter: &str,
     place: usize,
     name: &[u8],
 ) -> Result<(), AllocError>
     requires { place ≤ 1999998 }
     ensures names { IfOk result (λ _. texts_of names.new.items
-        ≡ texts_of names.old.items ++ name_or_number place name.now ∷ []) }
+        ≡ texts_of names.old.items ++ name_or_number letter.now place name.now ∷ []) }
     ensures many { IfOk result (λ _. length names.new.items ≡ length names.old.items + 1) }
 {
     if !name.is_empty() {
         return keep(alloc, names, name);
     }
     let number = place + 1;
-    let name = format!(in alloc; "D{number}")?;
+    let name = format!(in alloc; "{letter}{number}")?;
     keep(alloc, names, name.as_str().as_bytes())
 }
 

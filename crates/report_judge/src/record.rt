@@ -1,25 +1,27 @@
 //! A disturbance record is read from its two devices, and judged.
 
-ghost use Rattle.std.specs.Prelude.{◌≡◌, ◌≢◌, ◌↔◌, ◌++◌, [], List, ℕ, Err, IfErr, IfOk, IfSome, Ok, false, true};
+ghost use Rattle.std.specs.Prelude.{◌≡◌, ◌≢◌, ◌↔◌, ◌++◌, ◌<◌, ◌≤◌, [], All, List, ℕ, Err, IfErr, IfOk, IfSome, IsTrue, Ok, false, length, true};
 ghost use Rattle.std.specs.Io.KnownBytes.{IsAtEnd};
 ghost use Rattle.irig_device.specs.Watched.{device_of, has_failed};
 ghost use Rattle.record_comtrade.specs.Configs.{ConfigValue};
 ghost use Rattle.record_comtrade.specs.Reads.{value_of};
 ghost use Rattle.record_stamp.specs.Codes.{IsZoneOf};
 ghost use Rattle.report_judge.specs.declared.asked.Asked.{Asked as AskedOf};
-ghost use Rattle.report_judge.specs.Channels.{channel_bytes};
-ghost use Rattle.report_judge.specs.Records.{ConfigRefused, HasReadSamples, JudgedRecord, JudgedSamples, RecordRefused, SamplesRefused, SamplesRefusedFrom, TextRefused, configured};
+ghost use Rattle.record_samples.specs.Records.{Chosen, IsSamplesOf};
+ghost use Rattle.report_judge.specs.Channels.{channel_bytes, texts_of};
+ghost use Rattle.report_judge.specs.Records.{ConfigRefused, HasReadSamples, IsNoSamples, JudgedRecord, JudgedSamples, OfThreshold, RecordRefused, are_digital, chosen_by, record_names, SamplesRefused, SamplesRefusedFrom, TextRefused, configured};
 
 use crate::asked::Asked;
 use crate::channels::places_named;
 use crate::fault::JudgeFault;
 use crate::hearing::{Hearing, Judged};
-use crate::names::{digital_names, listed, names_at};
+use crate::names::{channel_names, digital_names, listed, names_at, push_name};
 use crate::stamp::said_of_stamp;
 use irig_device::Watched;
+use record_cells::Threshold;
 use record_comtrade::{Config, ConfigText};
-use record_samples::Samples;
-use std::alloc::Global;
+use record_samples::{LineFault, Lines, Samples};
+use std::alloc::{AllocError, Global};
 use std::io::Read;
 
 // How many bytes of a configuration are read at once at most.
@@ -30,7 +32,7 @@ const SAMPLES_PIECE: usize = 16_384;
 
 // A record whose samples are read.
 #[derive(Drop)]
-struct Record {
+pub(crate) struct Record {
     names: Vec<Vec<u8>>,
     config: Config,
     samples: Samples,
@@ -60,7 +62,7 @@ pub fn judge_record<C: Read, D: Read>(
     ensures data_end { IfOk result (λ _. IfSome (D.remaining (device_of data.old))
         (λ _. IsAtEnd (D.remaining (device_of data.new)))) }
     ensures refused { IfErr result (λ fault. fault ≢ JudgeFault.Read
-        → fault ≢ JudgeFault.ReadSamples → RecordRefused (channel_bytes asked.now.channels)
+        → fault ≢ JudgeFault.ReadSamples → RecordRefused asked.now
         (C.remaining (device_of config.old)) (D.remaining (device_of data.old)) fault) }
     ensures read { (result ≡ Err JudgeFault.Read) ↔ (has_failed config.new ≡ true) }
     ensures read_samples { (result ≡ Err JudgeFault.ReadSamples) ↔ (has_failed data.new ≡ true) }
@@ -98,17 +100,93 @@ fn read_config<I: Read>(alloc: Global, input: &mut Watched<I>) -> Result<Config,
     Err(JudgeFault::Endless)
 }
 
+// The names of the channels among which these names choose; of the digital ones without such.
+fn record_names(
+    alloc: Global,
+    config: &Config,
+    channels: Option<&str>,
+) -> Result<Vec<Vec<u8>>, AllocError>
+    ensures { IfOk result (λ names. texts_of names.items
+        ≡ record_names (channel_bytes channels.entry) (value_of config.now)) }
+{
+    match channels {
+        Some(_) => channel_names(alloc, config),
+        None => digital_names(alloc, config),
+    }
+}
+
+// The samples of a configuration, of which the channels at these places are read.
+#[tactic(auto, using(crate::proofs::RecordLaws::all_digital))]
+fn samples_of(
+    alloc: Global,
+    config: &Config,
+    places: &[usize],
+    threshold: Option<Threshold>,
+) -> Result<Samples, JudgeFault>
+    requires { length places.now ≤ 5 }
+    ensures reads { IfOk result (λ samples. (chosen : Chosen) × (chosen_by threshold
+        (value_of config.now) places.now ≡ Ok chosen) × IsSamplesOf config.now chosen samples) }
+    ensures refuses { IfErr result
+        (IsNoSamples threshold (value_of config.now) places.now) }
+    ensures config_device { result ≢ Err JudgeFault.Read }
+    ensures data_device { result ≢ Err JudgeFault.ReadSamples }
+{
+    if are_digital(config.counts().digitals, places) {
+        let samples = Samples::new(alloc, config, places)?;
+        return Ok(samples);
+    }
+    match Lines::of(config, places, threshold) {
+        Ok(lines) => {
+            let samples = Samples::of_lines(alloc, config, lines)?;
+            Ok(samples)
+        }
+        Err(LineFault::Config(fault)) => Err(JudgeFault::Config(fault)),
+        Err(LineFault::NoThreshold(place)) => {
+            let fault = no_threshold(alloc, config, place)?;
+            Err(fault)
+        }
+    }
+}
+
+// That an analog channel has none.
+fn no_threshold(alloc: Global, config: &Config, place: usize) -> Result<JudgeFault, AllocError>
+    ensures { IfOk result (OfThreshold place) }
+{
+    let mut name = String::new(alloc);
+    let mut unit = String::new(alloc);
+    if place < config.counts().analogs as usize {
+        push_name(&mut name, config.analog_field(place, 1))?;
+        push_name(&mut unit, config.analog_field(place, 4))?;
+    }
+    Ok(JudgeFault::NoThreshold(place, name, unit))
+}
+
+fn are_digital(digitals: u64, places: &[usize]) -> bool
+    ensures { result ≡ are_digital digitals places.now }
+{
+    for &place in places {
+        if place as u64 >= digitals {
+            return false;
+        }
+    }
+    true
+}
+
 impl Record {
     // Of a configuration, before its samples.
-    fn new(alloc: Global, config: Config, asked: &Asked<'_>) -> Result<Record, JudgeFault>
+    pub(crate) fn new(
+        alloc: Global,
+        config: Config,
+        asked: &Asked<'_>,
+    ) -> Result<Record, JudgeFault>
         ensures reads { IfOk result
             (HasReadSamples asked.now (value_of config) []) }
         ensures refuses { IfErr result
-            (ConfigRefused (channel_bytes asked.now.channels) (value_of config)) }
+            (ConfigRefused asked.now (value_of config)) }
         ensures config_device { result ≢ Err JudgeFault.Read }
         ensures data_device { result ≢ Err JudgeFault.ReadSamples }
     {
-        let all = digital_names(alloc, &config)?;
+        let all = record_names(alloc, &config, asked.channels)?;
         let places = match places_named(all.as_slice(), asked.channels) {
             Ok(places) => places,
             Err(fault) => {
@@ -117,7 +195,7 @@ impl Record {
             }
         };
         let names = names_at(alloc, all.as_slice(), places.as_slice())?;
-        let samples = Samples::new(alloc, &config, places.as_slice())?;
+        let samples = samples_of(alloc, &config, places.as_slice(), asked.threshold)?;
         let hearing = Hearing::new(alloc, places.len(), asked)?;
         Ok(Record {
             names,
@@ -138,7 +216,7 @@ impl Record {
         ensures refuses { IfErr result (λ fault. fault ≢ JudgeFault.ReadSamples
             → (asked : AskedOf) (config : ConfigValue) → HasReadSamples asked config [] self.old
             → IfSome (I.remaining (device_of input.old))
-            (λ samples. SamplesRefused (channel_bytes asked.channels) config samples fault)) }
+            (λ samples. SamplesRefused asked config samples fault)) }
         ensures read { (result ≡ Err JudgeFault.ReadSamples) ↔ (has_failed input.new ≡ true) }
         ensures other { result ≢ Err JudgeFault.Read }
     {
@@ -157,13 +235,13 @@ impl Record {
     }
 
     // Some bytes of samples.
-    fn read(&mut self, bytes: &[u8]) -> Result<(), JudgeFault>
+    pub(crate) fn read(&mut self, bytes: &[u8]) -> Result<(), JudgeFault>
         ensures reads { IfOk result (λ _. (asked : AskedOf) (config : ConfigValue)
             (samples : List ℕ) → HasReadSamples asked config samples self.old
             → HasReadSamples asked config (samples ++ bytes.now) self.new) }
         ensures refuses { IfErr result (λ fault. (asked : AskedOf) (config : ConfigValue)
             (samples : List ℕ) → HasReadSamples asked config samples self.old
-            → SamplesRefusedFrom (channel_bytes asked.channels) config
+            → SamplesRefusedFrom asked config
             (samples ++ bytes.now) fault) }
         ensures config_device { result ≢ Err JudgeFault.Read }
         ensures data_device { result ≢ Err JudgeFault.ReadSamples }
@@ -178,14 +256,14 @@ impl Record {
     }
 
     // The samples have ended: the verdict.
-    fn end(self, alloc: Global, asked: &Asked<'_>) -> Result<Judged, JudgeFault>
+    pub(crate) fn end(self, alloc: Global, asked: &Asked<'_>) -> Result<Judged, JudgeFault>
         requires { IsZoneOf asked.now.zone }
         ensures judged { IfOk result (λ judged. (config : ConfigValue) (samples : List ℕ)
             → HasReadSamples asked.now config samples self
             → JudgedSamples asked.now config samples judged) }
         ensures refuses { IfErr result (λ fault. (config : ConfigValue) (samples : List ℕ)
             → HasReadSamples asked.now config samples self
-            → SamplesRefused (channel_bytes asked.now.channels) config samples fault) }
+            → SamplesRefused asked.now config samples fault) }
         ensures config_device { result ≢ Err JudgeFault.Read }
         ensures data_device { result ≢ Err JudgeFault.ReadSamples }
     {

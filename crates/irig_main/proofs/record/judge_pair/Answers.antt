@@ -1,5 +1,4 @@
 use Rattle.std.proofs.Common.{Ok, Err, IfSome, ap, subst, rules}
-use Rattle.report_judge.specs.Channels.{channel_bytes}
 use Rattle.report_judge.specs.Records.{JudgedRecord, RecordRefused}
 use Rattle.irig_device.specs.Watched.{device_of}
 use Rattle.irig_main.proofs.record.judge_pair.Goals as goal
@@ -22,7 +21,7 @@ returns-in-Err-clause-judged g c = record {
   left = g.C.Read.remaining (device_of c.judge_record.new.config);
   rest = g.D.Read.remaining (device_of c.judge_record.new.data);
   result = Err c.in-Err.fault;
-  judged = λ no_config no_samples. subst (λ a. RecordRefused (channel_bytes a.channels) (g.C.Read.remaining (device_of c.args.config.now)) (g.D.Read.remaining (device_of c.args.data.now)) c.in-Err.fault)
+  judged = λ no_config no_samples. subst (λ a. RecordRefused a (g.C.Read.remaining (device_of c.args.config.now)) (g.D.Read.remaining (device_of c.args.data.now)) c.in-Err.fault)
       c.asked_of.ensures (c.in-Err.ensures.refused no_config no_samples);
   shown = (ap (λ f. Err f) c.from.ensures, search rules);
 }

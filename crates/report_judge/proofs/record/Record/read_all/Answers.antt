@@ -3,7 +3,6 @@ use Rattle.std.proofs.lemmas.List.{length-append}
 use Rattle.std.proofs.lemmas.Result.{err_from_is_err_and}
 use Rattle.std.specs.Io.KnownBytes.{Consumes}
 use Rattle.irig_device.specs.Watched.{device_of, has_failed}
-use Rattle.report_judge.specs.Channels.{channel_bytes}
 use Rattle.report_judge.specs.Records.{HasReadSamples}
 use Rattle.report_judge.proofs.ReadingLaws.{ended-known, takes-nothing, takes-on, whole-known}
 use Rattle.report_judge.proofs.RecordLaws.{samples-known}
@@ -37,7 +36,7 @@ pub returns-in_err-read-clause-refuses : goal.returns-in_err-read-clause-refuses
 returns-in_err-read-clause-refuses g c =
     let so_far = c.loop-piece.invariant.1 in
     let p = err_from_is_err_and c.from_residual.result c.from_residual.ensures.1 in
-    rw (p.1, p.2) (λ no asked config h. samples-known (channel_bytes asked.channels) config _ _ (so_far.text ++ c.split_at.result.0.now) c.in_err-read.field-0.0
+    rw (p.1, p.2) (λ no asked config h. samples-known asked config _ _ (so_far.text ++ c.split_at.result.0.now) c.in_err-read.field-0.0
     (takes-on _ (g.I.Read.remaining (device_of c.loop-piece.input)) _ so_far.text c.split_at.result.0.now so_far.took
     (subst (Consumes _ (g.I.Read.remaining (device_of c.read_some.new.self))) (sym c.split_at.ensures.front) c.in-Ok.ensures.taken))
     (c.in_err-read.ensures.refuses asked config so_far.text (so_far.holds asked config h)))

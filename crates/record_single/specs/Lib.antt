@@ -1,0 +1,3 @@
+pub mod Sections
+pub mod Singles
+pub mod Heads
