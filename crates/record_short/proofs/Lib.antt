@@ -1,0 +1,4 @@
+pub mod SeenLaws
+pub mod FitLaws
+pub mod SearchLaws
+pub mod StandardFacts
