@@ -1,6 +1,7 @@
 //! How a recording is judged.
 
 use irig_time::Rules;
+use record_cells::Threshold;
 
 /// How a recording is judged.
 #[derive(Clone, Copy)]
@@ -14,6 +15,8 @@ pub struct Asked<'a> {
     /// By how many minutes the stamp of a record is ahead of UTC, below a day, in place of what the
     /// record says; nothing for that.
     pub zone: Option<i16>,
+    /// Above which voltage a line of a table is high; nothing if the cells of a table are levels.
+    pub threshold: Option<Threshold>,
     /// Whether the verdict is an object of JSON, and else lines for a person.
     pub as_json: bool,
 }
