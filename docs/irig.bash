@@ -6,7 +6,7 @@ declare -gA _irig_options=(
     [run]='--all --ports --help'
     [flatten]='--help'
     [blame]='--recorded= --help'
-    [judge]='--channels= --glitch= --parity= --sense= --sbs= --zone= --json --help'
+    [judge]='--channels= --glitch= --parity= --sense= --sbs= --zone= --threshold= --json --help'
     [frame]='--local= --pending= --dst --quality= --parity= --sense= --help'
     [read]='--parity= --sense= --sbs= --help'
     [explain]='--help'

@@ -10,12 +10,13 @@ use crate::help::{
     RUN_AFTER, USAGE,
 };
 use crate::request::{Judging, NoRequest, Request, Source, Wanted};
-use crate::tip::{fault_with_tip, zone_fault};
+use crate::tip::{fault_with_tip, threshold_fault, zone_fault};
 use clap::builder::ValueParser;
 use clap::error::ErrorKind;
 use clap::{Arg, ArgAction, ArgMatches, Command, Error};
 use irig_control::Parity;
 use irig_time::{Leap, Rules, SbsUse, Sense};
+use record_cells::Threshold;
 use record_stamp::zone_of;
 use scenario_json::{
     LEAP_WORDS, PARITY_WORDS, SBS_USE_WORDS, SENSE_WORDS, leap_named, parity_of, sbs_use_of,
@@ -54,13 +55,18 @@ fn request_of<'a>(alloc: Global, matches: &ArgMatches<'a>) -> Result<Request<'a>
     };
     match request_by(name, asked) {
         Some(request) => Ok(request),
-        None => Err(no_zone(alloc, asked)),
+        None => Err(no_value(alloc, asked)),
     }
 }
 
-// What is said of a zone that is none; `clap` reads all else.
-fn no_zone(alloc: Global, matches: &ArgMatches<'_>) -> NoRequest {
-    match zone_fault(alloc, value(matches, "zone")) {
+// What is said of a zone that is none, or else of a threshold; `clap` reads all else.
+fn no_value(alloc: Global, matches: &ArgMatches<'_>) -> NoRequest {
+    let said = if zone_in(matches).is_none() {
+        zone_fault(alloc, value(matches, "zone"))
+    } else {
+        threshold_fault(alloc, value(matches, "threshold"))
+    };
+    match said {
         Ok(text) => NoRequest::Fault(text),
         Err(_) => NoRequest::Memory,
     }
@@ -131,6 +137,7 @@ fn judging_of<'a>(matches: &ArgMatches<'a>) -> Option<Judging<'a>>
         glitch_us: glitch(matches),
         rules: rules_of(matches)?,
         zone: zone_in(matches)?,
+        threshold: threshold_in(matches)?,
         as_json: matches.get_flag("json"),
     })
 }
@@ -142,6 +149,17 @@ fn zone_in(matches: &ArgMatches<'_>) -> Option<Option<i16>>
     match matches.get_str("zone") {
         Some(text) => match zone_of(text.as_bytes()) {
             Some(minutes) => Some(Some(minutes)),
+            None => None,
+        },
+        None => Some(None),
+    }
+}
+
+// The same of a threshold.
+fn threshold_in(matches: &ArgMatches<'_>) -> Option<Option<Threshold>> {
+    match matches.get_str("threshold") {
+        Some(text) => match Threshold::of(text.as_bytes()) {
+            Some(threshold) => Some(Some(threshold)),
             None => None,
         },
         None => Some(None),
@@ -342,6 +360,7 @@ fn judge_command<'a>(alloc: Global) -> Result<Command<'a>, AllocError> {
         .arg(sense_option(alloc))?
         .arg(sbs_option(alloc))?
         .arg(zone_option(alloc))?
+        .arg(threshold_option(alloc))?
         .arg(json_option(alloc))
 }
 
@@ -349,6 +368,15 @@ fn zone_option<'a>(alloc: Global) -> Arg<'a> {
     Arg::new(alloc, "zone").long("zone").value_name("ZONE").help(
         "By how much the stamp of a record is ahead of UTC, as --zone=1 or --zone=-5h30, whatever it names",
     )
+}
+
+fn threshold_option<'a>(alloc: Global) -> Arg<'a> {
+    Arg::new(alloc, "threshold")
+        .long("threshold")
+        .value_name("VOLTS")
+        .help(
+            "Of a table of volts: above how many a line is high, as --threshold=1.5 or --threshold=-2e-3",
+        )
 }
 
 fn json_option<'a>(alloc: Global) -> Arg<'a> {

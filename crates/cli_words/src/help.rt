@@ -106,7 +106,9 @@ That a line differs is no proof that it is wrong: nobody knows more of a recordi
 lines never agree, the first line says undecided. A frame that has a time quality of 8 or more has no vote.
 
 FILE is a value change dump, or else a table: a line of names, and rows with commas of a time in the first column and
-of levels, 0 or 1. In place of times a remark may say the rate, as ; Samplerate: 1 MHz.
+of levels, 0 or 1. In place of times a remark may say the rate, as ; Samplerate: 1 MHz. With --threshold the other
+columns are volts: a line is high above so many, and keeps its level within a tenth of the most that it was ever off
+the threshold. In a dump or a record a threshold changes nothing.
 
 If FILE ends with .cfg, it is the configuration of a disturbance record (COMTRADE), whose samples are in the .dat of
 the same name beside it. Its lines are digital channels. The verdict then begins with how far the record's stamp is

@@ -1,6 +1,7 @@
 //! What the words of a command line ask for.
 
 use irig_time::Rules;
+use record_cells::Threshold;
 use text_frame::FrameOptions;
 
 /// What is written of a scenario.
@@ -43,6 +44,8 @@ pub struct Judging<'a> {
     /// By how many minutes the stamp of a record is ahead of UTC, below a day; nothing for what it
     /// says.
     pub zone: Option<i16>,
+    /// Above which voltage a line is high; nothing for cells that are levels.
+    pub threshold: Option<Threshold>,
     /// Whether the verdict is an object of JSON, and else lines for a person.
     pub as_json: bool,
 }

@@ -68,7 +68,7 @@ fn tip_for_option(words: &[&str]) -> &'static str {
         Some(&"read") => "\n\n  tip: the options of read are --parity, --sense and --sbs",
         Some(&"blame") => "\n\n  tip: the option of blame is --recorded",
         Some(&"judge") => {
-            "\n\n  tip: the options of judge are --channels, --glitch, --parity, --sense, --sbs, --zone and --json"
+            "\n\n  tip: the options of judge are --channels, --glitch, --parity, --sense, --sbs, --zone, --threshold and --json"
         }
         Some(&"flatten" | &"explain") => "\n\n  tip: this command has no options",
         _ => {
@@ -100,7 +100,7 @@ fn is_path(word: &str) -> bool {
 fn negative<'a>(words: &[&'a str]) -> Option<(&'a str, &'a str)> {
     for pair in words.windows(2) {
         if let [option, number] = pair
-            && (*option == "--local" || *option == "--zone")
+            && (*option == "--local" || *option == "--zone" || *option == "--threshold")
             && number.starts_with('-')
         {
             return Some((option, number));
@@ -113,5 +113,12 @@ fn negative<'a>(words: &[&'a str]) -> Option<(&'a str, &'a str)> {
 pub(crate) fn zone_fault(alloc: Global, zone: &str) -> Result<String, AllocError> {
     format!(in alloc;
         "error: invalid value '{zone}' for '--zone <ZONE>'\n\n  tip: a zone is hours ahead of UTC, and maybe minutes: --zone=1, --zone=-5h30\n\nFor more information, try '--help'."
+    )
+}
+
+/// The text of a fault: a threshold that is none.
+pub(crate) fn threshold_fault(alloc: Global, threshold: &str) -> Result<String, AllocError> {
+    format!(in alloc;
+        "error: invalid value '{threshold}' for '--threshold <VOLTS>'\n\n  tip: a threshold is a decimal number less than 1,000,000,000 off 0: --threshold=1.5, --threshold=-2e-3\n\nFor more information, try '--help'."
     )
 }

@@ -119,6 +119,7 @@ asked_of asked = record {
   glitch_us = asked.glitch_us;
   rules = asked.rules;
   zone = asked.zone;
+  threshold = asked.threshold;
   as_json = asked.as_json;
 }
 
@@ -127,7 +128,7 @@ abbrev pub JudgedRecording : Asked → Result Judged JudgeFault → Bytes → By
 JudgedRecording asked (Ok judged) input left =
     IfSome input (λ text. JudgedWhole asked text judged) × IfSome input (λ text. IsAtEnd left)
 JudgedRecording asked (Err f) input left =
-    f ≢ judging.Read → IfSome input (λ text. RefusedBy (channel_bytes asked.channels) text f)
+    f ≢ judging.Read → IfSome input (λ text. RefusedBy asked text f)
 
 -- a recording was judged, or why it was not is the answer, and then nothing is written
 abbrev pub ShowsJudging : Result Judged JudgeFault → Answer → Bytes → Bytes → Type 0

@@ -113,7 +113,7 @@ fn recording_text(
     judging: Judging<'_>,
     source: Source<'_>,
 ) -> Result<String, AllocError> {
-    let reason = why_refused_recording(alloc, why, judging.channels)?;
+    let reason = why_refused_recording(alloc, why, judging)?;
     let name = name_of(source);
     format!(in alloc; "{name}: {reason}")
 }

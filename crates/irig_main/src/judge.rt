@@ -52,6 +52,7 @@ pub(crate) fn asked_of<'a>(judging: Judging<'a>) -> Asked<'a>
         glitch_us: judging.glitch_us,
         rules: judging.rules,
         zone: judging.zone,
+        threshold: judging.threshold,
         as_json: judging.as_json,
     }
 }

@@ -1,5 +1,6 @@
 //! Why a recording is refused, in words.
 
+use cli_words::Judging;
 use record_comtrade::{Field, Reason as SampleReason, RowFault, RowField, SampleFault};
 use record_levels::TimeFault;
 use record_table::{HeadReason, HeadRefusal, Reason as RowReason};
@@ -8,43 +9,31 @@ use record_vcd::{Fault, HeadFault, Reason};
 use report_judge::{ChannelFault, JudgeFault, push_name};
 use std::alloc::{AllocError, Global};
 
-/// Why a recording is refused, in a line, where the lines that were asked for have these names.
+/// Why a recording that was to be judged so is refused, in a line.
 pub(crate) fn why_refused(
     alloc: Global,
     fault: &JudgeFault,
-    channels: Option<&str>,
+    judging: Judging<'_>,
 ) -> Result<String, AllocError> {
     let mut text = String::new(alloc);
+    let asked = judging.channels.unwrap_or("").as_bytes();
     match fault {
         JudgeFault::Channels(fault, names) => {
-            let asked = channels.unwrap_or("");
-            push_channel_fault(&mut text, *fault, asked.as_bytes(), names.as_str(), &WIRES)?;
+            push_channel_fault(&mut text, *fault, asked, names.as_str(), &WIRES)?;
         }
         JudgeFault::Digitals(fault, names) => {
-            let asked = channels.unwrap_or("");
-            push_channel_fault(
-                &mut text,
-                *fault,
-                asked.as_bytes(),
-                names.as_str(),
-                &DIGITALS,
-            )?;
+            push_channel_fault(&mut text, *fault, asked, names.as_str(), &DIGITALS)?;
         }
         JudgeFault::Columns(fault, names) => {
-            let asked = channels.unwrap_or("");
-            push_channel_fault(
-                &mut text,
-                *fault,
-                asked.as_bytes(),
-                names.as_str(),
-                &COLUMNS,
-            )?;
+            push_channel_fault(&mut text, *fault, asked, names.as_str(), &COLUMNS)?;
         }
         JudgeFault::Dump(fault) => push_dump_fault(&mut text, *fault)?,
         JudgeFault::Title(record_table::HeadFault::Refused(refusal)) => {
             push_title_fault(&mut text, *refusal)?;
         }
-        JudgeFault::Table(fault) => push_table_fault(&mut text, *fault)?,
+        JudgeFault::Table(fault) => {
+            push_table_fault(&mut text, *fault, judging.threshold.is_some())?;
+        }
         JudgeFault::Config(fault) => push_config_fault(&mut text, *fault)?,
         JudgeFault::NoThreshold(place, name, unit) => {
             push_no_threshold(&mut text, *place, name.as_str(), unit.as_str())?;
@@ -99,7 +88,11 @@ fn push_title_fault(text: &mut String, refusal: HeadRefusal) -> Result<(), Alloc
     write!(text, "line {}: {reason}", refusal.line)
 }
 
-fn push_table_fault(text: &mut String, fault: record_table::Fault) -> Result<(), AllocError> {
+fn push_table_fault(
+    text: &mut String,
+    fault: record_table::Fault,
+    by_threshold: bool,
+) -> Result<(), AllocError> {
     let line = fault.line;
     let reason = match fault.reason {
         RowReason::Long => "it is longer than 1,023 bytes",
@@ -107,7 +100,12 @@ fn push_table_fault(text: &mut String, fault: record_table::Fault) -> Result<(),
         RowReason::Columns(_) => "it has fewer columns than the names above",
         RowReason::Level(place) => {
             let number = place.saturating_add(1);
-            return write!(text, "line {line}: its channel {number} is neither 0 nor 1");
+            let reason = if by_threshold {
+                "is no decimal number of volts, less than 1,000,000,000 off 0"
+            } else {
+                "is neither 0 nor 1; in a table of volts --threshold says above how many a line is high"
+            };
+            return write!(text, "line {line}: its channel {number} {reason}");
         }
         RowReason::NoStep => "its time is 0, where it is to be that of one sample",
         RowReason::Time(TimeFault::Beyond) => "its time is 1,000 hours or more",

@@ -110,12 +110,12 @@ pub chosen-by-name : (names : Option (List ℕ)) (wires : List Wire) (all : List
 chosen-by-name names wires all found same is = ap (λ l. places_named l names) (sym same) ∙ is
 
 -- a head that is over, and below which nothing is read
-pub refused-head : (names : Option (List ℕ)) (text : List ℕ) (reader : Head) (fault : HeadFault)
+pub refused-head : (asked : Asked) (text : List ℕ) (reader : Head) (fault : HeadFault)
     → HasReadHead text reader → IsTrue (is_over reader.section) → HeadFaultFits reader fault
-    → RefusedFrom names text (of_head fault)
-refused-head names text reader head.Memory h over fits more = tt
-refused-head names text reader head.Unended h over fits more = absurd (let no : false ≡ true = sym fits ∙ over in cc)
-refused-head names text reader head.NoTimescale h over fits more =
+    → RefusedFrom asked text (of_head fault)
+refused-head asked text reader head.Memory h over fits more = tt
+refused-head asked text reader head.Unended h over fits more = absurd (let no : false ≡ true = sym fits ∙ over in cc)
+refused-head asked text reader head.NoTimescale h over fits more =
     let is = over-is text reader more h over in
     (ap (λ (e : HeadEnd). is_over e.head.section) is ∙ over, ap (λ (e : HeadEnd). e.head.unit) is ∙ fits.1)
 
@@ -213,7 +213,7 @@ module _ (asked : Asked) (text taken : List ℕ) (old new : Below) (levels : Opt
 pub refuses-below : (asked : Asked) (text : List ℕ) (old here : Below) (bytes rest : List ℕ) (fault : Fault)
     → HasReadBelow asked text old → IsPart HasReadBelow old here bytes rest
     → ((more : List ℕ) → to_come here.changes (rest ++ more) ≡ Refused fault ∷ [])
-    → RefusedFrom (channel_bytes asked.channels) (text ++ bytes) (Dump fault)
+    → RefusedFrom asked (text ++ bytes) (Dump fault)
 refuses-below asked text old here bytes rest fault h part refuses more =
     let names = channel_bytes asked.channels in
     let on = part.reads asked text h in (
@@ -251,7 +251,7 @@ ends-below asked text below levels time heard ended judged begins h ends some no
 
 pub refused-at-end : (asked : Asked) (text : List ℕ) (below : Below) (fault : Fault)
     → HasReadBelow asked text below → to_come below.changes [] ≡ Refused fault ∷ []
-    → RefusedBy (channel_bytes asked.channels) text (Dump fault)
+    → RefusedBy asked text (Dump fault)
 refused-at-end asked text below fault h refuses = (
   h.said,
   ap (said_of_lines (channel_bytes asked.channels)) (sym (append-nil text)) ∙ h.says [] ∙ ap (λ l. Some (h.said ++ l)) refuses,
@@ -299,9 +299,9 @@ stays-open v line (b ∷ bs) shut differs =
     ∙ ap (λ end. is_over (if end then closed v else taken_by v.section (b ∷ bs) v).section) differs
     ∙ taken-open v.section (b ∷ bs) v shut shut
 
-pub unended : (names : Option (List ℕ)) (text : List ℕ) (reader : Head) → HasReadHead text reader → IsFalse (is_over reader.section)
-    → RefusedBy names text (HeadRefused head.Unended)
-unended names text reader h shut = (
+pub unended : (asked : Asked) (text : List ℕ) (reader : Head) → HasReadHead text reader → IsFalse (is_over reader.section)
+    → RefusedBy asked text (HeadRefused head.Unended)
+unended asked text reader h shut = (
   120 ∷ [],
   ap (λ (e : HeadEnd). is_over e.head.section) (h (120 ∷ [])) ∙ stays-open (value_of reader) reader.words.line (kept reader.words.word.items 120) shut (no-end reader.words.word.items),
 )
@@ -317,10 +317,10 @@ cut-whole text bytes count =
     append_assoc text (take count bytes) (drop count bytes) ∙ ap (λ l. text ++ l) (take-append-drop count bytes)
 
 -- what is refused by a part is refused by all
-pub refused-on : (names : Option (List ℕ)) (text bytes : List ℕ) (count : ℕ) (fault : JudgeFault)
-    → RefusedFrom names (text ++ take count bytes) fault → RefusedFrom names (text ++ bytes) fault
-refused-on names text bytes count fault h more =
-    subst (λ t. RefusedBy names t fault)
+pub refused-on : (asked : Asked) (text bytes : List ℕ) (count : ℕ) (fault : JudgeFault)
+    → RefusedFrom asked (text ++ take count bytes) fault → RefusedFrom asked (text ++ bytes) fault
+refused-on asked text bytes count fault h more =
+    subst (λ t. RefusedBy asked t fault)
     (sym (append_assoc (text ++ take count bytes) (drop count bytes) more) ∙ ap (λ t. t ++ more) (cut-whole text bytes count))
     (h (drop count bytes ++ more))
 
@@ -342,17 +342,17 @@ ended-known (Some all) (Some left) None text took nothing end = absurd nothing
 ended-known (Some all) (Some left) (Some rest) text took nothing end = sym nothing ∙ end
 
 -- what can't be read is not refused
-pub never-read : (names : Option (List ℕ)) (text : List ℕ) (fault : JudgeFault) → RefusedBy names text fault → ¬ (fault ≡ Read)
-never-read names text fault h e = subst (λ f. RefusedBy names text f) e h
+pub never-read : (asked : Asked) (text : List ℕ) (fault : JudgeFault) → RefusedBy asked text fault → ¬ (fault ≡ Read)
+never-read asked text fault h e = subst (λ f. RefusedBy asked text f) e h
 
-pub never-read-from : (names : Option (List ℕ)) (text : List ℕ) (fault : JudgeFault) → RefusedFrom names text fault → ¬ (fault ≡ Read)
-never-read-from names text fault h e = never-read names (text ++ []) fault (h []) e
+pub never-read-from : (asked : Asked) (text : List ℕ) (fault : JudgeFault) → RefusedFrom asked text fault → ¬ (fault ≡ Read)
+never-read-from asked text fault h e = never-read asked (text ++ []) fault (h []) e
 
-pub refused-known : (names : Option (List ℕ)) (old new : Option (List ℕ)) (text : List ℕ) (fault : JudgeFault)
-    → Consumes old new text → RefusedFrom names text fault → IfSome old (λ all. RefusedBy names all fault)
-refused-known names None new text fault took refused = tt
-refused-known names (Some all) None text fault took refused = absurd took
-refused-known names (Some all) (Some left) text fault took refused = subst (λ t. RefusedBy names t fault) (sym took) (refused left)
+pub refused-known : (asked : Asked) (old new : Option (List ℕ)) (text : List ℕ) (fault : JudgeFault)
+    → Consumes old new text → RefusedFrom asked text fault → IfSome old (λ all. RefusedBy asked all fault)
+refused-known asked None new text fault took refused = tt
+refused-known asked (Some all) None text fault took refused = absurd took
+refused-known asked (Some all) (Some left) text fault took refused = subst (λ t. RefusedBy asked t fault) (sym took) (refused left)
 
 pub whole-known : (P : List ℕ → Type 0) (old new : Option (List ℕ)) (text : List ℕ)
     → Consumes old new text → IsAtEnd new → P text → IfSome old P

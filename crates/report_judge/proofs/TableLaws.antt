@@ -6,6 +6,7 @@ use Rattle.std.proofs.lemmas.List.{append-nil}
 use Rattle.std.proofs.lemmas.Option.{same_Some}
 use Rattle.record_levels.specs.declared.levels.Levels.{Levels}
 use Rattle.record_text.specs.Lines.{lines_on}
+use Rattle.record_cells.specs.declared.volts.Threshold.{Threshold}
 use Rattle.record_table.specs.declared.clock.Clock.{Clock}
 use Rattle.record_table.specs.declared.head.Head.{Head}
 use Rattle.record_table.specs.declared.head.HeadFault.{HeadFault}
@@ -85,42 +86,41 @@ ready-by head (stage.Refused refusal) is h = absurd cc
 pub is-ready : (head : Head) → fault_of head.stage ≡ None → IsReady head
 is-ready head h = ready-by head head.stage refl h
 
-pub refused-title : (names : Option (List ℕ)) (text : List ℕ) (reader : Head) (fault : HeadFault)
+pub refused-title : (asked : Asked) (text : List ℕ) (reader : Head) (fault : HeadFault)
     → HasReadTitle text reader → IsTrue (is_over reader.stage) → HeadFaultFits reader fault
-    → RefusedFrom names text (of_title fault)
-refused-title names text reader title.Memory h over fits more = tt
-refused-title names text reader title.Unended h over fits more = absurd (let no : false ≡ true = sym (ap is_over fits) ∙ over in cc)
-refused-title names text reader (title.Refused refusal) h over fits more =
+    → RefusedFrom asked text (of_title fault)
+refused-title asked text reader title.Memory h over fits more = tt
+refused-title asked text reader title.Unended h over fits more = absurd (let no : false ≡ true = sym (ap is_over fits) ∙ over in cc)
+refused-title asked text reader (title.Refused refusal) h over fits more =
     ap (λ (e : HeadEnd). e.head.stage) (title-is text reader more h over) ∙ fits
 
 -- ---- below it
 
-title-says : (names : Option (List ℕ)) (text : List ℕ) (reader : Head) (places : List ℕ) (clock : Clock) (changes : Changes) (more : List ℕ)
+title-says : (asked : Asked) (text : List ℕ) (reader : Head) (places : List ℕ) (clock : Clock) (changes : Changes) (more : List ℕ)
     → HasReadTitle text reader → reader.stage ≡ Below clock
-    → places_named (bytes_of reader.names.items) names ≡ Ok places
-    → IsBelow reader None places clock changes
-    → rows_say names (text ++ more) ≡ Some (to_come changes more)
-title-says names text reader places clock changes more h is chosen is_below =
+    → places_named (bytes_of reader.names.items) (channel_bytes asked.channels) ≡ Ok places
+    → IsBelow reader asked.threshold places clock changes
+    → rows_say asked (text ++ more) ≡ Some (to_come changes more)
+title-says asked text reader places clock changes more h is chosen is_below =
     let over : IsTrue (is_over reader.stage) = ap is_over is in
     let end : HeadEnd = record { head = value_of reader; lines = lines_on reader.lines more } in
-    ap (λ p. rows_say_at p (text ++ more)) (columns-are names text reader more (Ok places) h over chosen)
-    ∙ ap (below None places) (title-is text reader more h over)
-    ∙ ap (λ s. below_by s None places end) is
+    ap (λ p. rows_say_at asked.threshold p (text ++ more)) (columns-are (channel_bytes asked.channels) text reader more (Ok places) h over chosen)
+    ∙ ap (below asked.threshold places) (title-is text reader more h over)
+    ∙ ap (λ s. below_by s asked.threshold places end) is
     ∙ ap Some (sym (is_below more))
 
 pub begins-rows : (asked : Asked) (text : List ℕ) (reader : Head) (places : List ℕ) (rows : Rows)
     → HasReadTitle text reader → IsReady reader
     → places_named (bytes_of reader.names.items) (channel_bytes asked.channels) ≡ Ok places
-    → ((clock : Clock) → reader.stage ≡ Below clock → IsBelow reader None places clock rows.changes)
+    → ((clock : Clock) → reader.stage ≡ Below clock → IsBelow reader asked.threshold places clock rows.changes)
     → HasHeard asked (length places) [] rows.hearing
     → HasReadRows asked text rows
 begins-rows asked text reader places rows h ready chosen is_below heard =
-    let names = channel_bytes asked.channels in
     record {
       levels = [];
-      says = λ more. title-says names text reader places ready.0 rows.changes more h ready.1 chosen (is_below ready.0 ready.1);
+      says = λ more. title-says asked text reader places ready.0 rows.changes more h ready.1 chosen (is_below ready.0 ready.1);
       places = places;
-      chosen = λ more. columns-are names text reader more (Ok places) h (ap is_over ready.1) chosen;
+      chosen = λ more. columns-are (channel_bytes asked.channels) text reader more (Ok places) h (ap is_over ready.1) chosen;
       heard = heard;
     }
 
@@ -153,28 +153,28 @@ hears-rows asked lines before rest (Some levels) old new has order some none for
     (follows-last before levels.time_ns (order-after before (Change levels ∷ rest) order).0) form
 
 -- all that a table says is in order
-rows-in-order-by : (at : Stage) (places : List ℕ) (end : HeadEnd) (all : List Said)
-    → below_by at None places end ≡ Some all → AreInOrder None all
-rows-in-order-by stage.Above places end all is = absurd cc
-rows-in-order-by (stage.Below clock) places end all is =
-    subst (AreInOrder None) (same_Some _ all is) (in-order (reading_by clock None end.head places) end.lines)
-rows-in-order-by (stage.Refused refusal) places end all is = absurd cc
+rows-in-order-by : (at : Stage) (threshold : Option Threshold) (places : List ℕ) (end : HeadEnd) (all : List Said)
+    → below_by at threshold places end ≡ Some all → AreInOrder None all
+rows-in-order-by stage.Above threshold places end all is = absurd cc
+rows-in-order-by (stage.Below clock) threshold places end all is =
+    subst (AreInOrder None) (same_Some _ all is) (in-order (reading_by clock threshold end.head places) end.lines)
+rows-in-order-by (stage.Refused refusal) threshold places end all is = absurd cc
 
-rows-in-order-at : (places : Result (List ℕ) ChannelFault) (text : List ℕ) (all : List Said)
-    → rows_say_at places text ≡ Some all → AreInOrder None all
-rows-in-order-at (Ok places) text all is = rows-in-order-by (title_of text).head.stage places (title_of text) all is
-rows-in-order-at (Err fault) text all is = absurd cc
+rows-in-order-at : (threshold : Option Threshold) (places : Result (List ℕ) ChannelFault) (text : List ℕ) (all : List Said)
+    → rows_say_at threshold places text ≡ Some all → AreInOrder None all
+rows-in-order-at threshold (Ok places) text all is = rows-in-order-by (title_of text).head.stage threshold places (title_of text) all is
+rows-in-order-at threshold (Err fault) text all is = absurd cc
 
-rows-in-order : (names : Option (List ℕ)) (text : List ℕ) (all : List Said)
-    → rows_say names text ≡ Some all → AreInOrder None all
-rows-in-order names text all is = rows-in-order-at (columns_of names text) text all is
+rows-in-order : (asked : Asked) (text : List ℕ) (all : List Said)
+    → rows_say asked text ≡ Some all → AreInOrder None all
+rows-in-order asked text all is = rows-in-order-at asked.threshold (columns_of (channel_bytes asked.channels) text) text all is
 
 -- ---- bytes more
 
 -- bytes were read, and the levels that they say were heard
 module _ (asked : Asked) (text taken : List ℕ) (old new : Rows) (levels : Option Levels) (h : HasReadRows asked text old) (led : Leads old.changes taken levels new.changes) where
-  says-more : (more : List ℕ) → rows_say (channel_bytes asked.channels) ((text ++ taken) ++ more) ≡ Some (told h.levels ++ (said levels ++ to_come new.changes more))
-  says-more more = ap (rows_say (channel_bytes asked.channels)) (append_assoc text taken more)
+  says-more : (more : List ℕ) → rows_say asked ((text ++ taken) ++ more) ≡ Some (told h.levels ++ (said levels ++ to_come new.changes more))
+  says-more more = ap (rows_say asked) (append_assoc text taken more)
       ∙ h.says (taken ++ more)
       ∙ ap (λ l. Some (told h.levels ++ l)) (led more)
 
@@ -186,18 +186,18 @@ module _ (asked : Asked) (text taken : List ℕ) (old new : Rows) (levels : Opti
     places = h.places;
     chosen = λ more. ap (columns_of (channel_bytes asked.channels)) (append_assoc text taken more) ∙ h.chosen (taken ++ more);
     heard = hears-rows asked (length h.places) h.levels (to_come new.changes []) levels old.hearing new.hearing h.heard
-        (rows-in-order (channel_bytes asked.channels) ((text ++ taken) ++ []) (told h.levels ++ (said levels ++ to_come new.changes [])) (says-more []))
+        (rows-in-order asked ((text ++ taken) ++ []) (told h.levels ++ (said levels ++ to_come new.changes [])) (says-more []))
         some none form;
   }
 
 pub refuses-rows : (asked : Asked) (text : List ℕ) (old here : Rows) (bytes rest : List ℕ) (fault : Fault)
     → HasReadRows asked text old → IsPart HasReadRows old here bytes rest
     → ((more : List ℕ) → to_come here.changes (rest ++ more) ≡ Refused fault ∷ [])
-    → RefusedFrom (channel_bytes asked.channels) (text ++ bytes) (Table fault)
+    → RefusedFrom asked (text ++ bytes) (Table fault)
 refuses-rows asked text old here bytes rest fault h part refuses more =
     let on = part.reads asked text h in (
       on.levels,
-      ap (rows_say (channel_bytes asked.channels)) (part-text text part.front rest bytes more part.whole)
+      ap (rows_say asked) (part-text text part.front rest bytes more part.whole)
           ∙ on.says (rest ++ more)
           ∙ ap (λ l. Some (told on.levels ++ l)) (refuses more),
     )
@@ -220,10 +220,10 @@ ends-rows asked text rows first last time here heard ended judged begins h ends 
     let count = length h.places in
     let before = with-levels first h.levels in
     let all = with-levels last before in
-    let says : rows_say names text ≡ Some (told h.levels ++ (said first ++ (said last ++ Ends time ∷ []))) = ap (rows_say names) whole ∙ h.says [] ∙ ap (λ l. Some (told h.levels ++ l)) ends in
-    let says_last : rows_say names text ≡ Some (told before ++ (said last ++ Ends time ∷ [])) = says ∙ ap Some (told-more h.levels first (said last ++ Ends time ∷ [])) in
-    let has = hears-rows asked count h.levels (said last ++ Ends time ∷ []) first rows.hearing here h.heard (rows-in-order names text _ says) some none form in
-    let has_all = hears-rows asked count before (Ends time ∷ []) last here heard has (rows-in-order names text _ says_last) some_last none_last form_last in
+    let says : rows_say asked text ≡ Some (told h.levels ++ (said first ++ (said last ++ Ends time ∷ []))) = ap (rows_say asked) whole ∙ h.says [] ∙ ap (λ l. Some (told h.levels ++ l)) ends in
+    let says_last : rows_say asked text ≡ Some (told before ++ (said last ++ Ends time ∷ [])) = says ∙ ap Some (told-more h.levels first (said last ++ Ends time ∷ [])) in
+    let has = hears-rows asked count h.levels (said last ++ Ends time ∷ []) first rows.hearing here h.heard (rows-in-order asked text _ says) some none form in
+    let has_all = hears-rows asked count before (Ends time ∷ []) last here heard has (rows-in-order asked text _ says_last) some_last none_last form_last in
     record {
       begins = begins;
       levels = all;
@@ -236,10 +236,10 @@ ends-rows asked text rows first last time here heard ended judged begins h ends 
 
 pub refused-at-last : (asked : Asked) (text : List ℕ) (rows : Rows) (fault : Fault)
     → HasReadRows asked text rows → to_come rows.changes [] ≡ Refused fault ∷ []
-    → RefusedBy (channel_bytes asked.channels) text (Table fault)
+    → RefusedBy asked text (Table fault)
 refused-at-last asked text rows fault h refuses = (
   h.levels,
-  ap (rows_say (channel_bytes asked.channels)) (sym (append-nil text)) ∙ h.says [] ∙ ap (λ l. Some (told h.levels ++ l)) refuses,
+  ap (rows_say asked) (sym (append-nil text)) ∙ h.says [] ∙ ap (λ l. Some (told h.levels ++ l)) refuses,
 )
 
 -- ---- the form

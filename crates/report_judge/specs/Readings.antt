@@ -49,28 +49,28 @@ abbrev pub IsUnended : (text : List ℕ) → Type 0
 IsUnended text = (more : List ℕ) × IsFalse (is_over (head_of (text ++ more)).head.section)
 
 -- a text is refused by this fault; what can't be read is none
-abbrev pub RefusedBy : (names : Option (List ℕ)) → (text : List ℕ) → JudgeFault → Type 0
-RefusedBy names text Empty = text ≡ []
-RefusedBy names text (Head head.Unended) = IsUnended text
-RefusedBy names text (Head head.NoTimescale) =
+abbrev pub RefusedBy : Asked → (text : List ℕ) → JudgeFault → Type 0
+RefusedBy asked text Empty = text ≡ []
+RefusedBy asked text (Head head.Unended) = IsUnended text
+RefusedBy asked text (Head head.NoTimescale) =
     IsTrue (is_over (head_of text).head.section) × ((head_of text).head.unit ≡ None)
-RefusedBy names text (Head head.Memory) = ⊥
-RefusedBy names text (Channels fault there) = judged_places names text ≡ Err fault
-RefusedBy names text (Dump fault) =
-    (said : List Said) × (said_of_lines names text ≡ Some (said ++ Refused fault ∷ []))
-RefusedBy names text (Title title.Unended) = IsUntitled text
-RefusedBy names text (Title (title.Refused refusal)) = (title_of text).head.stage ≡ title_stage.Refused refusal
-RefusedBy names text (Title title.Memory) = ⊥
-RefusedBy names text (Columns fault there) = columns_of names text ≡ Err fault
-RefusedBy names text (Table fault) =
-    (levels : List Levels) × (rows_say names text ≡ Some (told levels ++ RowRefused fault ∷ []))
-RefusedBy names text Endless = 2 ^ 64 - 1 ≤ length text
-RefusedBy names text Memory = ⊤
-RefusedBy names text _ = ⊥
+RefusedBy asked text (Head head.Memory) = ⊥
+RefusedBy asked text (Channels fault there) = judged_places (channel_bytes asked.channels) text ≡ Err fault
+RefusedBy asked text (Dump fault) =
+    (said : List Said) × (said_of_lines (channel_bytes asked.channels) text ≡ Some (said ++ Refused fault ∷ []))
+RefusedBy asked text (Title title.Unended) = IsUntitled text
+RefusedBy asked text (Title (title.Refused refusal)) = (title_of text).head.stage ≡ title_stage.Refused refusal
+RefusedBy asked text (Title title.Memory) = ⊥
+RefusedBy asked text (Columns fault there) = columns_of (channel_bytes asked.channels) text ≡ Err fault
+RefusedBy asked text (Table fault) =
+    (levels : List Levels) × (rows_say asked text ≡ Some (told levels ++ RowRefused fault ∷ []))
+RefusedBy asked text Endless = 2 ^ 64 - 1 ≤ length text
+RefusedBy asked text Memory = ⊤
+RefusedBy asked text _ = ⊥
 
 -- a text is refused by this fault, whatever follows
-abbrev pub RefusedFrom : (names : Option (List ℕ)) → (text : List ℕ) → JudgeFault → Type 0
-RefusedFrom names text fault = (more : List ℕ) → RefusedBy names (text ++ more) fault
+abbrev pub RefusedFrom : Asked → (text : List ℕ) → JudgeFault → Type 0
+RefusedFrom asked text fault = (more : List ℕ) → RefusedBy asked (text ++ more) fault
 
 -- ---- as far as it was read
 

@@ -3,6 +3,7 @@
 use Rattle.std.specs.Prelude.{◌≡◌, ℕ, IsTrue, IsFalse, List, [], ◌∷◌, ◌++◌, length, Option, Some, None, Result, Ok, Err}
 use Rattle.record_levels.specs.declared.levels.Levels.{Levels}
 use Rattle.record_text.specs.Lines.{lines_of}
+use Rattle.record_cells.specs.declared.volts.Threshold.{Threshold}
 use Rattle.record_table.specs.declared.head.Head.{Head}
 use Rattle.record_table.specs.Heads.{HeadEnd, head_end, head_from, is_over, top}
 use Rattle.record_table.specs.Changes.{Said}
@@ -24,14 +25,15 @@ title_of text = head_from top (lines_of text)
 abbrev pub columns_of : (names : Option (List ℕ)) → (text : List ℕ) → Result (List ℕ) ChannelFault
 columns_of names text = places_named (title_of text).head.names names
 
--- what a table says of the levels of the channels at these places, if there are such
-abbrev pub rows_say_at : Result (List ℕ) ChannelFault → (text : List ℕ) → Option (List Said)
-rows_say_at (Ok places) text = table_of None places text
-rows_say_at (Err fault) text = None
+-- what a table says of the channels at these places, if there are such: of levels, or of voltages by a
+-- threshold
+abbrev pub rows_say_at : Option Threshold → Result (List ℕ) ChannelFault → (text : List ℕ) → Option (List Said)
+rows_say_at threshold (Ok places) text = table_of threshold places text
+rows_say_at threshold (Err fault) text = None
 
 -- what a text says of the lines that are judged
-abbrev pub rows_say : (names : Option (List ℕ)) → (text : List ℕ) → Option (List Said)
-rows_say names text = rows_say_at (columns_of names text) text
+abbrev pub rows_say : Asked → (text : List ℕ) → Option (List Said)
+rows_say asked text = rows_say_at asked.threshold (columns_of (channel_bytes asked.channels) text) text
 
 -- these levels, the newest first, were said one after another
 abbrev pub told : List Levels → List Said
@@ -51,7 +53,7 @@ IsUntitled text = (reader : Head) × HasReadTitle text reader × IsFalse (is_ove
 -- this text was read, up to below its line of names, and the lines that are judged have heard what it says
 pub record HasReadRows (asked : Asked) (text : List ℕ) (rows : Rows) : Type 0 where
   pub levels : List Levels
-  pub says : (more : List ℕ) → rows_say (channel_bytes asked.channels) (text ++ more)
+  pub says : (more : List ℕ) → rows_say asked (text ++ more)
       ≡ Some (told levels ++ to_come rows.changes more)
   pub places : List ℕ
   pub chosen : (more : List ℕ) → columns_of (channel_bytes asked.channels) (text ++ more) ≡ Ok places
@@ -65,7 +67,7 @@ pub record JudgedTable (asked : Asked) (text : List ℕ) (judged : Judged) : Typ
   pub begins : IsTrue (begins_table text)
   pub levels : List Levels
   pub end : ℕ
-  pub says : rows_say (channel_bytes asked.channels) text ≡ Some (told levels ++ Ends end ∷ [])
+  pub says : rows_say asked text ≡ Some (told levels ++ Ends end ∷ [])
   pub places : List ℕ
   pub chosen : columns_of (channel_bytes asked.channels) text ≡ Ok places
   pub verdict : IsVerdictOn nothing_else asked (length places) levels judged

@@ -4,7 +4,6 @@ ghost use Rattle.std.specs.Prelude.{◌≡◌, ◌++◌, [], IsTrue, IfErr, IfOk
 ghost use Rattle.record_vcd.specs.Sections.{is_over};
 ghost use Rattle.report_judge.specs.declared.asked.Asked.{Asked as AskedOf};
 ghost use Rattle.report_judge.specs.declared.fault.JudgeFault.TheVariants.{Dump};
-ghost use Rattle.report_judge.specs.Channels.{channel_bytes};
 ghost use Rattle.report_judge.specs.Readings.{HasReadBelow, HasReadHead, HasReadTo, JudgedDump, JudgedWhole, RefusedBy, RefusedFrom};
 ghost use Rattle.report_judge.specs.Forms.{begins_dump, begins_table};
 ghost use Rattle.report_judge.specs.Tables.{HasReadTitle};
@@ -64,7 +63,7 @@ impl Reading {
             → HasReadTo asked.now (text ++ bytes.now) reading.stage) }
         ensures refuses { IfErr result (λ fault. (text : List ℕ)
             → HasReadTo asked.now text self.stage
-            → RefusedFrom (channel_bytes asked.now.channels) (text ++ bytes.now) fault) }
+            → RefusedFrom asked.now (text ++ bytes.now) fault) }
     {
         let stage = match self.stage {
             Stage::Start => start(alloc, asked, bytes)?,
@@ -88,7 +87,7 @@ impl Reading {
             → HasReadTo asked text self.stage → JudgedWhole asked text judged) }
         ensures refuses { IfErr result (λ fault. (asked : AskedOf) (text : List ℕ)
             → HasReadTo asked text self.stage
-            → RefusedBy (channel_bytes asked.channels) text fault) }
+            → RefusedBy asked text fault) }
     {
         match self.stage {
             Stage::Start => Err(JudgeFault::Empty),
@@ -103,7 +102,7 @@ impl Reading {
 // The first piece shows the form.
 fn start(alloc: Global, asked: &Asked<'_>, bytes: &[u8]) -> Result<Stage, JudgeFault>
     ensures reads { IfOk result (HasReadTo asked.now bytes.now) }
-    ensures refuses { IfErr result (RefusedFrom (channel_bytes asked.now.channels) bytes.now) }
+    ensures refuses { IfErr result (RefusedFrom asked.now bytes.now) }
 {
     if bytes.is_empty() {
         return Ok(Stage::Start);
@@ -136,7 +135,7 @@ fn read_head(
         → IsTrue (begins_dump (text ++ bytes.now))
         → HasReadTo asked.now (text ++ bytes.now) stage) }
     ensures refuses { IfErr result (λ fault. (text : List ℕ) → HasReadHead text head
-        → RefusedFrom (channel_bytes asked.now.channels) (text ++ bytes.now) fault) }
+        → RefusedFrom asked.now (text ++ bytes.now) fault) }
 {
     let taken = head.read(alloc, bytes)?;
     if !taken.is_over {
@@ -160,7 +159,7 @@ fn read_title(
         → IsTrue (begins_table (text ++ bytes.now))
         → HasReadTo asked.now (text ++ bytes.now) stage) }
     ensures refuses { IfErr result (λ fault. (text : List ℕ) → HasReadTitle text head
-        → RefusedFrom (channel_bytes asked.now.channels) (text ++ bytes.now) fault) }
+        → RefusedFrom asked.now (text ++ bytes.now) fault) }
 {
     let taken = head.read(alloc, bytes)?;
     if !taken.is_over {
@@ -182,7 +181,7 @@ impl Below {
         ensures reads { IfOk result (λ below. (text : List ℕ) → HasReadHead text head
             → HasReadBelow asked.now text below) }
         ensures refuses { IfErr result (λ fault. (text : List ℕ) → HasReadHead text head
-            → RefusedFrom (channel_bytes asked.now.channels) text fault) }
+            → RefusedFrom asked.now text fault) }
     {
         let all = wire_names(alloc, head.wires())?;
         let places = match places_named(all.as_slice(), asked.channels) {
@@ -207,7 +206,7 @@ impl Below {
             → HasReadBelow asked text self.old → HasReadBelow asked (text ++ bytes.now) self.new) }
         ensures refuses { IfErr result (λ fault. (asked : AskedOf) (text : List ℕ)
             → HasReadBelow asked text self.old
-            → RefusedFrom (channel_bytes asked.channels) (text ++ bytes.now) (Dump fault)) }
+            → RefusedFrom asked (text ++ bytes.now) (Dump fault)) }
     {
         let mut rest = bytes;
         while !rest.is_empty() {
@@ -223,7 +222,7 @@ impl Below {
             → IsTrue (begins_dump text) → HasReadBelow asked text self
             → JudgedDump asked text judged) }
         ensures refuses { IfErr result (λ fault. (asked : AskedOf) (text : List ℕ)
-            → HasReadBelow asked text self → RefusedBy (channel_bytes asked.channels) text fault) }
+            → HasReadBelow asked text self → RefusedBy asked text fault) }
     {
         let Below {
             names,

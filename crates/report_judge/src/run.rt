@@ -3,7 +3,6 @@
 ghost use Rattle.std.specs.Prelude.{◌≡◌, ◌≢◌, ◌↔◌, Err, IfErr, IfOk, IfSome, false, true};
 ghost use Rattle.std.specs.Io.KnownBytes.{IsAtEnd};
 ghost use Rattle.irig_device.specs.Watched.{device_of, has_failed};
-ghost use Rattle.report_judge.specs.Channels.{channel_bytes};
 ghost use Rattle.report_judge.specs.Readings.{JudgedWhole, RefusedBy};
 
 use crate::asked::Asked;
@@ -32,7 +31,7 @@ pub fn judge<I: Read>(
         (λ _. IsAtEnd (I.remaining (device_of input.new)))) }
     ensures refused { IfErr result (λ fault. fault ≢ JudgeFault.Read
         → IfSome (I.remaining (device_of input.old))
-        (λ text. RefusedBy (channel_bytes asked.now.channels) text fault)) }
+        (λ text. RefusedBy asked.now text fault)) }
     ensures read { (result ≡ Err JudgeFault.Read) ↔ (has_failed input.new ≡ true) }
 {
     let mut piece = [0; PIECE];

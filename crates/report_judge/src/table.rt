@@ -1,11 +1,12 @@
 //! The rows of a table, judged as they come.
 
-ghost use Rattle.std.specs.Prelude.{◌≡◌, ◌++◌, IsTrue, IfErr, IfOk, List, ℕ};
+ghost use Rattle.std.specs.Prelude.{◌≡◌, ◌<◌, ◌≤◌, ◌++◌, All, IsTrue, IfErr, IfOk, List, length, ℕ};
 ghost use Rattle.record_table.specs.Heads.{is_over};
-ghost use Rattle.record_table.specs.Tables.{HeadFaultFits, IsReady};
+ghost use Rattle.record_table.specs.declared.clock.Clock.{Clock};
+ghost use Rattle.record_table.specs.declared.head.Stage.TheVariants.{Below};
+ghost use Rattle.record_table.specs.Tables.{HeadFaultFits, IsBelow, IsReady};
 ghost use Rattle.report_judge.specs.declared.asked.Asked.{Asked as AskedOf};
 ghost use Rattle.report_judge.specs.declared.fault.JudgeFault.TheVariants.{Table as TableFault};
-ghost use Rattle.report_judge.specs.Channels.{channel_bytes};
 ghost use Rattle.report_judge.specs.Forms.{begins_table};
 ghost use Rattle.report_judge.specs.Readings.{RefusedBy, RefusedFrom};
 ghost use Rattle.report_judge.specs.Tables.{HasReadRows, HasReadTitle, JudgedTable};
@@ -15,6 +16,7 @@ use crate::channels::places_named;
 use crate::fault::JudgeFault;
 use crate::hearing::{Hearing, Judged};
 use crate::names::{column_names, listed, names_at};
+use record_cells::Threshold;
 use record_table::{Changes, Fault, Head, HeadFault};
 use std::alloc::Global;
 
@@ -34,7 +36,7 @@ impl Rows {
         ensures reads { IfOk result (λ rows. (text : List ℕ) → HasReadTitle text head
             → HasReadRows asked.now text rows) }
         ensures refuses { IfErr result (λ fault. (text : List ℕ) → HasReadTitle text head
-            → RefusedFrom (channel_bytes asked.now.channels) text fault) }
+            → RefusedFrom asked.now text fault) }
     {
         sound(&head)?;
         let all = column_names(alloc, head.names())?;
@@ -46,7 +48,7 @@ impl Rows {
             }
         };
         let names = names_at(alloc, all.as_slice(), places.as_slice())?;
-        let changes = Changes::new(alloc, head, places.as_slice())?;
+        let changes = changes_by(alloc, head, asked.threshold, places.as_slice())?;
         let hearing = Hearing::new(alloc, places.len(), asked)?;
         Ok(Rows {
             names,
@@ -60,8 +62,8 @@ impl Rows {
         ensures reads { IfOk result (λ _. (asked : AskedOf) (text : List ℕ)
             → HasReadRows asked text self.old → HasReadRows asked (text ++ bytes.now) self.new) }
         ensures refuses { IfErr result (λ fault. (asked : AskedOf) (text : List ℕ)
-            → HasReadRows asked text self.old → RefusedFrom (channel_bytes asked.channels)
-            (text ++ bytes.now) (TableFault fault)) }
+            → HasReadRows asked text self.old
+            → RefusedFrom asked (text ++ bytes.now) (TableFault fault)) }
     {
         let mut rest = bytes;
         while !rest.is_empty() {
@@ -78,7 +80,7 @@ impl Rows {
             → IsTrue (begins_table text) → HasReadRows asked text self
             → JudgedTable asked text judged) }
         ensures refuses { IfErr result (λ fault. (asked : AskedOf) (text : List ℕ)
-            → HasReadRows asked text self → RefusedBy (channel_bytes asked.channels) text fault) }
+            → HasReadRows asked text self → RefusedBy asked text fault) }
     {
         let Rows {
             names,
@@ -91,6 +93,26 @@ impl Rows {
         hearing.end(end.time_ns);
         let judged = hearing.judged(alloc, names.as_slice(), "")?;
         Ok(judged)
+    }
+}
+
+// What follows a head: of voltages by a threshold, or of levels.
+fn changes_by(
+    alloc: Global,
+    head: Head,
+    threshold: Option<Threshold>,
+    chosen: &[usize],
+) -> Result<Changes, HeadFault>
+    requires few { length chosen.now ≤ 5 }
+    requires places { All (λ place. place < length head.names.items) chosen.now }
+    ensures says { IfOk result (λ changes. (clock : Clock) → head.stage ≡ Below clock
+        → IsBelow head threshold chosen.now clock changes) }
+    ensures ready { IfOk result (λ changes. IsReady head) }
+    ensures fault { IfErr result (λ fault. HeadFaultFits head fault) }
+{
+    match threshold {
+        Some(threshold) => Changes::by_threshold(alloc, head, threshold, chosen),
+        None => Changes::new(alloc, head, chosen),
     }
 }
 

@@ -1,5 +1,4 @@
 use Rattle.std.proofs.Common.{Ok, Err, IfSome, ap, subst, rules}
-use Rattle.report_judge.specs.Channels.{channel_bytes}
 use Rattle.report_judge.specs.Readings.{JudgedWhole, RefusedBy}
 use Rattle.irig_device.specs.Watched.{device_of}
 use Rattle.irig_main.proofs.judge.judge_input.Goals as goal
@@ -17,6 +16,6 @@ returns-in-Ok-clause-judged g c = record {
 pub returns-in-Err-clause-judged : goal.returns-in-Err-clause-judged
 returns-in-Err-clause-judged g c = record {
   result = Err c.in-Err.fault;
-  judged = λ no. subst (λ a. IfSome (g.I.Read.remaining (device_of c.args.input.now)) (λ text. RefusedBy (channel_bytes a.channels) text c.in-Err.fault)) c.asked_of.ensures (c.in-Err.ensures.refused no);
+  judged = λ no. subst (λ a. IfSome (g.I.Read.remaining (device_of c.args.input.now)) (λ text. RefusedBy a text c.in-Err.fault)) c.asked_of.ensures (c.in-Err.ensures.refused no);
   shown = (ap (λ f. Err f) c.from.ensures, search rules);
 }

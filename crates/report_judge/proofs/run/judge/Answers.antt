@@ -4,7 +4,6 @@ use Rattle.std.proofs.lemmas.Result.{err_from_is_err_and}
 use Rattle.std.specs.Io.KnownBytes.{Consumes}
 use Rattle.irig_device.specs.Watched.{device_of, has_failed}
 use Rattle.report_judge.specs.declared.fault.JudgeFault.TheVariants.{Read}
-use Rattle.report_judge.specs.Channels.{channel_bytes}
 use Rattle.report_judge.specs.Readings.{RefusedBy}
 use Rattle.report_judge.proofs.ReadingLaws.{ended-known, never-read, never-read-from, refused-known, takes-nothing, takes-on, whole-known}
 use Rattle.report_judge.proofs.run.judge.Goals as goal
@@ -22,21 +21,19 @@ loop-piece-init g c = (
 
 pub returns-in_err-judged-clause-refused : goal.returns-in_err-judged-clause-refused
 returns-in_err-judged-clause-refused g c =
-    let names = channel_bytes c.args.asked.now.channels in
     let so_far = c.loop-piece.invariant.1 in
     let p = err_from_is_err_and c.from_residual-in_err-judged.result c.from_residual-in_err-judged.ensures.1 in
-    rw (p.1, p.2) (λ no. whole-known (λ t. RefusedBy names t c.in_err-judged.field-0.0) _ _ so_far.text so_far.took
+    rw (p.1, p.2) (λ no. whole-known (λ t. RefusedBy c.args.asked.now t c.in_err-judged.field-0.0) _ _ so_far.text so_far.took
     (c.in_ok-count.ensures.end (search rules)) (c.in_err-judged.ensures.refuses c.args.asked.now so_far.text so_far.read))
 
 pub returns-in_err-judged-clause-read : goal.returns-in_err-judged-clause-read
 returns-in_err-judged-clause-read g c =
-    let names = channel_bytes c.args.asked.now.channels in
     let so_far = c.loop-piece.invariant.1 in
     let whole : has_failed c.read_some.new.self ≡ false = c.in_ok-count.ensures.note ∙ ap (λ b. b || false) c.loop-piece.invariant.0 in
     let p = err_from_is_err_and c.from_residual-in_err-judged.result c.from_residual-in_err-judged.ensures.1 in
     let is = p.1 in
     let of_end = p.2 in
-    let never = never-read names so_far.text c.in_err-judged.field-0.0 (c.in_err-judged.ensures.refuses c.args.asked.now so_far.text so_far.read) in (
+    let never = never-read c.args.asked.now so_far.text c.in_err-judged.field-0.0 (c.in_err-judged.ensures.refuses c.args.asked.now so_far.text so_far.read) in (
       λ e. let wrong : c.in_err-judged.field-0.0 ≡ Read = cc in absurd (never wrong),
       λ failed. absurd cc,
     )
@@ -50,23 +47,21 @@ returns-then-count-eq0-clause-end g c =
 
 pub returns-in_err-reading-clause-refused : goal.returns-in_err-reading-clause-refused
 returns-in_err-reading-clause-refused g c =
-    let names = channel_bytes c.args.asked.now.channels in
     let so_far = c.loop-piece.invariant.1 in
     let p = err_from_is_err_and c.from_residual-in_err-reading.result c.from_residual-in_err-reading.ensures.1 in
-    rw (p.1, p.2) (λ no. refused-known names _ _ (so_far.text ++ c.split_at.result.0.now) c.in_err-reading.field-0.0
+    rw (p.1, p.2) (λ no. refused-known c.args.asked.now _ _ (so_far.text ++ c.split_at.result.0.now) c.in_err-reading.field-0.0
     (takes-on _ (g.I.Read.remaining (device_of c.loop-piece.input)) _ so_far.text c.split_at.result.0.now so_far.took
     (subst (Consumes _ (g.I.Read.remaining (device_of c.read_some.new.self))) (sym c.split_at.ensures.front) c.in_ok-count.ensures.taken))
     (c.in_err-reading.ensures.refuses so_far.text so_far.read))
 
 pub returns-in_err-reading-clause-read : goal.returns-in_err-reading-clause-read
 returns-in_err-reading-clause-read g c =
-    let names = channel_bytes c.args.asked.now.channels in
     let so_far = c.loop-piece.invariant.1 in
     let whole : has_failed c.read_some.new.self ≡ false = c.in_ok-count.ensures.note ∙ ap (λ b. b || false) c.loop-piece.invariant.0 in
     let p = err_from_is_err_and c.from_residual-in_err-reading.result c.from_residual-in_err-reading.ensures.1 in
     let is = p.1 in
     let of_read = p.2 in
-    let never = never-read-from names (so_far.text ++ c.split_at.result.0.now) c.in_err-reading.field-0.0 (c.in_err-reading.ensures.refuses so_far.text so_far.read) in (
+    let never = never-read-from c.args.asked.now (so_far.text ++ c.split_at.result.0.now) c.in_err-reading.field-0.0 (c.in_err-reading.ensures.refuses so_far.text so_far.read) in (
       λ e. let wrong : c.in_err-reading.field-0.0 ≡ Read = cc in absurd (never wrong),
       λ failed. absurd cc,
     )

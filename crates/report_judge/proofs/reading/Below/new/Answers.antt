@@ -15,7 +15,7 @@ returns-in-Err-clause-refuses c = λ text h more.
 pub returns-in_err-changes-clause-refuses : goal.returns-in_err-changes-clause-refuses
 returns-in_err-changes-clause-refuses c =
     let p = err_from_is_err_and c.from_residual-in_err-changes.result c.from_residual-in_err-changes.ensures.1 in
-    rw (p.1, p.2) (λ text h. refused-head (channel_bytes c.args.asked.now.channels) text c.args.head c.in_err-changes.field-0.0 h c.requires c.in_err-changes.ensures.fault)
+    rw (p.1, p.2) (λ text h. refused-head c.args.asked.now text c.args.head c.in_err-changes.field-0.0 h c.requires c.in_err-changes.ensures.fault)
 
 pub returns-clause-reads : goal.returns-clause-reads
 returns-clause-reads c = λ text h.

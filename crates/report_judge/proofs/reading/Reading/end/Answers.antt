@@ -1,6 +1,5 @@
 use Rattle.std.specs.Prelude.{box_value}
 use Rattle.std.proofs.Common.{subst, sym, inl, inr}
-use Rattle.report_judge.specs.Channels.{channel_bytes}
 use Rattle.report_judge.specs.Readings.{HasReadBelow, HasReadTo}
 use Rattle.report_judge.specs.Tables.{HasReadRows}
 use Rattle.report_judge.proofs.ReadingLaws.{if-ok-on, unended}
@@ -8,7 +7,7 @@ use Rattle.report_judge.proofs.reading.Reading.end.Goals as goal
 
 pub returns-in-Head-clause-refuses : goal.returns-in-Head-clause-refuses
 returns-in-Head-clause-refuses c = λ asked text h.
-    let r = subst (HasReadTo asked text) c.in-Head.is h in unended (channel_bytes asked.channels) text c.in-Head.field-0 r.1 r.2
+    let r = subst (HasReadTo asked text) c.in-Head.is h in unended asked text c.in-Head.field-0 r.1 r.2
 
 pub returns-in-Title-clause-refuses : goal.returns-in-Title-clause-refuses
 returns-in-Title-clause-refuses c = λ asked text h.

@@ -1,7 +1,6 @@
 use Rattle.std.specs.Prelude.{box_value}
 use Rattle.std.proofs.Common.{◌++◌, ap, subst, sym}
 use Rattle.std.proofs.lemmas.Result.{err_from_is_err_and}
-use Rattle.report_judge.specs.Channels.{channel_bytes}
 use Rattle.report_judge.specs.Readings.{HasReadBelow, HasReadHead, HasReadTo, RefusedFrom}
 use Rattle.report_judge.specs.Tables.{HasReadRows, HasReadTitle}
 use Rattle.report_judge.proofs.ReadingLaws.{goes-on}
@@ -14,7 +13,7 @@ returns-in_err-stage-in-Start-clause-refuses c =
     let p = err_from_is_err_and c.from_residual.result c.from_residual.ensures.1 in
     rw (p.1, p.2) (λ text h.
     let empty = subst (HasReadTo c.args.asked.now text) c.in-Start.is h in
-    subst (λ t. RefusedFrom (channel_bytes c.args.asked.now.channels) t c.in_err-stage-in-Start.field-0.0) (ap (λ t. t ++ c.args.bytes.now) (sym empty)) c.in_err-stage-in-Start.ensures.refuses)
+    subst (λ t. RefusedFrom c.args.asked.now t c.in_err-stage-in-Start.field-0.0) (ap (λ t. t ++ c.args.bytes.now) (sym empty)) c.in_err-stage-in-Start.ensures.refuses)
 
 pub returns-in_err-stage-in-Head-clause-refuses : goal.returns-in_err-stage-in-Head-clause-refuses
 returns-in_err-stage-in-Head-clause-refuses c =

@@ -1,0 +1,5 @@
+pub mod SeenLaws
+pub mod ReadLaws
+pub mod ListLaws
+pub mod OrderLaws
+pub mod StandardFacts
