@@ -1,6 +1,6 @@
 //! Where what most lines claim contradicts itself.
 
-ghost use Rattle.std.specs.Prelude.{◌≡◌};
+ghost use Rattle.std.specs.Prelude.{◌≡◌, ◌≤◌};
 ghost use Rattle.record_verdict.specs.Jumps.{are_near, follows, jump_between, jump_from, jumps_after, no_jumps, passed, plain_second};
 
 use crate::stretch::AgreedSecond;
@@ -86,7 +86,8 @@ fn follows(before: &AgreedSecond, after: &AgreedSecond) -> bool
 
 // Whether two numbers are apart by one at most.
 fn are_near(one: u64, other: u64) -> bool
-    requires { (one ≤ 18446744073709551614) × (other ≤ 18446744073709551614) }
+    requires one { one ≤ 18446744073709551614 }
+    requires other { other ≤ 18446744073709551614 }
     ensures { result ≡ are_near one other }
 {
     one <= other + 1 && other <= one + 1
