@@ -375,7 +375,7 @@ fn threshold_option<'a>(alloc: Global) -> Arg<'a> {
         .long("threshold")
         .value_name("VOLTS")
         .help(
-            "Of a table of volts: above how many a line is high, as --threshold=1.5 or --threshold=-2e-3",
+            "Of volts, or of an analog channel in its unit: above how many a line is high, as --threshold=1.5",
         )
 }
 
@@ -389,7 +389,7 @@ fn json_option<'a>(alloc: Global) -> Arg<'a> {
 fn recording_argument<'a>(alloc: Global) -> Arg<'a> {
     Arg::new(alloc, "FILE")
         .help(
-            "The recording: a value change dump (.vcd) or a table (.csv), - for one on standard input, or the .cfg of a record",
+            "The recording: a value change dump (.vcd) or a table (.csv), - for one on standard input, or the .cfg or .cff of a record",
         )
         .required(true)
 }

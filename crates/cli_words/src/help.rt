@@ -108,11 +108,12 @@ lines never agree, the first line says undecided. A frame that has a time qualit
 FILE is a value change dump, or else a table: a line of names, and rows with commas of a time in the first column and
 of levels, 0 or 1. In place of times a remark may say the rate, as ; Samplerate: 1 MHz. With --threshold the other
 columns are volts: a line is high above so many, and keeps its level within a tenth of the most that it was ever off
-the threshold. In a dump or a record a threshold changes nothing.
+the threshold. In a dump a threshold changes nothing.
 
 If FILE ends with .cfg, it is the configuration of a disturbance record (COMTRADE), whose samples are in the .dat of
-the same name beside it. Its lines are digital channels. The verdict then begins with how far the record's stamp is
-off, the time of its first sample, and with what would explain it: a zone, or an exchanged day and month.
+the same name beside it; if it ends with .cff, it has both. Its lines are digital channels, and with --threshold those
+analog ones that --channels names, high above so many of their unit. The verdict then begins with how far the record's
+stamp is off, the time of its first sample, and with what would explain it: a zone, or an exchanged day and month.
 
 Example:
   $ irig judge examples/one_clock_ahead.vcd | head -n 1

@@ -4,7 +4,7 @@ use Rattle.std.specs.Prelude.{codes}
 use Rattle.std.specs.Fmt.{digits}
 use Rattle.report_verdict.specs.LineText.{byte_text, tenths_ppm}
 use Rattle.report_verdict.specs.NumberText.{nearest, thousandths_text}
-use Rattle.report_verdict.specs.VerdictText.{jumps_more, more_line, others_line}
+use Rattle.report_verdict.specs.VerdictText.{jumps_more, more_line, others_line, others_words}
 
 pub known_time : thousandths_text (nearest 5050499) ≡ codes "5.050"
 unfolding thousandths_text digits
@@ -35,11 +35,11 @@ pub no_others : others_line 0 None ≡ []
 no_others = refl
 
 pub one_other : others_line 1 (Some 7050000) ≡ codes "1 more second has no vote, at 7.050 s\n"
-unfolding others_from thousandths_text digits
+unfolding others_words thousandths_text digits
 one_other = refl
 
 pub some_others : others_line 3 (Some 7050000) ≡ codes "3 more seconds have no vote, the first at 7.050 s\n"
-unfolding others_from thousandths_text digits
+unfolding others_words thousandths_text digits
 some_others = refl
 
 pub more_jumps : jumps_more 2 ≡ codes ", the first of 2 jumps\n"

@@ -35,11 +35,13 @@ unfoldable pub jumps_more : ℕ → List ℕ
 jumps_more count =
     if count == 1 then codes "\n" else codes ", the first of " ++ (decimal count ++ codes " jumps\n")
 
+-- the second before a jump and the one after it
+abbrev pub followed_text : Jump → List ℕ
+followed_text jump = moment_text jump.before ++ (codes " is followed by " ++ moment_text jump.after)
+
 -- the first of so many jumps
-unfoldable pub jump_line : (lines : ℕ) → Jump → (count : ℕ) → List ℕ
-jump_line lines jump count =
-    contradict_words lines ++ (moment_text jump.before ++ (codes " is followed by "
-    ++ (moment_text jump.after ++ jumps_more count)))
+abbrev pub jump_line : (lines : ℕ) → Jump → (count : ℕ) → List ℕ
+jump_line lines jump count = contradict_words lines ++ (followed_text jump ++ jumps_more count)
 
 -- the same, if there is one
 abbrev pub jumps_by : (lines count : ℕ) → Option Jump → List ℕ
@@ -142,12 +144,15 @@ unfoldable pub agreed_line : Verdict → AgreedSecond → AgreedSecond → List 
 agreed_line v first last =
     agreed_words v.lines ++ (seconds_text v.agreed first last ++ codes "\n")
 
--- how many other seconds there are, and where the first of them ends
-unfoldable pub others_from : (seconds first : ℕ) → List ℕ
-others_from n first =
-    (if n == 1 then codes "1 more second has no vote, at "
-    else decimal n ++ codes " more seconds have no vote, the first at ")
-    ++ (thousandths_text (nearest first) ++ codes " s\n")
+-- how many other seconds there are
+unfoldable pub others_words : (seconds : ℕ) → List ℕ
+others_words n =
+    if n == 1 then codes "1 more second has no vote, at "
+    else decimal n ++ codes " more seconds have no vote, the first at "
+
+-- the same, and where the first of them ends
+abbrev pub others_from : (seconds first : ℕ) → List ℕ
+others_from n first = others_words n ++ (thousandths_text (nearest first) ++ codes " s\n")
 
 -- the same, if there are some
 abbrev pub others_line : (seconds : ℕ) → (first : Option ℕ) → List ℕ

@@ -9,6 +9,7 @@ ghost use Rattle.report_verdict.specs.VerdictText.{
   contradict_words,
   decided_text,
   differs,
+  followed_text,
   jump_line,
   jumps_line,
   jumps_more,
@@ -17,6 +18,7 @@ ghost use Rattle.report_verdict.specs.VerdictText.{
   month_words,
   others_from,
   others_line,
+  others_words,
   same_line,
   undecided_line,
   verdict_text,
@@ -80,16 +82,23 @@ fn push_jumps(text: &mut String, lines: u8, jumps: &Jumps) -> Result<(), AllocEr
     }
 }
 
-#[tactic(auto, unfolding(crate::specs::VerdictText::jump_line))]
 fn push_jump(text: &mut String, lines: u8, jump: &Jump, count: u64) -> Result<(), AllocError>
     ensures { OnOk result (string_bytes text.new
         ≡ string_bytes text.old ++ jump_line lines jump.now count) }
 {
     text.push_str(contradict_words(lines))?;
+    push_followed(text, jump)?;
+    push_count_of_jumps(text, count)
+}
+
+// The second before a jump and the one after it.
+fn push_followed(text: &mut String, jump: &Jump) -> Result<(), AllocError>
+    ensures { OnOk result (string_bytes text.new
+        ≡ string_bytes text.old ++ followed_text jump.now) }
+{
     push_moment(text, &jump.before)?;
     text.push_str(" is followed by ")?;
-    push_moment(text, &jump.after)?;
-    push_count_of_jumps(text, count)
+    push_moment(text, &jump.after)
 }
 
 fn contradict_words(lines: u8) -> &'static str
@@ -197,18 +206,23 @@ fn push_others(text: &mut String, seconds: u64, first_us: Option<u64>) -> Result
     }
 }
 
-#[tactic(auto, unfolding(crate::specs::VerdictText::others_from))]
 fn push_others_from(text: &mut String, seconds: u64, first_us: u64) -> Result<(), AllocError>
     ensures { OnOk result (string_bytes text.new
         ≡ string_bytes text.old ++ others_from seconds first_us) }
 {
-    if seconds == 1 {
-        text.push_str("1 more second has no vote, at ")?;
-    } else {
-        write!(text, "{seconds} more seconds have no vote, the first at ")?;
-    }
+    push_others_words(text, seconds)?;
     push_thousandths(text, nearest(first_us))?;
     text.push_str(" s\n")
+}
+
+#[tactic(auto, unfolding(crate::specs::VerdictText::others_words))]
+fn push_others_words(text: &mut String, seconds: u64) -> Result<(), AllocError>
+    ensures { OnOk result (string_bytes text.new ≡ string_bytes text.old ++ others_words seconds) }
+{
+    if seconds == 1 {
+        return text.push_str("1 more second has no vote, at ");
+    }
+    write!(text, "{seconds} more seconds have no vote, the first at ")
 }
 
 #[tactic(auto, unfolding(crate::specs::VerdictText::apart_line))]
