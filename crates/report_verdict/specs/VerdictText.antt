@@ -35,13 +35,15 @@ unfoldable pub jumps_more : ℕ → List ℕ
 jumps_more count =
     if count == 1 then codes "\n" else codes ", the first of " ++ (decimal count ++ codes " jumps\n")
 
--- the second before a jump and the one after it
-abbrev pub followed_text : Jump → List ℕ
-followed_text jump = moment_text jump.before ++ (codes " is followed by " ++ moment_text jump.after)
+-- an agreed second behind some words
+unfoldable pub moment_after : (words : List ℕ) → AgreedSecond → List ℕ
+moment_after words second = words ++ moment_text second
 
 -- the first of so many jumps
 abbrev pub jump_line : (lines : ℕ) → Jump → (count : ℕ) → List ℕ
-jump_line lines jump count = contradict_words lines ++ (followed_text jump ++ jumps_more count)
+jump_line lines jump count =
+    moment_after (contradict_words lines) jump.before
+    ++ (moment_after (codes " is followed by ") jump.after ++ jumps_more count)
 
 -- the same, if there is one
 abbrev pub jumps_by : (lines count : ℕ) → Option Jump → List ℕ

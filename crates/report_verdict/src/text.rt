@@ -9,11 +9,11 @@ ghost use Rattle.report_verdict.specs.VerdictText.{
   contradict_words,
   decided_text,
   differs,
-  followed_text,
   jump_line,
   jumps_line,
   jumps_more,
   lines_text,
+  moment_after,
   month_line,
   month_words,
   others_from,
@@ -86,19 +86,22 @@ fn push_jump(text: &mut String, lines: u8, jump: &Jump, count: u64) -> Result<()
     ensures { OnOk result (string_bytes text.new
         ≡ string_bytes text.old ++ jump_line lines jump.now count) }
 {
-    text.push_str(contradict_words(lines))?;
-    push_followed(text, jump)?;
+    push_moment_after(text, contradict_words(lines), &jump.before)?;
+    push_moment_after(text, " is followed by ", &jump.after)?;
     push_count_of_jumps(text, count)
 }
 
-// The second before a jump and the one after it.
-fn push_followed(text: &mut String, jump: &Jump) -> Result<(), AllocError>
+#[tactic(auto, unfolding(crate::specs::VerdictText::moment_after))]
+fn push_moment_after(
+    text: &mut String,
+    words: &str,
+    second: &AgreedSecond,
+) -> Result<(), AllocError>
     ensures { OnOk result (string_bytes text.new
-        ≡ string_bytes text.old ++ followed_text jump.now) }
+        ≡ string_bytes text.old ++ moment_after words.now second.now) }
 {
-    push_moment(text, &jump.before)?;
-    text.push_str(" is followed by ")?;
-    push_moment(text, &jump.after)
+    text.push_str(words)?;
+    push_moment(text, second)
 }
 
 fn contradict_words(lines: u8) -> &'static str
