@@ -1,5 +1,5 @@
 -- What is read of a single file, piece by piece.
-use Rattle.std.proofs.Common.{◌≡◌, ◌≤◌, ◌<◌, ℕ, ◌+◌, ◌-◌, List, [], ◌∷◌, ◌++◌, take, length, Option, Some, None, Result, Ok, Err, IfSome, inl, inr, refl, append_assoc, sym, ap, ◌∙◌, subst, arith, zero, suc}
+use Rattle.std.proofs.Common.{◌≡◌, ◌≤◌, ◌<◌, ℕ, ◌+◌, ◌-◌, List, [], ◌∷◌, ◌++◌, take, drop, length, Option, Some, None, Result, Ok, Err, IfSome, inl, inr, refl, append_assoc, sym, ap, ◌∙◌, subst, arith, zero, suc}
 use Rattle.std.specs.Io.KnownBytes.{Consumes}
 use Rattle.std.proofs.lemmas.List.{append-nil, length-append}
 use Rattle.std.proofs.lemmas.Option.{same_Some}
@@ -24,6 +24,7 @@ use Rattle.report_judge.specs.declared.single.Part.{Part}
 use Rattle.report_judge.specs.declared.single.Part.TheVariants as part
 use Rattle.report_judge.specs.Faults.{of_config, of_single}
 use Rattle.report_judge.specs.Records.{ConfigRefused, HasReadSamples, JudgedSamples, SamplesRefused, SamplesRefusedFrom}
+use Rattle.report_judge.proofs.ReadingLaws.{cut-whole}
 use Rattle.report_judge.specs.Singles.{HasOpened, HasReadHead, HasReadPart, IsOpened, JudgedParts, JudgedSingle, PartsRefused, SingleRefused, SingleRefusedFrom, less}
 
 -- ---- parts that were opened
@@ -65,9 +66,11 @@ parts-refused-by-samples asked parts opened config fault is says refused =
 
 take-parts : (n : ℕ) (xs ys : List ℕ) → take n (xs ++ ys) ≡ take n xs ++ take (n - length xs) ys
 take-parts zero [] ys = refl
-take-parts (suc n) [] ys = refl
-take-parts zero (x ∷ xs) ys = refl
-take-parts (suc n) (x ∷ xs) ys = ap (λ l. x ∷ l) (take-parts n xs ys)
+take-parts (suc n) [] ys = let e : suc n - length {A = ℕ} [] ≡ suc n = omega arith in ap (λ (k : ℕ). take k ys) (sym e)
+take-parts zero (x ∷ xs) ys = let e : 0 - length (x ∷ xs) ≡ 0 = omega arith in ap (λ (k : ℕ). take k ys) (sym e)
+take-parts (suc n) (x ∷ xs) ys =
+    let e : suc n - length (x ∷ xs) ≡ n - length xs = omega arith in
+    ap (λ (l : List ℕ). x ∷ l) (take-parts n xs ys ∙ ap (λ (k : ℕ). take n xs ++ take k ys) (sym e))
 
 limited-parts : (count : Option ℕ) (xs ys : List ℕ) → limited count (xs ++ ys) ≡ limited count xs ++ limited (less count (length xs)) ys
 limited-parts None xs ys = refl
@@ -106,6 +109,14 @@ none-opened WithoutSamples is = refl
 pub ends-above : (asked : Asked) (file : List ℕ) (head : Head) → HasReadHead file head → parts_of file ≡ WithoutSamples
 ends-above asked file head h =
     none-opened (parts_of file) (ap (λ f. opened_file (parts_of f)) (sym (append-nil file)) ∙ h.finds [])
+
+-- what is refused by a part is refused by all
+pub single-refused-on : (asked : Asked) (file bytes : List ℕ) (count : ℕ) (fault : JudgeFault)
+    → SingleRefusedFrom asked (file ++ take count bytes) fault → SingleRefusedFrom asked (file ++ bytes) fault
+single-refused-on asked file bytes count fault refused more =
+    subst (λ (t : List ℕ). SingleRefused asked t fault)
+    (sym (append_assoc (file ++ take count bytes) (drop count bytes) more) ∙ ap (λ (t : List ℕ). t ++ more) (cut-whole file bytes count))
+    (refused (drop count bytes ++ more))
 
 -- ---- in the samples
 

@@ -1,8 +1,10 @@
-use Rattle.std.proofs.Common.{◌≡◌, ◌++◌, ◌∙◌, ◌||◌, [], take, false, zero-le, ap, sym, subst, arith, rules}
+use Rattle.std.proofs.Common.{◌≡◌, ◌++◌, ◌∙◌, ◌||◌, [], take, false, Err, zero-le, ap, sym, subst, arith, rules}
 use Rattle.std.proofs.lemmas.List.{length-append}
 use Rattle.std.proofs.lemmas.Result.{err_from_is_err_and}
 use Rattle.std.specs.Io.KnownBytes.{Consumes}
 use Rattle.irig_device.specs.Watched.{device_of, has_failed}
+use Rattle.report_judge.specs.declared.fault.JudgeFault.{JudgeFault}
+use Rattle.report_judge.specs.declared.fault.JudgeFault.TheVariants.{Read}
 use Rattle.report_judge.specs.Singles.{JudgedSingle, SingleRefused}
 use Rattle.report_judge.proofs.ReadingLaws.{takes-nothing, takes-on, whole-known}
 use Rattle.report_judge.proofs.SingleLaws.{begins, refused-known}
@@ -54,8 +56,9 @@ pub returns-in_err-part-clause-read : goal.returns-in_err-part-clause-read
 returns-in_err-part-clause-read g c =
     let whole : has_failed c.read_some.new.self ≡ false = c.in_ok-count.ensures.note ∙ ap (λ b. b || false) c.loop-piece.invariant.0 in
     let p = err_from_is_err_and c.from_residual-in_err-part.result c.from_residual-in_err-part.ensures.1 in
-    rw (p.1, p.2) (
-      λ e. absurd (c.in_err-part.ensures.device e),
+    let is = p.1 in
+    let of_part = p.2 in (
+      λ e. let wrong : c.in_err-part.field-0.0 ≡ Read = cc in absurd (c.in_err-part.ensures.device (ap (λ (f : JudgeFault). Err f) wrong)),
       λ failed. absurd cc,
     )
 

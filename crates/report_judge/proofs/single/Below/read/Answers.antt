@@ -1,4 +1,4 @@
-use Rattle.std.proofs.Common.{◌++◌, List, ℕ, ap, subst, sym}
+use Rattle.std.proofs.Common.{rules, ◌++◌, List, ℕ, ap, subst, sym}
 use Rattle.std.proofs.lemmas.Result.{err_from_is_err_and}
 use Rattle.record_single.specs.Singles.{limited}
 use Rattle.report_judge.specs.Records.{HasReadSamples, SamplesRefusedFrom}
@@ -17,4 +17,4 @@ returns-clause-reads c = λ asked file h.
     goes-below asked file c.args.bytes.now c.args.self.now _ h
     (subst (λ b. HasReadSamples asked h.config (limited h.count h.front ++ b) c.read.new.self) c.limited.ensures
     (c.in_ok-read.ensures.reads asked h.config (limited h.count h.front) h.reads))
-    c.less.ensures
+    (search rules)
