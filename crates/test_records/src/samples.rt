@@ -53,7 +53,7 @@ fn push_fault(text: &mut String, fault: DataFault) -> Result<(), AllocError> {
                     RowField::Number => 1,
                     RowField::Time => 2,
                     RowField::Few => 3,
-                    RowField::Level(place) => place.saturating_add(4),
+                    RowField::Level(place) | RowField::Value(place) => place.saturating_add(4),
                 };
                 write!(text, "refused {} {} {field}\n", fault.sample, row.line)
             }

@@ -61,7 +61,7 @@ fn a_stamp_agrees_in_its_zone(rt: HostRuntime) -> Result<(), Fail> {
     let text = said_of(rt.alloc(), IN_INDIA, None, truth)?;
     assert!(rt;
         text.as_str()
-            == "the stamp agrees within 1.3 ms: 01/02/2017,05:29:59.250000 for sample 1, which was 2017-01-31T23:59:59.250Z\n"
+            == "the stamp agrees within 1.3 ms: 01/02/2017,05:29:59.250000 for sample 1, which was 2017-01-31T23:59:59.250Z\nthe stamp is read as local time of UTC+5:30, as the record says\nthe record says that its clock was not locked, and right to 10 s\nthe record says that a leap second is added in it\n"
     );
     Ok(())
 }
@@ -78,7 +78,7 @@ fn an_exchanged_month_explains_a_stamp(rt: HostRuntime) -> Result<(), Fail> {
     let text = said_of(rt.alloc(), MONTH_FIRST, None, truth)?;
     assert!(rt;
         text.as_str()
-            == "the stamp is 30 d 0.500 s late: 03/04/2026,15:00:00.000000 for sample 1, which was 2026-03-04T14:59:59.500Z\nwith its day and month exchanged it is 0.500 s late\n"
+            == "the stamp is 30 d 0.500 s late: 03/04/2026,15:00:00.000000 for sample 1, which was 2026-03-04T14:59:59.500Z\nwith its day and month exchanged it is 0.500 s late\nthe stamp is read as UTC, since the record names no zone\n"
     );
     Ok(())
 }
@@ -95,7 +95,7 @@ fn a_zone_explains_a_stamp_across_a_leap(rt: HostRuntime) -> Result<(), Fail> {
     let text = said_of(rt.alloc(), LOCAL, Some((6209, Leap::Insert)), truth)?;
     assert!(rt;
         text.as_str()
-            == "the stamp is 5 h 30 min 2 s late: 01/01/2017,05:30:00 for sample 1, which was 2016-12-31T23:59:59.000Z\nas local time of UTC+5:30 it is 2.000 s late\n"
+            == "the stamp is 5 h 30 min 2 s late: 01/01/2017,05:30:00 for sample 1, which was 2016-12-31T23:59:59.000Z\nas local time of UTC+5:30 it is 2.000 s late\nthe stamp is read as UTC, since the record names no zone\n"
     );
     Ok(())
 }
